@@ -1,0 +1,14 @@
+pub mod IntegerRing
+pub mod Polynomials
+pub mod RingSolver
+pub mod IntegerSolver
+pub mod IntegerOrder
+pub mod Magnitudes
+pub mod Machine
+pub mod RootFive
+pub mod Signs
+pub mod GoldenRing
+pub mod GoldenOrder
+pub mod GoldenProduct
+pub mod Floors
+pub mod Examples

@@ -1,0 +1,4 @@
+pub mod Decisions
+pub mod Numbers
+pub mod Order
+pub mod Drawing

@@ -1,0 +1,156 @@
+-- Which words are triangle codes and which have the fields of a corner name; a code is its side and its digits. Assumes nothing.
+use mathlib.Core.Path.{_≡_, _∙_, refl, sym, ap}
+use mathlib.Core.Logic.{_↔_}
+use mathlib.Core.Bool.{false, not}
+use mathlib.Core.List.{List}
+use Prim.Native.Nat.{ℕ, _-_, _*_, _/_, _%_, _^_, _≤_, _<_}
+use native.Mathlib.Nat.{pos-of-ne-zero}
+use native.Mathlib.Omega.{arith}
+use lib.Dec.{eqb}
+use borrow.Author.Tests.{ltb-false, eqb-true, eqb-false, not-false, le-ltb, eq-eqb, ne-eqb}
+use Rattle.words.specs.Words.{aOf, degreeOf, digits, beyond, zeroBits, cornerNumber, sideOf, path, wordOf, inside}
+use Rattle.words.specs.Refusals.{_either_, refusal, wordRows, checkCode, checkNameFields, IsCode}
+use Rattle.words.specs.Family.{codeOf}
+use Rattle.words.specs.declared.TriangleCode.{TriangleCode}
+use Rattle.words.specs.declared.CornerName.{CornerName}
+use Rattle.words.proofs.Refusing.{none-so, none-after, either-false}
+use Rattle.words.proofs.WordLayout.{word-is, beyond-is, low-is}
+use Rattle.words.proofs.Digits.{side-top, path-digits, AreDigits, path-lt, side-word, degree-word, digits-word}
+
+-- What both kinds of word share: refusals 1 to 3 are not given.
+pub record Fields (w : ℕ) : Type 0 where
+  pub degree : degreeOf w ≤ 24
+  pub aLow : 1 ≤ aOf w
+  pub aHigh : aOf w ≤ 5
+  pub clear : beyond w (degreeOf w) ≡ 0
+
+pub word-passes : (w : ℕ) → (refusal (wordRows w) ≡ 0) ↔ Fields w
+word-passes w = (
+  λ e.
+      let n = none-so (wordRows w) tt .0 e in
+      let a = either-false _ _ .0 (n .1 .0) in
+      record {
+        degree = ltb-false 24 _ (n .0);
+        aLow = pos-of-ne-zero (eqb-false _ _ (a .0));
+        aHigh = ltb-false 5 _ (a .1);
+        clear = eqb-true _ _ (not-false _ (n .1 .1 .0));
+      },
+  λ f.
+      none-so (wordRows w) tt .1 (
+        le-ltb 24 _ (f .degree),
+        (either-false _ _ .1 (ne-eqb (aOf w) 0 (λ e. omega arith), le-ltb 5 _ (f .aHigh)), (ap not (eq-eqb _ _ (f .clear)), tt)),
+      ),
+)
+
+-- the zero bits and the corner number are 0
+pub low-zero : (w : ℕ) → ((not (eqb (zeroBits w) 0) either not (eqb (cornerNumber w) 0)) ≡ false) ↔ (w % 64 ≡ 0)
+low-zero w = (
+  λ e.
+      let b = either-false _ _ .0 e in
+      let z : zeroBits w ≡ 0 = eqb-true _ _ (not-false _ (b .0)) in
+      let k : cornerNumber w ≡ 0 = eqb-true _ _ (not-false _ (b .1)) in
+      omega arith,
+  λ e. either-false _ _ .1 (ap not (eq-eqb (zeroBits w) 0 (omega arith)), ap not (eq-eqb (cornerNumber w) 0 (omega arith))),
+)
+
+pub code-passes : (t : TriangleCode) → (checkCode t ≡ 0) ↔ (Fields (t .0) × (t .0 % 64 ≡ 0))
+unfolding checkCode
+code-passes t =
+    let w = t .0 in (
+      λ e. let n = none-after (wordRows w) _ tt tt .0 e in (word-passes w .0 (n .0), low-zero w .0 (n .1 .0)),
+      λ p. none-after (wordRows w) _ tt tt .1 (word-passes w .1 (p .0), (low-zero w .1 (p .1), tt)),
+    )
+
+pub name-passes :
+    (r : CornerName)
+    → (checkNameFields r ≡ 0) ↔ (Fields (r .0) × (zeroBits (r .0) ≡ 0) × (1 ≤ cornerNumber (r .0)) × (cornerNumber (r .0) ≤ 3))
+unfolding checkNameFields
+name-passes r =
+    let w = r .0 in (
+      λ e.
+          let n = none-after (wordRows w) _ tt tt .0 e in
+          let b = either-false _ _ .0 (n .1 .0) in
+          (word-passes w .0 (n .0), eqb-true _ _ (not-false _ (b .0)), pos-of-ne-zero (eqb-false _ _ (b .1)), omega arith),
+      λ p.
+          none-after (wordRows w) _ tt tt .1 (
+            word-passes w .1 (p .0),
+            (either-false _ _ .1 (ap not (eq-eqb (zeroBits w) 0 (p .1)), ne-eqb (cornerNumber w) 0 (λ e. omega (arith, p .2))), tt),
+          ),
+    )
+
+-- the code inside a name is one of the name's degree
+pub name-code : (r : CornerName) → checkNameFields r ≡ 0 → IsCode (degreeOf (r .0)) (codeOf (inside (r .0)))
+name-code r e =
+    let p = name-passes r .0 e in
+    let w = r .0 in
+    let u = inside w in
+    let z : zeroBits w ≡ 0 = p .1 in
+    let f = p .0 in
+    let d : degreeOf u ≡ degreeOf w = omega arith in
+    let x : u / 64 ≡ w / 64 = omega arith in
+    let g : Fields u =
+    record {
+      degree = omega (arith, f .degree);
+      aLow = omega (arith, f .aLow);
+      aHigh = omega (arith, f .aHigh);
+      clear = ap (λ (n : ℕ). beyond u n) d ∙ ap (λ (y : ℕ). y % 2 ^ (48 - 2 * degreeOf w)) x ∙ f .clear;
+    } in
+    record { passes = code-passes (codeOf u) .1 (g, omega arith); degreeIs = d }
+
+-- ---- what a code is known for
+
+pub is-code : (t : TriangleCode) → checkCode t ≡ 0 → IsCode (degreeOf (t .0)) t
+is-code t e = record { passes = e; degreeIs = refl }
+
+module _ {n : ℕ} {t : TriangleCode} (code : IsCode n t) where
+  pub code-fields : Fields (t .0)
+  code-fields = code-passes t .0 (code .passes) .0
+
+  pub code-degree : n ≤ 24
+  code-degree = omega (arith, code-fields .degree, code .degreeIs)
+
+  pub code-side : (4 ≤ sideOf (t .0)) × (sideOf (t .0) < 24)
+  code-side = omega (arith, code-fields .aLow, code-fields .aHigh)
+
+  pub code-below : t .0 < 2 ^ 64
+  code-below = omega (arith, code-fields .aHigh)
+
+  -- a code is the word of its side, degree and digits
+  pub code-word : t .0 ≡ wordOf (sideOf (t .0)) n (path (digits (t .0) n))
+  unfolding wordOf
+  code-word =
+      let w = t .0 in
+      let clear : beyond w n ≡ 0 = rw (code .degreeIs) at (code-fields .clear) in
+      rw (side-top w, path-digits w n code-degree) (word-is 5 24 6 w n (code .degreeIs) code-degree clear (code-passes t .0 (code .passes) .1))
+
+-- two codes of one degree with the same side and digits are the same
+pub same-code : {n : ℕ} {t t′ : TriangleCode} → IsCode n t → IsCode n t′ → sideOf (t .0) ≡ sideOf (t′ .0) → digits (t .0) n ≡ digits (t′ .0) n → t ≡ t′
+same-code {n} {t} {t′} c c′ s d =
+    let e : t .0 ≡ t′ .0 = code-word c ∙ (λ i. wordOf (s i) n (path (d i))) ∙ sym (code-word c′) in
+    λ i. record { 0 = e i }
+
+-- ---- made codes
+
+-- t is the triangle code of the side s and these n digits.
+pub record Has (s n : ℕ) (ds : List ℕ) (t : TriangleCode) : Type 0 where
+  pub code : IsCode n t
+  pub side : sideOf (t .0) ≡ s
+  pub digitsAre : digits (t .0) n ≡ ds
+
+module _ (s n : ℕ) (s≥ : 4 ≤ s) (s< : s < 24) (n≤ : n ≤ 24) where
+  pub path-code : (v : ℕ) → v < 2 ^ (2 * n) → IsCode n (codeOf (wordOf s n v))
+  path-code v h =
+      let w = wordOf s n v in
+      let d : degreeOf w ≡ n = degree-word s n v n≤ h in
+      let q : sideOf w ≡ s = side-word s n v n≤ h in
+      let f : Fields w =
+      record {
+        degree = omega arith;
+        aLow = omega arith;
+        aHigh = omega arith;
+        clear = ap (λ (k : ℕ). beyond w k) d ∙ unfold wordOf in beyond-is 5 24 6 s n v n≤ (omega arith) h;
+      } in
+      record { passes = code-passes (codeOf w) .1 (f, unfold wordOf in low-is 5 24 6 s n v n≤ (omega arith) h); degreeIs = d }
+
+  pub made : {ds : List ℕ} → AreDigits n ds → Has s n ds (codeOf (wordOf s n (path ds)))
+  made {ds} a = record { code = path-code (path ds) (path-lt a); side = side-word s n (path ds) n≤ (path-lt a); digitsAre = digits-word s n≤ a }

@@ -1,0 +1,184 @@
+// The 64-bit words: their fields, the two kinds, checking, parent and child.
+ghost use mathlib.Core.Path.{_≡_};
+ghost use Prim.Native.Nat.{_+_, _-_, _*_, _^_, _<_, _≤_};
+ghost use Rattle.words.specs.Words.{bits, aOf, degreeOf, zeroBits, cornerNumber, digits, beyond, sideOf, path, wordOf, inside};
+ghost use Rattle.words.specs.Refusals.{refusal, wordRows, checkCode, checkNameFields};
+ghost use Rattle.words.specs.Family.{codeOf, codeAnswer, parentAnswer, childAnswer};
+
+// A triangle code, or any word handed in as one.
+pub struct TriangleCode(pub u64);
+
+// A corner name, or any word handed in as one.
+pub struct CornerName(pub u64);
+
+// A code, or a refusal's number with the code 0.
+pub struct CodeAnswer {
+    pub refusal: u64,
+    pub code: TriangleCode,
+}
+
+// ---- the fields of a word of either kind
+
+fn a_of(w: u64) -> u64
+    ensures { λ r. ⌜ r ≡ aOf w ⌝ }
+{
+    w / 2305843009213693952
+}
+
+// a, p and q as one number.
+pub fn side_of(w: u64) -> u64
+    ensures { λ r. ⌜ r ≡ sideOf w ⌝ }
+{
+    w / 576460752303423488
+}
+
+pub fn degree_of(w: u64) -> u64
+    ensures { λ r. ⌜ r ≡ degreeOf w ⌝ }
+{
+    w / 18014398509481984 % 32
+}
+
+// 2 to the k.
+fn power(k: u64) -> u64
+    requires { ⌜ k < 64 ⌝ }
+    ensures { λ r. ⌜ r ≡ 2 ^ k ⌝ }
+{
+    1u64 << k
+}
+
+// The b bits above the lowest k.
+fn bits_of(w: u64, k: u64, b: u64) -> u64
+    requires { ⌜ (k < 64) × (b < 64) ⌝ }
+    ensures { λ r. ⌜ r ≡ bits w k b ⌝ }
+{
+    w / power(k) % power(b)
+}
+
+// The first n digits as one number, the last of them lowest.
+pub fn path_of(w: u64, n: u64) -> u64
+    requires { ⌜ n ≤ 24 ⌝ }
+    ensures { λ r. ⌜ r ≡ path (digits w n) ⌝ }
+{
+    bits_of(w, 54 - 2 * n, 2 * n)
+}
+
+// The word of a side, a degree and its digits as one number.
+pub fn word_of(s: u64, n: u64, v: u64) -> u64
+    requires { ⌜ (s < 32) × (n ≤ 24) × (v < 2 ^ (2 * n)) ⌝ }
+    ensures { λ r. ⌜ r ≡ wordOf s n v ⌝ }
+{
+    s * 576460752303423488 + n * 18014398509481984 + v * power(54 - 2 * n)
+}
+
+// ---- checking
+
+// Refusals 1 to 3, which both kinds of word share.
+fn check_word(w: u64) -> u64
+    ensures { λ r. ⌜ r ≡ refusal (wordRows w) ⌝ }
+{
+    let n = degree_of(w);
+    let a = a_of(w);
+    if 24 < n {
+        return 1;
+    }
+    if a == 0 {
+        return 2;
+    }
+    if 5 < a {
+        return 2;
+    }
+    if bits_of(w, 6, 48 - 2 * n) != 0 {
+        return 3;
+    }
+    0
+}
+
+fn refused(f: u64) -> CodeAnswer
+    ensures { λ r. ⌜ r ≡ record { refusal = f; code = codeOf 0 } ⌝ }
+{
+    CodeAnswer {
+        refusal: f,
+        code: TriangleCode(0),
+    }
+}
+
+fn answered(w: u64) -> CodeAnswer
+    ensures { λ r. ⌜ r ≡ codeAnswer 0 (codeOf w) ⌝ }
+{
+    CodeAnswer {
+        refusal: 0,
+        code: TriangleCode(w),
+    }
+}
+
+impl TriangleCode {
+    // 0, or the refusal 1 to 4 of a word that is no triangle code.
+    pub fn check(self) -> u64
+        ensures { λ r. ⌜ r ≡ checkCode self ⌝ }
+    {
+        let w = self.0;
+        let f = check_word(w);
+        if f != 0 {
+            return f;
+        }
+        if w % 64 != 0 {
+            return 4;
+        }
+        0
+    }
+
+    // The triangle of which this is a child.
+    pub fn parent(self) -> CodeAnswer
+        ensures { λ r. ⌜ r ≡ parentAnswer self ⌝ }
+    {
+        let w = self.0;
+        let f = self.check();
+        if f != 0 {
+            return refused(f);
+        }
+        let n = degree_of(w);
+        if n == 0 {
+            return refused(6);
+        }
+        answered(word_of(side_of(w), n - 1, path_of(w, n - 1)))
+    }
+
+    // The child with this digit.
+    pub fn child(self, digit: u64) -> CodeAnswer
+        ensures { λ r. ⌜ r ≡ childAnswer self digit ⌝ }
+    {
+        let w = self.0;
+        let f = self.check();
+        if f != 0 {
+            return refused(f);
+        }
+        if 3 < digit {
+            return refused(5);
+        }
+        let n = degree_of(w);
+        if n == 24 {
+            return refused(6);
+        }
+        answered(word_of(side_of(w), n + 1, 4 * path_of(w, n) + digit))
+    }
+}
+
+impl CornerName {
+    // 0, or the refusal 1 to 4 of a word whose fields are no corner name's. Whether it is canonical is not looked at.
+    pub fn check_fields(self) -> u64
+        ensures { λ r. ⌜ r ≡ checkNameFields self ⌝ }
+    {
+        let w = self.0;
+        let f = check_word(w);
+        if f != 0 {
+            return f;
+        }
+        if w / 4 % 16 != 0 {
+            return 4;
+        }
+        if w % 4 == 0 {
+            return 4;
+        }
+        0
+    }
+}

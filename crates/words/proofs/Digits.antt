@@ -26,6 +26,12 @@ pub data AreDigits : ℕ → List ℕ → Type 0 where
   none : AreDigits 0 []
   more : {n d : ℕ} {ds : List ℕ} → d ≤ 3 → AreDigits n ds → AreDigits (suc n) (d ∷ ds)
 
+pub first-digit : {n d : ℕ} {ds : List ℕ} → AreDigits (suc n) (d ∷ ds) → d ≤ 3
+first-digit (more h a) = h
+
+pub other-digits : {n d : ℕ} {ds : List ℕ} → AreDigits (suc n) (d ∷ ds) → AreDigits n ds
+other-digits (more h a) = a
+
 pub digits-are : (w n : ℕ) → AreDigits n (digits w n)
 unfolding digits
 digits-are w zero = none

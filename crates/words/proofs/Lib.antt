@@ -6,3 +6,4 @@ pub mod Codes
 pub mod WordOrder
 pub mod ParentChild
 pub mod Examples
+pub mod CodeCount

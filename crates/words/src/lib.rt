@@ -39,7 +39,7 @@ pub fn degree_of(w: u64) -> u64
 }
 
 // 2 to the k.
-fn power(k: u64) -> u64
+pub fn power(k: u64) -> u64
     requires { ⌜ k < 64 ⌝ }
     ensures { λ r. ⌜ r ≡ 2 ^ k ⌝ }
 {

@@ -1,0 +1,134 @@
+-- Digits as one number, and the step on it inside a side. Assumes nothing.
+use mathlib.Core.Path.{_≡_, refl, sym, ap, subst}
+use mathlib.Core.List.{List, [], _∷_}
+use Prim.Native.Nat.{ℕ, zero, suc, _+_, _-_, _*_, _/_, _%_, _^_, _≤_, _<_}
+use native.Mathlib.Nat.{lt-of-lt-of-le}
+use native.Mathlib.Omega.{arith}
+use lib.ListN.{length}
+use lib.Pow.{pow-add, pow-mono}
+use mathlib.Core.Bool.{Bool, true, false}
+use lib.Dec.{eqb}
+use borrow.Author.Tests.{eq-eqb, ne-eqb, eqb-true, eqb-false}
+use Rattle.words.proofs.Digits.{AreDigits, more, none, path-injective, path-lt}
+use Rattle.words.specs.Words.{path}
+use Rattle.net.specs.Means.Paths.{digitsOf, within}
+use Rattle.net.specs.Means.States.{Move, cross, inside, map, outside, pick}
+use Rattle.net.specs.declared.Within.the-variants.{Inside, Outside}
+
+-- ds are digits
+abbrev pub Digits : List ℕ → Type 0
+Digits ds = AreDigits (length ds) ds
+
+pub are-length : {n : ℕ} {ds : List ℕ} → AreDigits n ds → length ds ≡ n
+are-length none = refl
+are-length (more h a) = ap suc (are-length a)
+
+pub are-digits : {n : ℕ} {ds : List ℕ} → AreDigits n ds → Digits ds
+are-digits {n} {ds} a = subst (λ (k : ℕ). AreDigits k ds) (sym (are-length a)) a
+
+pub digits-of : (n v : ℕ) → AreDigits n (digitsOf n v)
+unfolding digitsOf
+digits-of zero v = none
+digits-of (suc n) v = more {d = v % 4} (omega arith) (digits-of n (v / 4))
+
+pub of-digits : (n v : ℕ) → Digits (digitsOf n v)
+of-digits n v = are-digits (digits-of n v)
+
+pub of-length : (n v : ℕ) → length (digitsOf n v) ≡ n
+of-length n v = are-length (digits-of n v)
+
+-- 2 ^ (2 * n), a digit at a time
+pub four : (n : ℕ) → 2 ^ (2 * suc n) ≡ 4 * 2 ^ (2 * n)
+four n = let e : 2 * suc n ≡ 2 * n + 2 = omega arith in rw e (omega (arith, pow-add 2 (2 * n) 2))
+
+-- there and back
+pub path-of : (n v : ℕ) → v < 2 ^ (2 * n) → path (digitsOf n v) ≡ v
+unfolding digitsOf path
+path-of zero v h = omega arith
+path-of (suc n) v h =
+    let q : v / 4 < 2 ^ (2 * n) = omega (arith, four n) in
+    omega (arith, path-of n (v / 4) q)
+
+pub of-path : {n : ℕ} {ds : List ℕ} → AreDigits n ds → digitsOf n (path ds) ≡ ds
+of-path {n} a = path-injective (digits-of n _) a (path-of n _ (path-lt a))
+
+pub digits-more : (n v : ℕ) → (n ≡ 0 → ⊥) → digitsOf n v ≡ v % 4 ∷ digitsOf (n - 1) (v / 4)
+unfolding digitsOf
+digits-more zero v f = absurd (f refl)
+digits-more (suc n) v f = let e : suc n - 1 ≡ n = omega arith in rw e
+
+-- a path of at most 24 digits fits 48 bits
+pub path-48 : {n v : ℕ} → n ≤ 24 → v < 2 ^ (2 * n) → v < 2 ^ 48
+path-48 {n} h k = lt-of-lt-of-le k (pow-mono {i = 2 * n} {j = 48} (omega arith))
+
+pub quarter : (n v : ℕ) → (n ≡ 0 → ⊥) → v < 2 ^ (2 * n) → v / 4 < 2 ^ (2 * (n - 1))
+quarter zero v f h = absurd (f refl)
+quarter (suc n) v f h = let e : suc n - 1 ≡ n = omega arith in rw e (omega (arith, four n))
+
+-- ---- what a step leaves: digits, as many as before
+
+abbrev pub Kept : Move (List ℕ) → ℕ → Type 0
+Kept (inside ds) n = AreDigits n ds
+Kept outside n = Unit {0}
+
+pick-kept : (a b n : ℕ) (x y : Move (List ℕ)) → (a ≡ b → Kept x n) → ((a ≡ b → ⊥) → Kept y n) → Kept (pick (eqb a b) x y) n
+pick-kept a b n x y f g = go (eqb a b) refl
+  where
+    go : (t : Bool) → eqb a b ≡ t → Kept (pick t x y) n
+    go true e = f (eqb-true a b e)
+    go false e = g (eqb-false a b e)
+
+map-kept : (d n : ℕ) (m : Move (List ℕ)) → d ≤ 3 → Kept m n → Kept (map (λ es. d ∷ es) m) (suc n)
+map-kept d n (inside es) h k = more h k
+map-kept d n outside h k = tt
+
+pub cross-kept : {n : ℕ} (k : ℕ) (ds : List ℕ) → 1 ≤ k → k ≤ 3 → AreDigits n ds → Kept (cross k ds) n
+unfolding cross
+cross-kept k [] l u none = tt
+cross-kept k (d ∷ ds) l u (more h a) =
+    pick-kept d 0 _ _ _ (λ e. more (omega arith) a) (λ n0.
+    pick-kept d k _ _ _ (λ e. more (omega arith) a) (λ nk.
+    map-kept (6 - k - d) _ (cross k ds) (omega arith) (cross-kept k ds l u a)))
+
+then-in : (d u : ℕ) (m : Move (List ℕ)) → Inside u ≡ within m → Inside (4 * u + d) ≡ within (map (λ es. d ∷ es) m)
+unfolding path
+then-in d u (inside es) h = cc
+then-in d u outside h = cc
+
+then-out : (d : ℕ) (m : Move (List ℕ)) → Outside ≡ within m → Outside ≡ within (map (λ es. d ∷ es) m)
+then-out d (inside es) h = cc
+then-out d outside h = refl
+
+-- The step on a path in one number, case by case.
+module _ (k n v : ℕ) where
+  pub at-end : n ≡ 0 → Outside ≡ within (cross k (digitsOf n v))
+  unfolding cross digitsOf
+  at-end e = rw e
+
+  pub bounded : {u : ℕ} → 1 ≤ k → k ≤ 3 → Inside u ≡ within (cross k (digitsOf n v)) → u < 2 ^ (2 * n)
+  bounded {u} l h e = go (cross k (digitsOf n v)) (cross-kept k (digitsOf n v) l h (digits-of n v)) e
+    where
+      go : (m : Move (List ℕ)) → Kept m n → Inside u ≡ within m → u < 2 ^ (2 * n)
+      go (inside es) c e = let q : u ≡ path es = cc in omega (arith, path-lt c)
+      go outside c e = let z : _≡_ {A = ℕ} 0 1 = cc in absurd (omega arith)
+
+  module _ (pos : n ≡ 0 → ⊥) where
+    rest : v < 2 ^ (2 * n) → path (digitsOf (n - 1) (v / 4)) ≡ v / 4
+    rest s = path-of (n - 1) (v / 4) (quarter n v pos s)
+
+    pub at-middle : v < 2 ^ (2 * n) → v % 4 ≡ 0 → Inside (v + k) ≡ within (cross k (digitsOf n v))
+    unfolding cross path
+    at-middle s e = rw (digits-more n v pos) (simp (eq-eqb _ _ e) (ap Inside (omega (arith, rest s))))
+
+    pub at-edge : v < 2 ^ (2 * n) → (v % 4 ≡ 0 → ⊥) → v % 4 ≡ k → Inside (v - k) ≡ within (cross k (digitsOf n v))
+    unfolding cross path
+    at-edge s z e = rw (digits-more n v pos) (simp (ne-eqb _ _ z, eq-eqb _ _ e) (ap Inside (omega (arith, rest s))))
+
+    pub go-in : {u : ℕ} → (v % 4 ≡ 0 → ⊥) → (v % 4 ≡ k → ⊥) → Inside u ≡ within (cross k (digitsOf (n - 1) (v / 4)))
+        → Inside (4 * u + (6 - k - v % 4)) ≡ within (cross k (digitsOf n v))
+    unfolding cross
+    go-in z e h = rw (digits-more n v pos) (simp (ne-eqb _ _ z, ne-eqb _ _ e) (then-in _ _ (cross k (digitsOf (n - 1) (v / 4))) h))
+
+    pub go-out : (v % 4 ≡ 0 → ⊥) → (v % 4 ≡ k → ⊥) → Outside ≡ within (cross k (digitsOf (n - 1) (v / 4))) → Outside ≡ within (cross k (digitsOf n v))
+    unfolding cross
+    go-out z e h = rw (digits-more n v pos) (simp (ne-eqb _ _ z, ne-eqb _ _ e) (then-out _ (cross k (digitsOf (n - 1) (v / 4))) h))

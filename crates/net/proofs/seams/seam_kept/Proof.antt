@@ -1,0 +1,13 @@
+-- `seam_kept`: the last bit is 0 or not (`kept-even`, `kept-odd`). Assumes nothing.
+use Rattle.net.proofs.CellSteps.{kept-even, kept-odd}
+use Rattle.net.proofs.seams.seam_kept.Statement.{statement}
+use Rattle.net.proofs.seams.seam_kept.Tie as tie
+
+returns : tie.Need-returns
+returns c = kept-even _ _ (c .if1 .taken)
+
+returns-2 : tie.Need-returns-2
+returns-2 c = kept-odd _ _ (c .if1 .left)
+
+pub seam-kept-spec : {M : Type 1} → statement M
+seam-kept-spec = tie.close (tie.spec returns returns-2)

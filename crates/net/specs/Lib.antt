@@ -1,0 +1,10 @@
+-- What a reader must believe: document 01, section by section.
+pub mod Sides
+pub mod Division
+pub mod Corners
+pub mod Names
+pub mod Steps
+pub mod Refusals
+pub mod Answers
+-- What the code is proved by, and no promise: see there.
+pub mod Means

@@ -1,14 +1,12 @@
 #!/usr/bin/env python3
-"""What crates/net_main (and, with the word sweep, crates/net_sweep) must write, by an independent second program.
+"""What crates/net_main must write, by an independent second program.
 
 Written from document 01 alone, by literal search: corners by twelve weights and the division rule; names, neighbours and rings
 by comparing corners over the triangles of the degree. To degree 5 all 20 * 4^N triangles are searched. Below that the search
 descends from each of the twenty sides into every child whose closed triangle holds the wanted corner, in whole numbers.
 
     python3 tests/net_vectors.py > crates/net_main/stdout
-    python3 tests/net_vectors.py sweep > crates/net_sweep/stdout
 """
-import sys
 from functools import lru_cache
 
 # ---- document 01, "Vertices and sides" and "Division and weights"
@@ -396,46 +394,6 @@ def three_lines(w):
     print("name %016x =%s" % (w, words(name_of(w, i)[1] for i in (1, 2, 3))))
 
 
-# A number for many answers: each joins it in turn.
-PRIME = 2147483647
-
-
-def mix(h, x):
-    return (h % PRIME * 65599 + x % PRIME) % PRIME
-
-
-def mix_all(h, xs):
-    for x in xs:
-        h = mix(h, x)
-    return h
-
-
-def mix_corner(h, n, w, i):
-    h = mix_all(h, cross(w, i))
-    h = mix_all(h, name_of(w, i))
-    ws = sevens(12)
-    h = mix(h, weights_of(w, i, ws))
-    h = mix_all(h, ws)
-    h = mix_all(h, name_back(n, ws))
-    h = mix(h, check_name(w | i))
-    ts = sevens(6)
-    h = mix_all(h, ring(name_of(w, i)[1], ts))
-    return mix_all(h, ts)
-
-
-def mix_triangle(h, n, w):
-    for i in (1, 2, 3):
-        h = mix_corner(h, n, w, i)
-    return h
-
-
-def mix_side(s, n):
-    h = 0
-    for w in sorted(t for t, (side, _, _) in whole_degree(n).items() if side == s):
-        h = mix_triangle(h, n, w)
-    return h
-
-
 DEEP = [
     "20133333",
     "31012322",
@@ -595,30 +553,6 @@ def calls():
     alone_and_together()
 
 
-# Digits, the first lowest: two without order, four along the edges, two at corners.
-PATTERNS = [
-    0xC90FDAA22168C234,
-    0xB7E151628AED2A6A,
-    0xEEEEEEEEEEEEEEEE,
-    0xDDDDDDDDDDDDDDDD,
-    0x9999999999999999,
-    0xAAAAAAAAAAAAAAAB,
-    0x5555555555555555,
-    0xFFFFFFFFFFFFFFFF,
-]
-
-
-def sweep():
-    for n in range(1, 6):
-        for s in SIDES:
-            print("all %d %016x = %d" % (n, make_word(s, []), mix_side(s, n)))
-    for n in range(6, 25):
-        for s in SIDES:
-            pattern = PATTERNS[(4 * s[0] + 2 * s[1] + s[2] + n) % 8]
-            w = make_word(s, [pattern >> 2 * j & 3 for j in range(n)])
-            print("one %d %016x = %d" % (n, w, mix_triangle(0, n, w)))
-
-
 if __name__ == "__main__":
     self_tests()
-    sweep() if sys.argv[1:] == ["sweep"] else calls()
+    calls()

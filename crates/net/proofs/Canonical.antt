@@ -59,7 +59,7 @@ same-weights-is (x ∷ xs) (y ∷ ys) = (
   λ e. let a : x ≡ y = cc in let b : xs ≡ ys = cc in and-true (eqb x y) (sameWeights xs ys) .1 (eq-eqb x y a, same-weights-is xs ys .1 b),
 )
 
-or-true : (a b : Bool) → (a either b ≡ true) ↔ ((a ≡ true) ⊎ (b ≡ true))
+pub or-true : (a b : Bool) → (a either b ≡ true) ↔ ((a ≡ true) ⊎ (b ≡ true))
 or-true true b = (λ e. inl refl, λ p. refl)
 or-true false b = (inr, ⊎-elim (λ e. absurd (true≢false (sym e))) (λ e. e))
 

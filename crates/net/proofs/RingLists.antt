@@ -1,7 +1,7 @@
 -- The ring in a lent list: what one place and the rest leave, how many places there are, and the answer of `ring` from its parts. Assumes nothing.
 use mathlib.Core.Path.{_≡_, _∙_, sym, ap, subst}
 use mathlib.Core.List.{List, [], _∷_, _++_, append-nil}
-use Prim.Native.Nat.{ℕ, zero, suc, _+_, _-_, _≤_}
+use Prim.Native.Nat.{ℕ, suc, _+_, _-_, _≤_}
 use native.Mathlib.Omega.{arith}
 use lib.ListN.{length, take, drop, set, drop-of-length-le}
 use lib.Seq.{take-all}
@@ -24,7 +24,7 @@ use Rattle.net.specs.declared.Point.{Point}
 use Rattle.net.proofs.Calls.{answering-lent, cell-corner, cell-place}
 use Rattle.net.proofs.Canonical.{name-means}
 use Rattle.net.proofs.CellSteps.{cell-is, not-zero}
-use Rattle.net.proofs.LeastName.{placeIn}
+use Rattle.net.proofs.LeastName.{placeIn, size-low}
 use Rattle.net.proofs.Loads.{corner-is}
 use Rattle.net.proofs.Refused.{ring-passes}
 use Rattle.net.proofs.RingCodes.{ring-is, ring-length}
@@ -62,16 +62,11 @@ ring-more m q q′ out part w no-zero h e f g =
 
 -- ---- how many
 
-size-most : (k : ℕ) → ringSize k ≤ 6
-size-most zero = omega arith
-size-most (suc zero) = omega arith
-size-most (suc (suc k)) = omega arith
-
 abbrev pub countOf : Point → ℕ
 countOf p = ringSize (sign (p .w1) + sign (p .w2) + sign (p .w3))
 
 pub count-most : (p : Point) {m : ℕ} → m ≡ countOf p → m ≤ 6
-count-most p e = rw e (size-most (sign (p .w1) + sign (p .w2) + sign (p .w3)))
+count-most p e = rw e (size-low (sign (p .w1) + sign (p .w2) + sign (p .w3)))
 
 count-is : (s : ℕ) (ds : List ℕ) (i : ℕ) → IsSide s → ringSize (nonZeros (cornerOf s ds i)) ≡ countOf (pointOf i (stateOf ds))
 count-is s ds i h = ap ringSize (sym (non-zeros (cornerOf s ds i)) ∙ ap nonZero (corner-is s ds i) ∙ non-zero s (pointOf i (stateOf ds)) h)

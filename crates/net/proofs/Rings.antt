@@ -141,7 +141,7 @@ turn-up x y z = three (λ c. kindOf (turn c (Up x y z)) ≡ 0) refl refl refl
 same-mark : {s d n t e m : ℕ} → s ≡ t → d ≡ e → n ≡ m → mark s d n ≡ mark t e m
 same-mark p q r = λ i. record { side = p i; kind = q i; number = r i }
 
-sign-pos : (x : ℕ) → 1 ≤ x → sign x ≡ 1
+pub sign-pos : (x : ℕ) → 1 ≤ x → sign x ≡ 1
 sign-pos zero h = absurd (omega arith)
 sign-pos (suc x) h = refl
 
@@ -149,7 +149,7 @@ pos-sign : (x : ℕ) → 0 < sign x → 1 ≤ x
 pos-sign zero h = absurd (omega arith)
 pos-sign (suc x) h = omega arith
 
-sign-low : (x : ℕ) → sign x < 2
+pub sign-low : (x : ℕ) → sign x < 2
 sign-low zero = omega arith
 sign-low (suc x) = omega arith
 

@@ -1,6 +1,6 @@
 -- What the code of states, of weights and of the way back rests on. Assumes nothing.
 use mathlib.Core.Path.{_≡_, _∙_, refl, sym, ap, subst}
-use mathlib.Core.Logic.{_⊎_, inl, inr, ⊎-elim}
+use mathlib.Core.Logic.{inl, inr, ⊎-elim}
 use mathlib.Core.Bool.{Bool, true, false, not, _&&_, true≢false}
 use mathlib.Core.List.{List, [], _∷_, _++_}
 use Prim.Native.Nat.{ℕ, zero, suc, _+_, _-_, _*_, _/_, _%_, _^_, _≤_, _<_}
@@ -19,7 +19,7 @@ use Rattle.words.proofs.Refusing.{either-left, either-right}
 use Rattle.net.specs.Answers.{over}
 use Rattle.net.specs.Division.{cornerOf, load, sum, vertices}
 use Rattle.net.specs.Means.Paths.{digitsOf, pathUp}
-use Rattle.net.specs.Means.Spreads.{pointIn, sign, spread, weightAt}
+use Rattle.net.specs.Means.Spreads.{pointIn, spread, weightAt}
 use Rattle.net.specs.Means.States.{Low, halves, lastOf, parity, point, pointOf, stateOf, step}
 use Rattle.net.specs.Refusals.{everyBelow, isCornerOf, onOneSide, onSide}
 use Rattle.net.specs.Sides.{IsSide, OneToThree, cornerVertex}
@@ -27,7 +27,7 @@ use Rattle.net.specs.Steps.{ringSize}
 use Rattle.net.specs.declared.Point.{Point}
 use Rattle.net.specs.declared.State.{State}
 use Rattle.net.specs.declared.State.the-variants.{Down, Up}
-use Rattle.net.proofs.Canonical.{and-true, every-below}
+use Rattle.net.proofs.Canonical.{and-true, every-below, or-true}
 use Rattle.net.proofs.Flips.{each-length}
 use Rattle.net.proofs.Halving.{back, last-step}
 use Rattle.net.proofs.Loads.{at-vertex, corner-is, sum-spread, weight, weight-other, weight-own}
@@ -140,14 +140,6 @@ at-corner s n i a p h t e f =
 
 -- ---- weights
 
-pub sign-rest : (x : ℕ) → (x ≡ 0 → ⊥) → 1 ≡ sign x
-sign-rest zero f = absurd (f refl)
-sign-rest (suc x) f = refl
-
-pub sign-most : (x : ℕ) → sign x ≤ 1
-sign-most zero = omega arith
-sign-most (suc x) = omega arith
-
 pub ring-rest : (k : ℕ) → (k ≡ 1 → ⊥) → 6 ≡ ringSize k
 ring-rest zero f = refl
 ring-rest (suc zero) f = absurd (f refl)
@@ -232,16 +224,12 @@ same-under (q ∷ qs) (p ∷ ps) l u s =
 
 -- ---- the side of twelve weights
 
-true-either : (a b : Bool) → a either b ≡ true → (a ≡ true) ⊎ (b ≡ true)
-true-either true b e = inl refl
-true-either false b e = inr e
-
 is-corner : (s v : ℕ) → isCornerOf s v ≡ true → HasVertex s v
 is-corner s v e =
     ⊎-elim
     (λ a. inl (eqb-true _ _ a))
-    (λ r. ⊎-elim (λ b. inr (inl (eqb-true _ _ b))) (λ c. inr (inr (eqb-true _ _ c))) (true-either _ _ r))
-    (true-either _ _ e)
+    (λ r. ⊎-elim (λ b. inr (inl (eqb-true _ _ b))) (λ c. inr (inr (eqb-true _ _ c))) (or-true _ _ .0 r))
+    (or-true _ _ .0 e)
 
 corner-test : (s v : ℕ) → HasVertex s v → isCornerOf s v ≡ true
 corner-test s v =
@@ -260,7 +248,7 @@ on-lies : (s v : ℕ) (xs : List ℕ) → onSide s v xs ≡ true → Lies s v xs
 on-lies s v [] e i h f = absurd (omega arith)
 on-lies s v (x ∷ xs) e zero h f =
     let z : v + 0 ≡ v = omega arith in
-    rw z (⊎-elim (λ a. absurd (f (eqb-true x 0 a))) (is-corner s v) (true-either (eqb x 0) (isCornerOf s v) (and-true _ _ .0 e .0)))
+    rw z (⊎-elim (λ a. absurd (f (eqb-true x 0 a))) (is-corner s v) (or-true (eqb x 0) (isCornerOf s v) .0 (and-true _ _ .0 e .0)))
 on-lies s v (x ∷ xs) e (suc i) h f =
     let z : v + suc i ≡ suc v + i = omega arith in
     rw z (on-lies s (suc v) xs (and-true (eqb x 0 either isCornerOf s v) _ .0 e .1) i (omega arith) f)

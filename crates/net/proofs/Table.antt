@@ -1,6 +1,6 @@
 -- Finite rules by computation: a test is a statement that antt decides, and `sound` turns the computed answer into the statement.
 -- Assumes nothing.
-use mathlib.Core.Path.{_≡_, refl}
+use mathlib.Core.Path.{_≡_, refl, sym, _∙_}
 use mathlib.Core.Bool.{Bool, true, false}
 use mathlib.Core.Logic.{_⊎_, inl, inr}
 use Prim.Native.Nat.{ℕ, zero, suc, _+_, _≤_, _<_}
@@ -13,6 +13,7 @@ infixr 30 _and_
 infixr 25 _or_
 infixr 20 _then_
 pub data Test : Type 0 where
+  so : Bool → Test
   same : ℕ → ℕ → Test
   less : ℕ → ℕ → Test
   most : ℕ → ℕ → Test
@@ -26,6 +27,7 @@ pub data Test : Type 0 where
   some : ℕ → (ℕ → Test) → Test
 
 abbrev pub Holds : Test → Type 0
+Holds (so b) = b ≡ true
 Holds (same m n) = m ≡ n
 Holds (less m n) = m < n
 Holds (most m n) = m ≤ n
@@ -61,6 +63,7 @@ any a zero f = false
 any a (suc n) f = either (f a) (any (suc a) n f)
 
 abbrev pub passes : Test → Bool
+passes (so b) = b
 passes (same m n) = eqb m n
 passes (less m n) = ltb m n
 passes (most m n) = ltb m (suc n)
@@ -152,6 +155,8 @@ says-some true n P s = (s .0, omega arith, s .3)
 says-some false n P s = λ r. s (r .0, omega arith, omega arith, r .2)
 
 decided : (t : Test) → Says (passes t) (Holds t)
+decided (so b) =
+    says b (b ≡ true) (λ e. e) (λ e h. let q : false ≡ true = sym e ∙ h in let z : _≡_ {A = ℕ} 0 1 = cc in omega arith)
 decided (same m n) = says (eqb m n) (m ≡ n) (eqb-true m n) (eqb-false m n)
 decided (less m n) = says (ltb m n) (m < n) (ltb-true m n) (λ e h. let g = ltb-false m n e in omega arith)
 decided (most m n) = says (ltb m (suc n)) (m ≤ n) (λ e. let g = ltb-true m (suc n) e in omega arith) (λ e h. let g = ltb-false m (suc n) e in omega arith)

@@ -2,7 +2,7 @@
 mod back;
 mod cells;
 mod round;
-mod seams;
+pub mod seams;
 mod states;
 mod weights;
 

@@ -1,5 +1,5 @@
 -- The side across an edge of a side, and how the numbers of corners, edges and digits change there. (That it follows from shared vertices is
--- proofs/Sides.antt.) Assumes nothing.
+-- proofs/SharedVertices.antt.) Assumes nothing.
 use Prim.Native.Nat.{ℕ, zero, suc, _/_, _%_}
 use Rattle.words.specs.Words.{side}
 use Rattle.net.specs.Sides.{nth, after, before}

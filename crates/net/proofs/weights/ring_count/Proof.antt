@@ -3,7 +3,8 @@ use mathlib.Core.Path.{_≡_}
 use Prim.Native.Nat.{_+_}
 use native.Mathlib.Omega.{arith}
 use Rattle.net.specs.Means.Spreads.{sign}
-use Rattle.net.proofs.StateCode.{ring-rest, sign-most}
+use Rattle.net.proofs.StateCode.{ring-rest}
+use Rattle.net.proofs.Rings.{sign-low}
 use borrow.Author.Needs.{needs}
 use Rattle.net.proofs.weights.ring_count.Statement.{statement}
 use Rattle.net.proofs.weights.ring_count.Tie as tie
@@ -15,13 +16,13 @@ sign-of-requires-2 : tie.Need-sign-of-requires-2
 sign-of-requires-2 c κs = search needs
 
 add-if1 : tie.Need-add-if1
-add-if1 c = let p = c .before .before .args .p in omega (arith, sign-most (p .w1), sign-most (p .w2))
+add-if1 c = let p = c .before .before .args .p in omega (arith, sign-low (p .w1), sign-low (p .w2))
 
 sign-of-requires-3 : tie.Need-sign-of-requires-3
 sign-of-requires-3 c κs = search needs
 
 add-if1-2 : tie.Need-add-if1-2
-add-if1-2 c = let p = c .before .before .before .args .p in omega (arith, sign-most (p .w1), sign-most (p .w2), sign-most (p .w3))
+add-if1-2 c = let p = c .before .before .before .args .p in omega (arith, sign-low (p .w1), sign-low (p .w2), sign-low (p .w3))
 
 returns : tie.Need-returns
 returns c =

@@ -36,7 +36,7 @@ fn at_least_root_five(a: u64, b: u64) -> bool
 }
 
 // |x|.
-fn magnitude(x: i64) -> u64
+pub fn magnitude(x: i64) -> u64
     requires { ⌜ natAbs x < 2 ^ 60 ⌝ }
     ensures { λ r. ⌜ r ≡ natAbs x ⌝ }
 {
@@ -84,7 +84,17 @@ fn times_fraction(m: u64) -> u64
 }
 
 impl Golden {
-    fn minus(self, y: Golden) -> Golden
+    pub fn plus(self, y: Golden) -> Golden
+        requires { ⌜ Below (2 ^ 61) self × Below (2 ^ 61) y ⌝ }
+        ensures { λ r. ⌜ r ≡ self +φ y ⌝ }
+    {
+        Golden {
+            u: sum(self.u, y.u),
+            v: sum(self.v, y.v),
+        }
+    }
+
+    pub fn minus(self, y: Golden) -> Golden
         requires { ⌜ Below (2 ^ 61) self × Below (2 ^ 61) y ⌝ }
         ensures { λ r. ⌜ r ≡ self +φ negφ y ⌝ }
     {

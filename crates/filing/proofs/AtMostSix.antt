@@ -57,80 +57,86 @@ module _ (D : Determinants) where
 -- ---- the sides that hold d
 
 module _ (d : Direction) (nonzero : d ≡ zeroDirection → ⊥) where
-  abbrev W : ℕ → ℕ
-  W s = weight (sideDets d s)
-
-  meet : (s t : ℕ) → IsSide s → IsSide t → (s ≡ t → ⊥) → 1 ≤ W s → 1 ≤ W t → Between d s t
-  meet s t hs ht n p q = two-sides d nonzero s hs (has-room (sideDets d s) p) t ht (has-room (sideDets d t) q) n
-
-  -- the edge is the only one that d lies on, so there is no third side
-  no-third : (s t r : ℕ) → IsSide s → IsSide t → IsSide r → (s ≡ t → ⊥) → (s ≡ r → ⊥) → 1 ≤ W s → 1 ≤ W t → 1 ≤ W r → t ≡ r
-  no-third s t r hs ht hr n m p q o = go (ℕ-discrete (a .0) (b .0))
-    where
-      a : Between d s t
-      a = meet s t hs ht n p q
-
-      b : Between d s r
-      b = meet s r hs hr m p o
-
-      go : Dec (a .0 ≡ b .0) → t ≡ r
-      go (yes e) = a .2 ∙ ap (seamSide s) e ∙ sym (b .2)
-      go (no f) = absurd (nonzero (two-planes d s hs (a .0) (a .1) (b .0) (b .1) f (a .3) (b .3)))
-
-  -- where two hold, each has room for three
-  at-most-3 : (s t : ℕ) → IsSide s → IsSide t → (s ≡ t → ⊥) → 1 ≤ W s → 1 ≤ W t → W s ≤ 3
-  at-most-3 s t hs ht n p q = weight-3 (sideDets d s) (rw (side-dets d s hs) (place (m .0) (m .1) (m .3)))
-    where
-      m : Between d s t
-      m = meet s t hs ht n p q
-
-      place : (k : ℕ) → OneToThree k → value d s k ≡ 0φ → (value d s 1 ≡ 0φ) ⊎ ((value d s 2 ≡ 0φ) ⊎ (value d s 3 ≡ 0φ))
-      place = three (λ k. value d s k ≡ 0φ → (value d s 1 ≡ 0φ) ⊎ ((value d s 2 ≡ 0φ) ⊎ (value d s 3 ≡ 0φ))) (λ e. inl e) (λ e. inr (inl e)) (λ e. inr (inr e))
-
-  -- of the first n sides none has room, or one, or two
-  pub data Few (n : ℕ) : Type 0 where
-    none : sumSides n W ≡ 0 → Few n
-    single : (s : ℕ) → IsSide s → s < 4 + n → 1 ≤ W s → sumSides n W ≡ W s → Few n
-    double : (s t : ℕ) → IsSide s → IsSide t → s < 4 + n → t < 4 + n → (s ≡ t → ⊥) → 1 ≤ W s → 1 ≤ W t → sumSides n W ≡ W s + W t → Few n
-
-  few : (n : ℕ) → n ≤ 20 → Few n
-  unfolding sumSides
-  few zero h = none refl
-  few (suc n) h = go (few n (omega arith)) (le-or-lt 1 (W (4 + n)))
-    where
-      here : IsSide (4 + n)
-      here = (omega arith, omega arith)
-
-      go : Few n → (1 ≤ W (4 + n)) ⊎ (W (4 + n) < 1) → Few (suc n)
-      go (none e) (inl p) = single (4 + n) here (omega arith) p (omega arith)
-      go (none e) (inr p) = none (omega arith)
-      go (single s i l q e) (inl p) = double (4 + n) s here i (omega arith) (omega arith) (λ f. omega arith) p q (omega arith)
-      go (single s i l q e) (inr p) = single s i (omega arith) q (omega arith)
-      go (double s t i j l m f q r e) (inl p) = absurd (f (no-third (4 + n) s t here i j (λ g. omega arith) (λ g. omega arith) p q r))
-      go (double s t i j l m f q r e) (inr p) = double s t i j (omega arith) (omega arith) f q r (omega arith)
-
-  pub room-for-6 : sumSides 20 W ≤ 6
-  room-for-6 = go (few 20 (omega arith))
-    where
-      go : Few 20 → sumSides 20 W ≤ 6
-      go (none e) = omega arith
-      go (single s i l q e) = omega (arith, weight-6 (sideDets d s))
-      go (double s t i j l m f q r e) = omega (arith, at-most-3 s t i j f q r, at-most-3 t s j i (λ g. f (sym g)) r q)
-
   -- not all determinants of a side are 0
   pub side-live : (s : ℕ) → IsSide s → Holds (live (sgn (sideDets d s .d1)) (sgn (sideDets d s .d2)) (sgn (sideDets d s .d3)))
   side-live s h = rw (side-dets d s h) (λ z. nonzero (two-planes d s h 1 one 2 two (λ e. omega arith) (at-zero (value d s 1) (z .0)) (at-zero (value d s 2) (z .1 .0))))
 
-sum-le : (n : ℕ) → n ≤ 20 → (f g : ℕ → ℕ) → ((s : ℕ) → IsSide s → f s ≤ g s) → sumSides n f ≤ sumSides n g
-unfolding sumSides
-sum-le zero l f g h = omega arith
-sum-le (suc n) l f g h = omega (arith, h (4 + n) (omega arith, omega arith), sum-le n (omega arith) f g h)
+  -- the triangles of degree n in the side s that hold d
+  module _ (n : ℕ) where
+    abbrev pub heldIn : ℕ → ℕ
+    heldIn s = length (holders n (sideDets d s) 0)
+
+    pub held-small : (s : ℕ) → IsSide s → heldIn s ≤ weight (sideDets d s)
+    held-small s h = count-weight n (sideDets d s) 0 (side-live s h)
+
+    pub side-held : (s : ℕ) → IsSide s → 1 ≤ heldIn s → AllNonNeg (sideDets d s)
+    side-held s h l = has-room (sideDets d s) (omega (arith, held-small s h))
+
+    pub meet : (s t : ℕ) → IsSide s → IsSide t → (s ≡ t → ⊥) → 1 ≤ heldIn s → 1 ≤ heldIn t → Between d s t
+    meet s t hs ht f p q = two-sides d nonzero s hs (side-held s hs p) t ht (side-held t ht q) f
+
+    -- the edge is the only one that d lies on, so there is no third side
+    no-third : (s t r : ℕ) → IsSide s → IsSide t → IsSide r → (s ≡ t → ⊥) → (s ≡ r → ⊥) → 1 ≤ heldIn s → 1 ≤ heldIn t → 1 ≤ heldIn r → t ≡ r
+    no-third s t r hs ht hr f g p q o = go (ℕ-discrete (a .0) (b .0))
+      where
+        a : Between d s t
+        a = meet s t hs ht f p q
+
+        b : Between d s r
+        b = meet s r hs hr g p o
+
+        go : Dec (a .0 ≡ b .0) → t ≡ r
+        go (yes e) = a .2 ∙ ap (seamSide s) e ∙ sym (b .2)
+        go (no h) = absurd (nonzero (two-planes d s hs (a .0) (a .1) (b .0) (b .1) h (a .3) (b .3)))
+
+    -- on an edge a side has room for three
+    pub at-most-3 : (s t : ℕ) → IsSide s → Between d s t → weight (sideDets d s) ≤ 3
+    at-most-3 s t hs m = weight-3 (sideDets d s) (rw (side-dets d s hs) (place (m .0) (m .1) (m .3)))
+      where
+        place : (k : ℕ) → OneToThree k → value d s k ≡ 0φ → (value d s 1 ≡ 0φ) ⊎ ((value d s 2 ≡ 0φ) ⊎ (value d s 3 ≡ 0φ))
+        place = three (λ k. value d s k ≡ 0φ → (value d s 1 ≡ 0φ) ⊎ ((value d s 2 ≡ 0φ) ⊎ (value d s 3 ≡ 0φ))) (λ e. inl e) (λ e. inr (inl e)) (λ e. inr (inr e))
+
+    -- of the first m sides none holds d, or one, or two
+    pub data Few (m : ℕ) : Type 0 where
+      none : ((t : ℕ) → IsSide t → t < 4 + m → heldIn t ≡ 0) → sumSides m heldIn ≡ 0 → Few m
+      single : (s : ℕ) → IsSide s → s < 4 + m → 1 ≤ heldIn s → ((t : ℕ) → IsSide t → t < 4 + m → (s ≡ t → ⊥) → heldIn t ≡ 0) → sumSides m heldIn ≡ heldIn s → Few m
+      double : (s t : ℕ) → IsSide s → IsSide t → s < 4 + m → t < 4 + m → (s ≡ t → ⊥) → 1 ≤ heldIn s → 1 ≤ heldIn t → sumSides m heldIn ≡ heldIn s + heldIn t → Few m
+
+    -- the last of them, or one before
+    last-or : (m t : ℕ) → t < 4 + suc m → (t ≡ 4 + m) ⊎ (t < 4 + m)
+    last-or m t l = ⊎-elim (λ h. inl (omega arith)) (λ h. inr (omega arith)) (le-or-lt (4 + m) t)
+
+    pub few : (m : ℕ) → m ≤ 20 → Few m
+    unfolding sumSides
+    few zero h = none (λ t i l. absurd (omega (arith, i .0, l))) refl
+    few (suc m) h = go (few m (omega arith)) (le-or-lt 1 (heldIn (4 + m)))
+      where
+        here : IsSide (4 + m)
+        here = (omega arith, omega arith)
+
+        at : heldIn (4 + m) < 1 → (t : ℕ) → t ≡ 4 + m → heldIn t ≡ 0
+        at p t e = ap heldIn e ∙ (let z : heldIn (4 + m) ≡ 0 = omega arith in z)
+
+        go : Few m → (1 ≤ heldIn (4 + m)) ⊎ (heldIn (4 + m) < 1) → Few (suc m)
+        go (none f e) (inl p) = single (4 + m) here (omega arith) p (λ t i l g. ⊎-elim (λ k. absurd (g (sym k))) (λ k. f t i k) (last-or m t l)) (omega arith)
+        go (none f e) (inr p) = none (λ t i l. ⊎-elim (λ k. at p t k) (λ k. f t i k) (last-or m t l)) (omega arith)
+        go (single s i l q f e) (inl p) = double (4 + m) s here i (omega arith) (omega arith) (λ g. omega arith) p q (omega arith)
+        go (single s i l q f e) (inr p) = single s i (omega arith) q (λ t j k g. ⊎-elim (λ a. at p t a) (λ a. f t j a g) (last-or m t k)) (omega arith)
+        go (double s t i j l k f q r e) (inl p) = absurd (f (no-third (4 + m) s t here i j (λ g. omega arith) (λ g. omega arith) p q r))
+        go (double s t i j l k f q r e) (inr p) = double s t i j (omega arith) (omega arith) f q r (omega arith)
 
 -- at every degree at most six triangles hold a direction of whole numbers other than zero
 pub at-most-six : (n : ℕ) (d : Direction) → (d ≡ zeroDirection → ⊥) → sumSides 20 (λ s. length (holders n (sideDets d s) 0)) ≤ 6
-at-most-six n d nz =
-    omega (
-      arith,
-      room-for-6 d nz,
-      sum-le 20 (omega arith) (λ s. length (holders n (sideDets d s) 0)) (λ s. weight (sideDets d s)) (λ s h. count-weight n (sideDets d s) 0 (side-live d nz s h)),
-    )
+at-most-six n d nonzero = go (few d nonzero n 20 (omega arith))
+  where
+    go : Few d nonzero n 20 → sumSides 20 (λ s. length (holders n (sideDets d s) 0)) ≤ 6
+    go (none f e) = omega arith
+    go (single s i l q f e) = omega (arith, held-small d nonzero n s i, weight-6 (sideDets d s))
+    go (double s t i j l k f q r e) =
+        omega (
+          arith,
+          held-small d nonzero n s i,
+          held-small d nonzero n t j,
+          at-most-3 d nonzero n s t i (meet d nonzero n s t i j f q r),
+          at-most-3 d nonzero n t s j (meet d nonzero n t s j i (λ g. f (sym g)) r q),
+        )

@@ -91,6 +91,14 @@ at-least-zero x l = go (view x) l
     go (View.at z) l = zero-is z
     go (above a b) l = a
 
+pub sgn-held : (x : Golden) → NonNeg x → 1 ≤ sgn x
+sgn-held x h = go (view x)
+  where
+    go : {n : ℕ} → View x n → 1 ≤ n
+    go (under a b) = absurd (a h)
+    go (View.at z) = omega arith
+    go (above a b) = omega arith
+
 pub sgn-small : (x : Golden) → sgn x < 3
 sgn-small x = go (view x)
   where
@@ -242,7 +250,7 @@ tested x e = rw e (go (nonNeg (negφ x)))
     go false = omega arith
 
 -- some room, where all are at least 0 and not all 0
-roomy : (a : ℕ) → a < 3 → (b : ℕ) → b < 3 → (c : ℕ) → c < 3 → Holds (most 1 a then (most 1 b then (most 1 c then (live a b c then most 1 (room a b c)))))
+pub roomy : (a : ℕ) → a < 3 → (b : ℕ) → b < 3 → (c : ℕ) → c < 3 → Holds (most 1 a then (most 1 b then (most 1 c then (live a b c then most 1 (room a b c)))))
 roomy = sound (below 3 λ a. below 3 λ b. below 3 λ c. most 1 a then (most 1 b then (most 1 c then (live a b c then most 1 (room a b c))))) refl
 
 pub room-held : (D : Determinants) → holds D ≡ true → Holds (live (sgn (D .d1)) (sgn (D .d2)) (sgn (D .d3))) → 1 ≤ room (sgn (D .d1)) (sgn (D .d2)) (sgn (D .d3))

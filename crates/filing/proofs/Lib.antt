@@ -23,7 +23,10 @@ pub mod VertexSigns
 pub mod NoVertex
 pub mod TwoSides
 pub mod Counting
+pub mod Permuting
+pub mod ExactCounts
 pub mod AtMostSix
+pub mod OneTwoSix
 pub mod LeastSide
 pub mod HolderLists
 pub mod WalkSteps

@@ -13,7 +13,7 @@ use Rattle.net.proofs.Table.{sound, below, so, _then_}
 use Rattle.filing.specs.Coordinates.{coordinates, direction}
 use Rattle.filing.specs.Holding.{along, dot}
 use Rattle.filing.specs.Means.Sides.{height}
-use Rattle.filing.specs.Means.VertexSigns.{hasBit, turned}
+use Rattle.filing.specs.Means.VertexSigns.{hasBit, minusOne, minusPhi, withoutX, withoutZ, turned}
 use Rattle.filing.specs.declared.Coordinates.{Coordinates}
 use Rattle.filing.specs.declared.Direction.{Direction}
 use Rattle.filing.proofs.GoldenTests.{sameᵛ, ᵛ-same}
@@ -33,26 +33,26 @@ phi p = golden (pos 0) (unit p)
 abbrev nought : Golden
 nought = golden (pos 0) (pos 0)
 
-abbrev minusOne : ℕ → Bool
-minusOne v = hasBit 3366 v
+abbrev oneSign : ℕ → Bool
+oneSign v = hasBit minusOne v
 
-abbrev minusPhi : ℕ → Bool
-minusPhi v = hasBit 3778 v
+abbrev phiSign : ℕ → Bool
+phiSign v = hasBit minusPhi v
 
-without-x : (v : ℕ) → v < 12 → hasBit 519 v ≡ true → direction v ≡ coordinates nought (one (minusOne v)) (phi (minusPhi v))
+without-x : (v : ℕ) → v < 12 → hasBit withoutX v ≡ true → direction v ≡ coordinates nought (one (oneSign v)) (phi (phiSign v))
 unfolding hasBit
-without-x v h e = ᵛ-same (direction v) (coordinates nought (one (minusOne v)) (phi (minusPhi v)))
-    (sound (below 12 λ v. so (hasBit 519 v) then sameᵛ (direction v) (coordinates nought (one (minusOne v)) (phi (minusPhi v)))) refl v h e)
+without-x v h e = ᵛ-same (direction v) (coordinates nought (one (oneSign v)) (phi (phiSign v)))
+    (sound (below 12 λ v. so (hasBit withoutX v) then sameᵛ (direction v) (coordinates nought (one (oneSign v)) (phi (phiSign v)))) refl v h e)
 
-without-z : (v : ℕ) → v < 12 → hasBit 2224 v ≡ true → direction v ≡ coordinates (one (minusOne v)) (phi (minusPhi v)) nought
+without-z : (v : ℕ) → v < 12 → hasBit withoutZ v ≡ true → direction v ≡ coordinates (one (oneSign v)) (phi (phiSign v)) nought
 unfolding hasBit
-without-z v h e = ᵛ-same (direction v) (coordinates (one (minusOne v)) (phi (minusPhi v)) nought)
-    (sound (below 12 λ v. so (hasBit 2224 v) then sameᵛ (direction v) (coordinates (one (minusOne v)) (phi (minusPhi v)) nought)) refl v h e)
+without-z v h e = ᵛ-same (direction v) (coordinates (one (oneSign v)) (phi (phiSign v)) nought)
+    (sound (below 12 λ v. so (hasBit withoutZ v) then sameᵛ (direction v) (coordinates (one (oneSign v)) (phi (phiSign v)) nought)) refl v h e)
 
-without-y : (v : ℕ) → v < 12 → hasBit 519 v ≡ false → hasBit 2224 v ≡ false → direction v ≡ coordinates (phi (minusPhi v)) nought (one (minusOne v))
+without-y : (v : ℕ) → v < 12 → hasBit withoutX v ≡ false → hasBit withoutZ v ≡ false → direction v ≡ coordinates (phi (phiSign v)) nought (one (oneSign v))
 unfolding hasBit
-without-y v h e f = ᵛ-same (direction v) (coordinates (phi (minusPhi v)) nought (one (minusOne v)))
-    (sound (below 12 λ v. so (not (hasBit 519 v)) then so (not (hasBit 2224 v)) then sameᵛ (direction v) (coordinates (phi (minusPhi v)) nought (one (minusOne v)))) refl v h (ap not e) (ap not f))
+without-y v h e f = ᵛ-same (direction v) (coordinates (phi (phiSign v)) nought (one (oneSign v)))
+    (sound (below 12 λ v. so (not (hasBit withoutX v)) then so (not (hasBit withoutZ v)) then sameᵛ (direction v) (coordinates (phi (phiSign v)) nought (one (oneSign v)))) refl v h (ap not e) (ap not f))
 
 -- ---- the rows
 
@@ -76,14 +76,14 @@ module _ (d : Direction) where
   by-rows : (v : ℕ) (a : Coordinates) {p q : ℤ} → direction v ≡ a → rows d (a .x .u) (a .y .u) (a .z .u) ≡ p → rows d (a .x .v) (a .y .v) (a .z .v) ≡ q → golden p q ≡ height d v
   by-rows v a e f g = sym (ap (λ (w : Coordinates). dot (along d) w) e ∙ parts d a ∙ (λ i. golden (f i) (g i)))
 
-  pub height-yz : (v : ℕ) → v < 12 → hasBit 519 v ≡ true → golden (turned (minusOne v) (d .y)) (turned (minusPhi v) (d .z)) ≡ height d v
-  height-yz v h e = by-rows v _ (without-x v h e) (row-y (minusOne v)) (row-z (minusPhi v))
+  pub height-yz : (v : ℕ) → v < 12 → hasBit withoutX v ≡ true → golden (turned (oneSign v) (d .y)) (turned (phiSign v) (d .z)) ≡ height d v
+  height-yz v h e = by-rows v _ (without-x v h e) (row-y (oneSign v)) (row-z (phiSign v))
 
-  pub height-xy : (v : ℕ) → v < 12 → hasBit 2224 v ≡ true → golden (turned (minusOne v) (d .x)) (turned (minusPhi v) (d .y)) ≡ height d v
-  height-xy v h e = by-rows v _ (without-z v h e) (row-x (minusOne v)) (row-y (minusPhi v))
+  pub height-xy : (v : ℕ) → v < 12 → hasBit withoutZ v ≡ true → golden (turned (oneSign v) (d .x)) (turned (phiSign v) (d .y)) ≡ height d v
+  height-xy v h e = by-rows v _ (without-z v h e) (row-x (oneSign v)) (row-y (phiSign v))
 
-  pub height-zx : (v : ℕ) → v < 12 → hasBit 519 v ≡ false → hasBit 2224 v ≡ false → golden (turned (minusOne v) (d .z)) (turned (minusPhi v) (d .x)) ≡ height d v
-  height-zx v h e f = by-rows v _ (without-y v h e f) (row-z (minusOne v)) (row-x (minusPhi v))
+  pub height-zx : (v : ℕ) → v < 12 → hasBit withoutX v ≡ false → hasBit withoutZ v ≡ false → golden (turned (oneSign v) (d .z)) (turned (phiSign v) (d .x)) ≡ height d v
+  height-zx v h e f = by-rows v _ (without-y v h e f) (row-z (oneSign v)) (row-x (phiSign v))
 
 -- a sign by its test
 pub turned-minus : {p : Bool} (x : ℤ) → p ≡ true → pos 0 -ℤ x ≡ turned p x

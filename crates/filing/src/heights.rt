@@ -12,17 +12,21 @@ ghost use Rattle.golden.specs.Numbers.{golden};
 ghost use Rattle.net.specs.Sides.{OneToThree, IsSide, cornerVertex};
 ghost use Rattle.filing.specs.Holding.{_-φ_};
 ghost use Rattle.filing.specs.Means.Sides.{height, apex, sideDets};
-ghost use Rattle.filing.specs.Means.VertexSigns.{hasBit, turned};
+ghost use Rattle.filing.specs.Means.VertexSigns.{hasBit, minusOne, minusPhi, turned};
 
-// Sets of vertices, with a bit for each: those whose direction has -1, those whose direction has -φ, and those with 0 on the axis x and z.
+// Sets of vertices, with a bit for each: those whose direction has -1.
 const MINUS_ONE: u64 = 0b1101_0010_0110;
 
+// Those whose direction has -φ.
 const MINUS_PHI: u64 = 0b1110_1100_0010;
 
+// Those with 0 on the axis x.
 const WITHOUT_X: u64 = 0b0010_0000_0111;
 
+// Those with 0 on the axis z.
 const WITHOUT_Z: u64 = 0b1000_1011_0000;
 
+// Whether a set has v.
 fn has(set: u64, v: u64) -> bool
     requires { ⌜ v < 12 ⌝ }
     ensures { λ r. ⌜ r ≡ hasBit set v ⌝ }
@@ -30,6 +34,7 @@ fn has(set: u64, v: u64) -> bool
     (set >> v) % 2 == 1
 }
 
+// x, or -x.
 fn turn(minus: bool, x: i32) -> i64
     ensures { λ r. ⌜ r ≡ turned minus x ⌝ }
 {
@@ -43,7 +48,7 @@ fn turn(minus: bool, x: i32) -> i64
 // a + bφ, with the signs of vertex v.
 fn with_signs(v: u64, a: i32, b: i32) -> Golden
     requires { ⌜ v < 12 ⌝ }
-    ensures { λ r. ⌜ r ≡ golden (turned (hasBit 3366 v) a) (turned (hasBit 3778 v) b) ⌝ }
+    ensures { λ r. ⌜ r ≡ golden (turned (hasBit minusOne v) a) (turned (hasBit minusPhi v) b) ⌝ }
 {
     Golden {
         u: turn(has(MINUS_ONE, v), a),

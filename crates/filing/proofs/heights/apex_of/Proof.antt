@@ -8,12 +8,6 @@ use Rattle.filing.specs.Means.Sides.{apex}
 use borrow.Author.Needs.{needs}
 use Rattle.filing.proofs.heights.apex_of.Statement.{statement}
 use Rattle.filing.proofs.heights.apex_of.Tie as tie
-use Rattle.filing.proofs.heights.apex_of.Reads as reads
-use Rattle.filing.proofs.heights.apex_of.Lts as lts
-use Rattle.net.proofs.seams.corner_vertex.Reads as corner-vertex-reads
-use Rattle.net.proofs.seams.flip_one.Reads as flip-one-reads
-use Rattle.net.proofs.seams.seam_kept.Reads as seam-kept-reads
-use Rattle.net.proofs.seams.seam_side.Reads as seam-side-reads
 
 seam-side-requires : tie.Need-seam-side-requires
 seam-side-requires c κs = search needs

@@ -7,15 +7,11 @@ use mir.Facts.{toZ-ofZ}
 use mir.Syntax.{w32}
 use mir.Val.{toZ, ofZ}
 use Rattle.golden.specs.Numbers.{golden}
-use Rattle.filing.specs.Means.VertexSigns.{hasBit, turned}
+use Rattle.filing.specs.Means.VertexSigns.{hasBit, minusOne, minusPhi, turned}
 use Rattle.filing.proofs.VertexSigns.{height-yz, height-xy, height-zx}
 use borrow.Author.Needs.{needs}
 use Rattle.filing.proofs.heights.height_along.Statement.{statement}
 use Rattle.filing.proofs.heights.height_along.Tie as tie
-use Rattle.filing.proofs.heights.height_along.Reads as reads
-use Rattle.filing.proofs.heights.height_along.Lts as lts
-use Rattle.filing.proofs.heights.has.Reads as has-reads
-use Rattle.filing.proofs.heights.with_signs.Reads as with-signs-reads
 
 has-requires : tie.Need-has-requires
 has-requires c κs = search needs
@@ -25,8 +21,8 @@ with-signs-requires c κs = search needs
 
 -- two coordinates, as they are read back
 read : (v : ℕ) (a b : ℤ) → mag a < 2 ^ 31 → mag b < 2 ^ 31
-    → golden (turned (hasBit 3366 v) (toZ w32 (ofZ w32 a))) (turned (hasBit 3778 v) (toZ w32 (ofZ w32 b))) ≡ golden (turned (hasBit 3366 v) a) (turned (hasBit 3778 v) b)
-read v a b h k = λ i. golden (turned (hasBit 3366 v) (toZ-ofZ {w = w32} {z = a} (record { sfits = h }) i)) (turned (hasBit 3778 v) (toZ-ofZ {w = w32} {z = b} (record { sfits = k }) i))
+    → golden (turned (hasBit minusOne v) (toZ w32 (ofZ w32 a))) (turned (hasBit minusPhi v) (toZ w32 (ofZ w32 b))) ≡ golden (turned (hasBit minusOne v) a) (turned (hasBit minusPhi v) b)
+read v a b h k = λ i. golden (turned (hasBit minusOne v) (toZ-ofZ {w = w32} {z = a} (record { sfits = h }) i)) (turned (hasBit minusPhi v) (toZ-ofZ {w = w32} {z = b} (record { sfits = k }) i))
 
 returns : tie.Need-returns
 returns c =

@@ -13,12 +13,6 @@ use Rattle.filing.proofs.Widths.{small-32}
 use borrow.Author.Needs.{needs}
 use Rattle.filing.proofs.heights.over_edge.Statement.{statement}
 use Rattle.filing.proofs.heights.over_edge.Tie as tie
-use Rattle.filing.proofs.heights.over_edge.Reads as reads
-use Rattle.filing.proofs.heights.over_edge.Lts as lts
-use Rattle.filing.proofs.heights.apex_of.Reads as apex-of-reads
-use Rattle.filing.proofs.heights.height_along.Reads as height-along-reads
-use Rattle.golden.proofs.Golden.minus.Reads as minus-reads
-use Rattle.net.proofs.seams.corner_vertex.Reads as corner-vertex-reads
 
 corner-vertex-requires : tie.Need-corner-vertex-requires
 corner-vertex-requires c κs = search needs

@@ -5,9 +5,6 @@ use Rattle.filing.proofs.SideHeights.{side-by-heights}
 use borrow.Author.Needs.{needs}
 use Rattle.filing.proofs.heights.side_determinants.Statement.{statement}
 use Rattle.filing.proofs.heights.side_determinants.Tie as tie
-use Rattle.filing.proofs.heights.side_determinants.Reads as reads
-use Rattle.filing.proofs.heights.side_determinants.Lts as lts
-use Rattle.filing.proofs.heights.over_edge.Reads as over-edge-reads
 
 over-edge-requires : tie.Need-over-edge-requires
 over-edge-requires c κs = search needs

@@ -13,10 +13,6 @@ use Rattle.filing.specs.Means.VertexSigns.{turned}
 use borrow.Author.Needs.{needs}
 use Rattle.filing.proofs.heights.with_signs.Statement.{statement}
 use Rattle.filing.proofs.heights.with_signs.Tie as tie
-use Rattle.filing.proofs.heights.with_signs.Reads as reads
-use Rattle.filing.proofs.heights.with_signs.Lts as lts
-use Rattle.filing.proofs.heights.has.Reads as has-reads
-use Rattle.filing.proofs.heights.turn.Reads as turn-reads
 
 has-requires : tie.Need-has-requires
 has-requires c κs = search needs

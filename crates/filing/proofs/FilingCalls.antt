@@ -23,6 +23,7 @@ use Rattle.filing.specs.declared.Determinants.{Determinants}
 use Rattle.filing.proofs.Refused.{allowed, list-passes}
 use Rattle.filing.proofs.LeastSide.{found-code}
 use Rattle.filing.proofs.AtMostSix.{sumSides, at-most-six}
+use Rattle.filing.proofs.NoVertex.{zeroDirection}
 use Rattle.filing.proofs.AllHolders.{all-holders}
 
 -- ---- file
@@ -57,13 +58,18 @@ unfolding sumSides
 sum-same zero f g h = refl
 sum-same (suc m) f g h = omega (arith, sum-same m f g h, h (4 + m))
 
-pub six : (n : ℕ) (d : Direction) → refuseFile n d ≡ 0 → length (allWords d n 4) ≤ 6
+pub words-count : (n : ℕ) (d : Direction) → length (allWords d n 4) ≡ sumSides 20 (λ s. length (holders n (sideDets d s) 0))
 unfolding allWords sideWords sumSides
-six n d z =
-    let a = at-most-six n d (λ e. allowed n d z .some (rw e refl)) in
+words-count n d =
     let l = side-lengths 20 0 (sideWords d n) in
     let q = sum-same 20 (λ s. length (sideWords d n s)) (λ s. length (holders n (sideDets d s) 0)) (λ s. each-length (wordOf s n) (holders n (sideDets d s) 0)) in
-    omega (arith, a, l, q)
+    omega (arith, l, q)
+
+pub not-zero : (n : ℕ) (d : Direction) → refuseFile n d ≡ 0 → d ≡ zeroDirection → ⊥
+not-zero n d z e = allowed n d z .some (rw e refl)
+
+pub six : (n : ℕ) (d : Direction) → refuseFile n d ≡ 0 → length (allWords d n 4) ≤ 6
+six n d z = omega (arith, at-most-six n d (not-zero n d z), words-count n d)
 
 pub listed-answer : (n : ℕ) (d : Direction) (out : List ℕ) (r : ℕ) (new : List ℕ) → refuseFile n d ≡ 0 → 6 ≤ length out
     → Puts 0 (allWords d n 4) out r new → ListAnswer n d out (countAnswer 0 r) new

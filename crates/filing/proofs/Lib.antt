@@ -34,3 +34,4 @@ pub mod AllHolders
 pub mod Refused
 pub mod FilingCalls
 pub mod OneFiling
+pub mod FilingExamples

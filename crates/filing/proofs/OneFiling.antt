@@ -2,6 +2,7 @@
 -- Assumes nothing.
 use mathlib.Core.Path.{_≡_, refl, sym, ap, _∙_}
 use mathlib.Core.List.{List}
+use mathlib.Core.Logic.{_⊎_}
 use Prim.Native.Nat.{ℕ}
 use lib.ListN.{length}
 use Rattle.words.specs.Words.{wordOf}
@@ -12,6 +13,7 @@ use Rattle.net.specs.declared.CountAnswer.{CountAnswer}
 use Rattle.net.proofs.OneAnswer.{answer-one, answer-some, lent-one, lent-some}
 use Rattle.filing.specs.Answers.{Filed, FileAnswer, ListAnswer, noCode}
 use Rattle.filing.specs.Filing.{AreHolders}
+use Rattle.filing.specs.Refusals.{refuseFile}
 use Rattle.filing.specs.Means.Descent.{descent}
 use Rattle.filing.specs.Means.Lists.{allWords}
 use Rattle.filing.specs.Means.Sides.{leastFrom, sideDets}
@@ -19,7 +21,9 @@ use Rattle.filing.specs.declared.Direction.{Direction}
 use Rattle.filing.proofs.AllHolders.{all-holders, one-list}
 use Rattle.filing.proofs.LeastCode.{filed-once}
 use Rattle.filing.proofs.LeastSide.{found-code}
+use Rattle.filing.proofs.OneTwoSix.{one-two-six, one-or-two}
 use Rattle.filing.proofs.Refused.{allowed, list-passes}
+use Rattle.filing.proofs.FilingCalls.{words-count, not-zero}
 
 pub file-one : (n : ℕ) (d : Direction) (r r′ : CodeAnswer) → FileAnswer n d r → FileAnswer n d r′ → r ≡ r′
 file-one n d r r′ = answer-one (λ z x y. λ i. record { refusal = (x .number ∙ sym (y .number)) i; code = filed-once (x .is) (y .is) i })
@@ -42,3 +46,14 @@ list-some n d out =
     (λ z.
     let l = allWords d n 4 in
     (countAnswer 0 (length l), over l out, record { list = l; good = all-holders n d (allowed n d (list-passes n d out .0 z .0) .low); count = refl; put = refl }))
+
+-- "so there are 1, 2 or 6 holders and never 5; at degree 0 there are 1 or 2."
+pub how-many : (n : ℕ) (d : Direction) (ts : List ℕ) → refuseFile n d ≡ 0 → AreHolders n d ts → (length ts ≡ 1) ⊎ ((length ts ≡ 2) ⊎ (length ts ≡ 6))
+how-many n d ts z h =
+    let e = ap length (one-list h (all-holders n d (allowed n d z .low))) ∙ words-count n d in
+    rw e (one-two-six n d (not-zero n d z))
+
+pub how-many-sides : (d : Direction) (ts : List ℕ) → refuseFile 0 d ≡ 0 → AreHolders 0 d ts → (length ts ≡ 1) ⊎ (length ts ≡ 2)
+how-many-sides d ts z h =
+    let e = ap length (one-list h (all-holders 0 d (allowed 0 d z .low))) ∙ words-count 0 d in
+    rw e (one-or-two d (not-zero 0 d z))

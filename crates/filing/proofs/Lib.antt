@@ -35,3 +35,5 @@ pub mod Refused
 pub mod FilingCalls
 pub mod OneFiling
 pub mod FilingExamples
+pub mod Anticlockwise
+pub mod ThroughVertices

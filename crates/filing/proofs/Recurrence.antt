@@ -6,14 +6,14 @@ use native.Mathlib.Nat.{div-one, div-div-eq-div-mul, pow-succ'}
 use Rattle.golden.specs.declared.Golden.{Golden}
 use Rattle.golden.proofs.RingSolver.{reify, done}
 use Rattle.golden.proofs.GoldenRing.{φ-ring, reφ}
-use Rattle.net.specs.Division.{Triangle, m1, m2, m3, divide, triangleAt}
+use Rattle.net.specs.Division.{Triangle, divide, triangleAt}
 use Rattle.net.specs.Means.Paths.{digitsOf}
 use Rattle.filing.specs.Coordinates.{_+ᵛ_, exact}
 use Rattle.filing.specs.Holding.{determinant, replaced, determinants}
 use Rattle.filing.specs.Means.Descent.{childDets}
 use Rattle.filing.specs.declared.Coordinates.{Coordinates}
 use Rattle.filing.specs.declared.Determinants.{Determinants}
-use Rattle.filing.proofs.Sums.{exact-middle, exact-kept, Twelve, all-twelve}
+use Rattle.filing.proofs.Sums.{exact-kept, Twelve, all-twelve, exact-m1, exact-m2, exact-m3}
 use Rattle.filing.proofs.Parts.{dets-path}
 
 abbrev Same : Determinants → Determinants → Type 0
@@ -45,21 +45,12 @@ module _ (g a b c : Coordinates) where
 
 -- one division
 module _ (g : Coordinates) (t : Triangle) (h : Twelve t) where
-  M1 : exact (m1 t) ≡ exact (t .a2) +ᵛ exact (t .a3)
-  M1 = exact-middle (t .a2) (t .a3) (h .l2 ∙ sym (h .l3))
-
-  M2 : exact (m2 t) ≡ exact (t .a3) +ᵛ exact (t .a1)
-  M2 = exact-middle (t .a3) (t .a1) (h .l3 ∙ sym (h .l1))
-
-  M3 : exact (m3 t) ≡ exact (t .a1) +ᵛ exact (t .a2)
-  M3 = exact-middle (t .a1) (t .a2) (h .l1 ∙ sym (h .l2))
-
   pub child-dets : (k : ℕ) → determinants g (divide k t) ≡ childDets k (determinants g t)
   unfolding determinants
-  child-dets zero = (λ i. replaced g (M1 i) (M2 i) (M3 i)) ∙ zeroth g (exact (t .a1)) (exact (t .a2)) (exact (t .a3))
-  child-dets (suc zero) = (λ i. replaced g (exact-kept (t .a1) i) (M3 i) (M2 i)) ∙ first g (exact (t .a1)) (exact (t .a2)) (exact (t .a3))
-  child-dets (suc (suc zero)) = (λ i. replaced g (M3 i) (exact-kept (t .a2) i) (M1 i)) ∙ second g (exact (t .a1)) (exact (t .a2)) (exact (t .a3))
-  child-dets (suc (suc (suc k))) = (λ i. replaced g (M2 i) (M1 i) (exact-kept (t .a3) i)) ∙ third g (exact (t .a1)) (exact (t .a2)) (exact (t .a3))
+  child-dets zero = (λ i. replaced g (exact-m1 t h i) (exact-m2 t h i) (exact-m3 t h i)) ∙ zeroth g (exact (t .a1)) (exact (t .a2)) (exact (t .a3))
+  child-dets (suc zero) = (λ i. replaced g (exact-kept (t .a1) i) (exact-m3 t h i) (exact-m2 t h i)) ∙ first g (exact (t .a1)) (exact (t .a2)) (exact (t .a3))
+  child-dets (suc (suc zero)) = (λ i. replaced g (exact-m3 t h i) (exact-kept (t .a2) i) (exact-m1 t h i)) ∙ second g (exact (t .a1)) (exact (t .a2)) (exact (t .a3))
+  child-dets (suc (suc (suc k))) = (λ i. replaced g (exact-m2 t h i) (exact-m1 t h i) (exact-kept (t .a3) i)) ∙ third g (exact (t .a1)) (exact (t .a2)) (exact (t .a3))
 
 -- from one triangle down by digits, the last first
 unfoldable pub below : Determinants → (digits : List ℕ) → Determinants

@@ -10,7 +10,7 @@ use Rattle.golden.specs.Numbers.{whole, _+φ_, _*φ_}
 use Rattle.golden.specs.declared.Golden.{Golden}
 use Rattle.golden.proofs.RingSolver.{reify, done}
 use Rattle.golden.proofs.GoldenRing.{φ-ring, reφ, of-addφ, zero-addφ}
-use Rattle.net.specs.Division.{Weights, Triangle, each, kept, middle, divide, triangleAt, unitAt}
+use Rattle.net.specs.Division.{Weights, Triangle, each, kept, middle, divide, triangleAt, unitAt, m1, m2, m3}
 use Rattle.filing.specs.Coordinates.{origin, directions, _+ᵛ_, times, weighted, exact}
 use Rattle.filing.specs.declared.Coordinates.{Coordinates}
 use Rattle.filing.proofs.Parts.{coordinates-path}
@@ -60,6 +60,17 @@ pub record Twelve (t : Triangle) : Type 0 where
   pub l1 : length (t .a1) ≡ 12
   pub l2 : length (t .a2) ≡ 12
   pub l3 : length (t .a3) ≡ 12
+
+-- the middles of the edges
+module _ (t : Triangle) (h : Twelve t) where
+  pub exact-m1 : exact (m1 t) ≡ exact (t .a2) +ᵛ exact (t .a3)
+  exact-m1 = exact-middle (t .a2) (t .a3) (h .l2 ∙ sym (h .l3))
+
+  pub exact-m2 : exact (m2 t) ≡ exact (t .a3) +ᵛ exact (t .a1)
+  exact-m2 = exact-middle (t .a3) (t .a1) (h .l3 ∙ sym (h .l1))
+
+  pub exact-m3 : exact (m3 t) ≡ exact (t .a1) +ᵛ exact (t .a2)
+  exact-m3 = exact-middle (t .a1) (t .a2) (h .l1 ∙ sym (h .l2))
 
 each-length : (f : ℕ → ℕ) (vs : List ℕ) → length (each f vs) ≡ length vs
 each-length f [] = refl

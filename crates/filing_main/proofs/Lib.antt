@@ -1,0 +1,2 @@
+-- The laws that the proofs of `filing_main` cite.
+pub mod SignedNumbers

@@ -40,27 +40,24 @@ def at_least_zero(x):
 
 # ---- exact coordinates
 
-O, I, F, NI, NF = (0, 0), (1, 0), (0, 1), (-1, 0), (0, -1)  # 0, 1, φ, -1, -φ
-DIRECTIONS = {
-    "00": (O, I, F),
-    "10": (O, NI, F),
-    "20": (F, O, I),
-    "30": (I, F, O),
-    "40": (NI, F, O),
-    "50": (NF, O, I),
-    "01": (O, NI, NF),
-    "11": (I, NF, O),
-    "21": (F, O, NI),
-    "31": (O, I, NF),
-    "41": (NF, O, NI),
-    "51": (NI, NF, O),
-}
+# The table of "Vertices and sides", a vertex and its direction, two to a line.
+TABLE = """
+    00  0  1  φ   01  0 -1 -φ
+    10  0 -1  φ   11  1 -φ  0
+    20  φ  0  1   21  φ  0 -1
+    30  1  φ  0   31  0  1 -φ
+    40 -1  φ  0   41 -φ  0 -1
+    50 -φ  0  1   51 -1 -φ  0
+"""
+PARTS = {"0": (0, 0), "1": (1, 0), "-1": (-1, 0), "φ": (0, 1), "-φ": (0, -1)}
+CELLS = TABLE.split()
+DIRECTIONS = {CELLS[i]: tuple(PARTS[x] for x in CELLS[i + 1 : i + 4]) for i in range(0, 48, 4)}
 
 
 @lru_cache(maxsize=None)
 def exact(weights):
     """The weighted sum of the vertex directions."""
-    at = [O, O, O]
+    at = [PARTS["0"]] * 3
     for name, k in zip(net.VERTICES, weights):
         if k != 0:
             at = [plus(x, times((k, 0), y)) for x, y in zip(at, DIRECTIONS[name])]
@@ -351,7 +348,7 @@ def self_tests():
     for d in [(0, 0, 1), (1, 1, 1), (3, -2, 5), (0, 1, 2), (-1, -1, 0), (2, 1, 0)]:
         for n in range(4):
             assert holders(n, d) == sorted(net.make_word(s, ds) for s, ds, _ in descended(n, d))
-    assert times(F, F) == plus(F, I)
+    assert times(PARTS["φ"], PARTS["φ"]) == plus(PARTS["φ"], PARTS["1"])
     for x in range(-20, 21):
         for y in range(-20, 21):
             assert at_least_zero((x, y)) == (x + y * (1 + 5**0.5) / 2 >= 0)

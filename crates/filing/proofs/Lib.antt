@@ -1,4 +1,4 @@
--- The laws that the proofs of `filing` cite.
+-- The laws that the proofs of `filing` cite, and the crates above.
 pub mod Parts
 pub mod Weighted
 pub mod TickSizes

@@ -10,7 +10,7 @@ use lib.IntN.{natAbs}
 use lib.ListN.{length}
 use borrow.Author.Tests.{ltb-false, lt-ltb, le-ltb, eqb-true, eq-eqb}
 use Rattle.words.specs.Refusals.{_either_, _when_, degreeRows}
-use Rattle.words.proofs.Refusing.{inTurn, in-turn, none-after, none-so, either-false}
+use Rattle.words.proofs.Refusing.{inTurn, in-turn, none-after, none-so, either-left, either-right, either-false}
 use Rattle.net.specs.Refusals.{listRows}
 use Rattle.net.proofs.Canonical.{and-true}
 use Rattle.filing.specs.Refusals.{outside, zero?, directionRows, refuseFile, refuseList}
@@ -19,7 +19,7 @@ use Rattle.filing.specs.declared.Direction.{Direction}
 
 -- ---- the refusal by its three tests
 
-abbrev far : Direction → Bool
+abbrev pub far : Direction → Bool
 far d = outside (d .x) either outside (d .y) either outside (d .z)
 
 abbrev none : Direction → Bool
@@ -31,13 +31,13 @@ refuse-by n d p q r = sym (in-turn (degreeRows n ++ directionRows d) tt ∙ (λ 
 
 module _ (d : Direction) where
   pub far-x : 1000000000 < natAbs (d .x) → far d ≡ true
-  far-x l = rw (lt-ltb _ _ l) refl
+  far-x l = either-left _ _ (lt-ltb _ _ l)
 
-  pub far-y : natAbs (d .x) ≤ 1000000000 → 1000000000 < natAbs (d .y) → far d ≡ true
-  far-y k l = rw (le-ltb _ _ k, lt-ltb _ _ l) refl
+  pub far-y : 1000000000 < natAbs (d .y) → far d ≡ true
+  far-y l = either-right (outside (d .x)) _ (either-left _ _ (lt-ltb _ _ l))
 
-  pub far-z : natAbs (d .x) ≤ 1000000000 → natAbs (d .y) ≤ 1000000000 → 1000000000 < natAbs (d .z) → far d ≡ true
-  far-z k l m = rw (le-ltb _ _ k, le-ltb _ _ l, lt-ltb _ _ m) refl
+  pub far-z : 1000000000 < natAbs (d .z) → far d ≡ true
+  far-z l = either-right (outside (d .x)) _ (either-right (outside (d .y)) _ (lt-ltb _ _ l))
 
   pub not-far : natAbs (d .x) ≤ 1000000000 → natAbs (d .y) ≤ 1000000000 → natAbs (d .z) ≤ 1000000000 → far d ≡ false
   not-far k l m = rw (le-ltb _ _ k, le-ltb _ _ l, le-ltb _ _ m) refl

@@ -1,3 +1,4 @@
+-- The laws that the proofs of `golden` cite, and the crates above.
 pub mod IntegerRing
 pub mod Polynomials
 pub mod RingSolver

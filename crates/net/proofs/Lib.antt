@@ -1,3 +1,4 @@
+-- The laws that the proofs of `net` cite, and the crates above.
 pub mod Table
 pub mod Totals
 pub mod Halving

@@ -1,4 +1,5 @@
 -- The refusals 1, 8 and 7 in turn (Refused). Assumes nothing.
+use mathlib.Core.Bool.{false}
 use mathlib.Core.Path.{_≡_, refl, ap, _∙_}
 use native.Mathlib.Omega.{arith}
 use lib.IntN.{natAbs}
@@ -6,7 +7,7 @@ use mir.Syntax.{w32}
 use mir.ValLaws.{toZ-ofZ}
 use borrow.Author.Needs.{needs}
 use borrow.Author.Tests.{lt-ltb, le-ltb}
-use Rattle.filing.proofs.Refused.{refuse-by, far-x, far-y, far-z, not-far, is-none, not-none}
+use Rattle.filing.proofs.Refused.{far, refuse-by, far-x, far-y, far-z, not-far, is-none, not-none}
 use Rattle.filing.proofs.refuse_direction.Statement.{statement}
 use Rattle.filing.proofs.refuse_direction.Tie as tie
 
@@ -33,28 +34,13 @@ returns : tie.Need-returns
 returns c = refuse-by _ _ (lt-ltb _ _ (c .if1 .taken)) refl refl
 
 returns-2 : tie.Need-returns-2
-returns-2 c =
-    let s = c .before .before in
-    let x = x-size (s .before .before .before .before) in
-    let y = y-size (s .before .before) in
-    let z = z-size s in
-    refuse-by _ _ (le-ltb _ _ (c .before .if1 .left)) (far-x (s .before .before .before .before .before .before .args .d) (omega (arith, x, c .if2 .taken))) refl
+returns-2 c = let s = c .before .before in refuse-by _ _ (le-ltb _ _ (c .before .if1 .left)) (far-x (s .before .before .before .before .before .before .args .d) (omega (arith, x-size (s .before .before .before .before), c .if2 .taken))) refl
 
 returns-3 : tie.Need-returns-3
-returns-3 c =
-    let s = c .before .before .before in
-    let x = x-size (s .before .before .before .before) in
-    let y = y-size (s .before .before) in
-    let z = z-size s in
-    refuse-by _ _ (le-ltb _ _ (c .before .before .if1 .left)) (far-y (s .before .before .before .before .before .before .args .d) (omega (arith, x, c .before .if2 .left)) (omega (arith, y, c .if3 .taken))) refl
+returns-3 c = let s = c .before .before .before in refuse-by _ _ (le-ltb _ _ (c .before .before .if1 .left)) (far-y (s .before .before .before .before .before .before .args .d) (omega (arith, y-size (s .before .before), c .if3 .taken))) refl
 
 returns-4 : tie.Need-returns-4
-returns-4 c =
-    let s = c .before .before .before .before in
-    let x = x-size (s .before .before .before .before) in
-    let y = y-size (s .before .before) in
-    let z = z-size s in
-    refuse-by _ _ (le-ltb _ _ (c .before .before .before .if1 .left)) (far-z (s .before .before .before .before .before .before .args .d) (omega (arith, x, c .before .before .if2 .left)) (omega (arith, y, c .before .if3 .left)) (omega (arith, z, c .if4 .taken))) refl
+returns-4 c = let s = c .before .before .before .before in refuse-by _ _ (le-ltb _ _ (c .before .before .before .if1 .left)) (far-z (s .before .before .before .before .before .before .args .d) (omega (arith, z-size s, c .if4 .taken))) refl
 
 add-if5 : tie.Need-add-if5
 add-if5 c = search needs
@@ -62,22 +48,25 @@ add-if5 c = search needs
 add-if5-2 : tie.Need-add-if5-2
 add-if5-2 c = search needs
 
+-- no coordinate is too far, and the three sizes together
+near : (c : tie.Else4) → far (c .before .before .before .before .before .before .before .before .before .before .args .d) ≡ false
+near c =
+    let s = c .before .before .before .before in
+    not-far (s .before .before .before .before .before .before .args .d) (omega (arith, x-size (s .before .before .before .before), c .before .before .if2 .left)) (omega (arith, y-size (s .before .before), c .before .if3 .left))
+    (omega (arith, z-size s, c .if4 .left))
+
 returns-5 : tie.Need-returns-5
 returns-5 c =
     let s = c .before .before .before .before .before in
-    let x = x-size (s .before .before .before .before) in
-    let y = y-size (s .before .before) in
-    let z = z-size s in
-    refuse-by _ _ (le-ltb _ _ (c .before .before .before .before .if1 .left)) (not-far (s .before .before .before .before .before .before .args .d) (omega (arith, x, c .before .before .before .if2 .left)) (omega (arith, y, c .before .before .if3 .left)) (omega (arith, z, c .before .if4 .left))) (is-none (s .before .before .before .before .before .before .args .d) (omega (arith, x, y, z, c .if5 .taken)))
+    refuse-by _ _ (le-ltb _ _ (c .before .before .before .before .if1 .left)) (near (c .before))
+    (is-none (s .before .before .before .before .before .before .args .d) (omega (arith, x-size (s .before .before .before .before), y-size (s .before .before), z-size s, c .if5 .taken)))
 
 returns-6 : tie.Need-returns-6
 returns-6 c =
     let s = c .before .before .before .before .before in
-    let x = x-size (s .before .before .before .before) in
-    let y = y-size (s .before .before) in
-    let z = z-size s in
     let f = c .if5 .left in
-    refuse-by _ _ (le-ltb _ _ (c .before .before .before .before .if1 .left)) (not-far (s .before .before .before .before .before .before .args .d) (omega (arith, x, c .before .before .before .if2 .left)) (omega (arith, y, c .before .before .if3 .left)) (omega (arith, z, c .before .if4 .left))) (not-none (s .before .before .before .before .before .before .args .d) (λ e. f (omega (arith, x, y, z, e))))
+    refuse-by _ _ (le-ltb _ _ (c .before .before .before .before .if1 .left)) (near (c .before))
+    (not-none (s .before .before .before .before .before .before .args .d) (λ e. f (omega (arith, x-size (s .before .before .before .before), y-size (s .before .before), z-size s, e))))
 
 pub refuse-direction-spec : {M : Type 1} → statement M
 refuse-direction-spec =

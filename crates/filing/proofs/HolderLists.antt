@@ -8,7 +8,7 @@ use native.Mathlib.Omega.{arith}
 use lib.ListN.{length, set, drop, length-append, length-drop, take-append-drop}
 use Rattle.words.specs.Words.{wordOf}
 use Rattle.net.specs.Division.{each}
-use Rattle.net.specs.Answers.{over}
+use Rattle.net.specs.Refusals.{over}
 use Rattle.filing.specs.Means.Descent.{childDets, holds, holders}
 use Rattle.filing.specs.Means.Lists.{joined, put, Room, Puts, walkWords, childWords, sideWords, allWords}
 use Rattle.filing.specs.Means.Sides.{sideDets}

@@ -3,9 +3,6 @@ pub mod Parts
 pub mod Weighted
 pub mod TickSizes
 pub mod ExactFractions
-pub mod PlaceAnswers
-pub mod OnePlace
-pub mod PlaceExamples
 pub mod GoldenTests
 pub mod Sums
 pub mod Recurrence
@@ -31,9 +28,5 @@ pub mod LeastSide
 pub mod HolderLists
 pub mod WalkSteps
 pub mod AllHolders
-pub mod Refused
-pub mod FilingCalls
-pub mod OneFiling
-pub mod FilingExamples
 pub mod Anticlockwise
 pub mod ThroughVertices

@@ -5,6 +5,5 @@ pub mod Filing
 pub mod Fractions
 pub mod Drawing
 pub mod Refusals
-pub mod Answers
 -- What the code is proved by, and no promise: see there.
 pub mod Means

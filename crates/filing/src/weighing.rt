@@ -1,12 +1,9 @@
 // Exact coordinates from twelve weights.
 use crate::Coordinates;
-use crate::CoordinatesAnswer;
 use golden::Golden;
 ghost use mathlib.Core.Path.{_≡_};
 ghost use Prim.Native.Nat.{_<_};
-ghost use Rattle.net.specs.Answers.{Answer};
 ghost use Rattle.filing.specs.Coordinates.{exact};
-ghost use Rattle.filing.specs.Answers.{Placed, noCoordinates};
 ghost use Rattle.filing.specs.Means.Places.{Twelve, balanceOf};
 
 // The weights at a and b less those at c and d.
@@ -20,7 +17,7 @@ fn balance(ws: &[u64], a: usize, b: usize, c: usize, d: usize) -> i64
 }
 
 // Each part is the weights of the vertices whose direction has 1 (for v: φ) on that axis, less those of the vertices that have -1 (-φ) there.
-fn exact_of(ws: &[u64]) -> Coordinates
+pub fn exact_of(ws: &[u64]) -> Coordinates
     requires { ⌜ Twelve (now ws) ⌝ }
     ensures { λ r. ⌜ r ≡ exact (now (ws .entry)) ⌝ }
 {
@@ -37,26 +34,5 @@ fn exact_of(ws: &[u64]) -> Coordinates
             u: balance(ws, 3, 6, 8, 10),
             v: balance(ws, 0, 2, 1, 9),
         },
-    }
-}
-
-// The exact coordinates where nothing was refused, or the refusal's number with zeros.
-pub fn place_answer(f: u64, ws: &[u64]) -> CoordinatesAnswer
-    requires { ⌜ (f ≡ 0 → Twelve (now ws)) ⌝ }
-    ensures { λ r. ⌜ Answer f (Placed (now (ws .entry))) noCoordinates r ⌝ }
-{
-    if f != 0 {
-        return CoordinatesAnswer {
-            refusal: f,
-            at: Coordinates {
-                x: Golden { u: 0, v: 0 },
-                y: Golden { u: 0, v: 0 },
-                z: Golden { u: 0, v: 0 },
-            },
-        };
-    }
-    CoordinatesAnswer {
-        refusal: 0,
-        at: exact_of(ws),
     }
 }

@@ -12,8 +12,7 @@ use Rattle.words.proofs.Codes.{code-passes, code-side}
 use Rattle.words.specs.Refusals.{IsCode}
 use Rattle.words.specs.Words.{digits, side, sideOf}
 use Rattle.words.specs.declared.TriangleCode.{TriangleCode}
-use Rattle.net.specs.Answers.{nameOf}
-use Rattle.net.specs.Corners.{HasCorner, corner}
+use Rattle.net.specs.Corners.{nameOf, HasCorner, corner}
 use Rattle.net.specs.Division.{cornerOf}
 use Rattle.net.specs.Means.Walks.{Place, around, leastName, lesser, lesserBy, nameAt, ringAt, wordAt}
 use Rattle.net.specs.Names.{IsName}

@@ -20,11 +20,8 @@ pub mod Names
 pub mod LeastName
 pub mod RingCodes
 pub mod Canonical
-pub mod Refused
 pub mod Demand3
-pub mod Calls
 pub mod CellSteps
 pub mod StateCode
 pub mod WayBack
-pub mod OneAnswer
 pub mod RingLists

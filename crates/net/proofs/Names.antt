@@ -9,8 +9,7 @@ use Rattle.words.specs.Refusals.{IsCode}
 use Rattle.words.specs.Words.{cornerNumber}
 use Rattle.words.specs.declared.CornerName.{CornerName}
 use Rattle.words.specs.declared.TriangleCode.{TriangleCode}
-use Rattle.net.specs.Answers.{nameOf}
-use Rattle.net.specs.Corners.{HasCorner, codeInside, corner, named}
+use Rattle.net.specs.Corners.{nameOf, HasCorner, codeInside, corner, named}
 use Rattle.net.specs.Division.{Weights}
 use Rattle.net.specs.Names.{IsName}
 use Rattle.net.specs.Sides.{OneToThree}

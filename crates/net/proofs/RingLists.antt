@@ -1,33 +1,22 @@
--- The ring in a lent list: what one place and the rest leave, how many places there are, and the answer of `ring` from its parts. Assumes nothing.
-use mathlib.Core.Path.{_≡_, _∙_, sym, ap, subst}
+-- The ring in a lent list: what one place and the rest leave, and how many places there are. Assumes nothing.
+use mathlib.Core.Path.{_≡_, _∙_, sym, ap}
 use mathlib.Core.List.{List, [], _∷_, _++_, append-nil}
 use Prim.Native.Nat.{ℕ, suc, _+_, _-_, _≤_}
 use native.Mathlib.Omega.{arith}
 use lib.ListN.{length, take, drop, set, drop-of-length-le}
 use lib.Seq.{take-all}
 use borrow.Rule.Slice.PartMut.{putMid}
-use Rattle.words.proofs.Codes.{name-code}
-use Rattle.words.specs.Words.{cornerNumber}
-use Rattle.words.specs.declared.CornerName.{CornerName}
-use Rattle.net.specs.Answers.{RingAnswer, countAnswer, over}
-use Rattle.net.specs.Corners.{codeInside, named}
-use Rattle.net.specs.Division.{Weights, cornerOf}
-use Rattle.net.specs.Means.Paths.{digitsOf}
+use Rattle.net.specs.Refusals.{over}
+use Rattle.net.specs.Division.{cornerOf}
 use Rattle.net.specs.Means.Spreads.{sign}
 use Rattle.net.specs.Means.States.{pointOf, stateOf}
-use Rattle.net.specs.Means.Walks.{IsCell, Place, around, cellOf, placeOf, ringWords, wordAt}
-use Rattle.net.specs.Refusals.{checkName}
-use Rattle.net.specs.Sides.{IsSide, OneToThree}
+use Rattle.net.specs.Means.Walks.{Place, around, ringWords, wordAt}
+use Rattle.net.specs.Sides.{IsSide}
 use Rattle.net.specs.Steps.{nonZeros, ringSize}
-use Rattle.net.specs.declared.Cell.{Cell}
 use Rattle.net.specs.declared.Point.{Point}
-use Rattle.net.proofs.Calls.{answering-lent, cell-corner, cell-place}
-use Rattle.net.proofs.Canonical.{name-means}
-use Rattle.net.proofs.CellSteps.{cell-is, not-zero}
-use Rattle.net.proofs.LeastName.{placeIn, size-low}
+use Rattle.net.proofs.CellSteps.{not-zero}
+use Rattle.net.proofs.LeastName.{size-low}
 use Rattle.net.proofs.Loads.{corner-is}
-use Rattle.net.proofs.Refused.{ring-passes}
-use Rattle.net.proofs.RingCodes.{ring-is, ring-length}
 use Rattle.net.proofs.Rings.{non-zero, non-zeros, nonZero}
 
 -- ---- the words, place by place
@@ -68,32 +57,5 @@ countOf p = ringSize (sign (p .w1) + sign (p .w2) + sign (p .w3))
 pub count-most : (p : Point) {m : ℕ} → m ≡ countOf p → m ≤ 6
 count-most p e = rw e (size-low (sign (p .w1) + sign (p .w2) + sign (p .w3)))
 
-count-is : (s : ℕ) (ds : List ℕ) (i : ℕ) → IsSide s → ringSize (nonZeros (cornerOf s ds i)) ≡ countOf (pointOf i (stateOf ds))
+pub count-is : (s : ℕ) (ds : List ℕ) (i : ℕ) → IsSide s → ringSize (nonZeros (cornerOf s ds i)) ≡ countOf (pointOf i (stateOf ds))
 count-is s ds i h = ap ringSize (sym (non-zeros (cornerOf s ds i)) ∙ ap nonZero (corner-is s ds i) ∙ non-zero s (pointOf i (stateOf ds)) h)
-
--- ---- the answer
-
-module _ (r : CornerName) (z : checkName r ≡ 0) (d : Cell) (is : d ≡ cellOf (codeInside r)) where
-  abbrev i : ℕ
-  i = cornerNumber (r .0)
-
-  -- the cell inside a name that passes, and its corner number
-  pub name-cell : IsCell d
-  name-cell = subst IsCell (sym is) (cell-is (codeInside r) (name-code r (name-means r .0 z .0) .passes))
-
-  pub name-number : OneToThree i
-  name-number = name-means r .0 z .1 .number
-
-  pub ring-answers : (out new : List ℕ) (p : Point) (m : ℕ) → 6 ≤ length out → p ≡ pointOf i (stateOf (digitsOf (d .degree) (d .path)))
-      → m ≡ countOf p → new ≡ over (ringWords m (placeOf (d .side) (d .degree) (d .path) i)) out → RingAnswer r out (countAnswer 0 m) new
-  ring-answers out new p m l f e put =
-      let q : placeOf (d .side) (d .degree) (d .path) i ≡ placeIn (codeInside r) i = ap (λ (d : Cell). placeOf (d .side) (d .degree) (d .path) i) is ∙ cell-place (codeInside r) i in
-      let size : m ≡ ringSize (nonZeros (named r)) =
-      e ∙ ap countOf f ∙ sym (count-is (d .side) (digitsOf (d .degree) (d .path)) i (name-cell .a-side)) ∙ ap (λ (P : Weights). ringSize (nonZeros P)) (cell-corner (codeInside r) i d is) in
-      let ws = ringWords (ringSize (nonZeros (named r))) (placeIn (codeInside r) i) in
-      answering-lent (ring-passes r out .1 (z, l)) (record {
-        list = ws;
-        good = ring-is r (name-means r .0 z .1 .code) name-number;
-        count = ap (countAnswer 0) (size ∙ sym (ring-length _ _));
-        put = put ∙ (λ j. over (ringWords (size j) (q j)) out);
-      })

@@ -16,12 +16,11 @@ use Rattle.words.specs.Words.{path}
 use Rattle.words.specs.Refusals.{_either_}
 use Rattle.words.proofs.Digits.{AreDigits, more, none}
 use Rattle.words.proofs.Refusing.{either-left, either-right}
-use Rattle.net.specs.Answers.{over}
+use Rattle.net.specs.Refusals.{over, everyBelow, isCornerOf, onOneSide, onSide}
 use Rattle.net.specs.Division.{cornerOf, load, sum, vertices}
 use Rattle.net.specs.Means.Paths.{digitsOf, pathUp}
 use Rattle.net.specs.Means.Spreads.{pointIn, spread, weightAt}
 use Rattle.net.specs.Means.States.{Low, halves, lastOf, parity, point, pointOf, stateOf, step}
-use Rattle.net.specs.Refusals.{everyBelow, isCornerOf, onOneSide, onSide}
 use Rattle.net.specs.Sides.{IsSide, OneToThree, cornerVertex}
 use Rattle.net.specs.Steps.{ringSize}
 use Rattle.net.specs.declared.Point.{Point}

@@ -23,3 +23,6 @@ codeInside r = codeOf (words.inside (r .0))
 
 abbrev pub named : CornerName → Weights
 named r = corner (codeInside r) (cornerNumber (r .0))
+
+abbrev pub nameOf : ℕ → CornerName
+nameOf w = record { 0 = w }

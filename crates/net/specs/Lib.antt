@@ -5,6 +5,5 @@ pub mod Corners
 pub mod Names
 pub mod Steps
 pub mod Refusals
-pub mod Answers
 -- What the code is proved by, and no promise: see there.
 pub mod Means

@@ -1,11 +1,11 @@
--- Document 01, 'Refusal numbers': rows 5 of an edge or corner, 9, 10 and 11, and the refusal of each call, a line each. Assumes nothing.
+-- Document 01, 'Refusal numbers': rows 5 of an edge or corner, 9, 10 and 11, and what is left in a lent list. Assumes nothing.
 use Prim.Native.Nat.{ℕ, zero, suc, _+_, _*_, _^_}
 use mathlib.Core.Bool.{Bool, true, false, not, _&&_}
 use mathlib.Core.List.{List, [], _∷_, _++_}
 use lib.Dec.{ltb, leb, eqb}
-use lib.ListN.{length, take}
+use lib.ListN.{length, take, drop}
 use Rattle.words.specs.Words.{degreeOf}
-use Rattle.words.specs.Refusals.{_either_, Row, _when_, refusal, degreeRows, codeRows, nameRows}
+use Rattle.words.specs.Refusals.{_either_, Row, _when_, refusal, nameRows}
 use Rattle.words.specs.Counting.{codeAt}
 use Rattle.words.specs.declared.TriangleCode.{TriangleCode}
 use Rattle.words.specs.declared.CornerName.{CornerName}
@@ -20,6 +20,10 @@ oneToThreeRows k = 5 when (eqb k 0 either ltb 3 k) ∷ []
 -- "9: a lent list is too short: 12 for weights, 6 for triangles"
 abbrev pub listRows : (places : ℕ) → List ℕ → List Row
 listRows n list = 9 when ltb (length list) n ∷ []
+
+-- "A longer list is allowed; only its first 12 or 6 places are used": xs in the first places, and what was there in the later ones
+abbrev pub over : List ℕ → List ℕ → List ℕ
+over xs out = xs ++ drop (length xs) out
 
 -- a test of every number below m
 abbrev pub everyBelow : ℕ → (ℕ → Bool) → Bool
@@ -51,6 +55,10 @@ notCanonical (suc f) r = false
 abbrev pub canonicalRows : CornerName → List Row
 canonicalRows r = nameRows r ++ (10 when notCanonical (refusal (nameRows r)) r ∷ [])
 
+-- "Checking a word, as the one kind or the other, answers only its refusal number."
+unfoldable pub checkName : CornerName → ℕ
+checkName r = refusal (canonicalRows r)
+
 -- each vertex with a non-zero weight is a corner of the side s; the list begins with vertex v
 abbrev pub isCornerOf : (s v : ℕ) → Bool
 isCornerOf s v = eqb v (cornerVertex s 1) either eqb v (cornerVertex s 2) either eqb v (cornerVertex s 3)
@@ -66,24 +74,3 @@ onOneSide p = not (everyBelow 20 (λ i. not (onSide (4 + i) 0 p)))
 -- meant exactly, never wrapped"; "only its first 12 .. places are used"
 abbrev pub weightRows : ℕ → List ℕ → List Row
 weightRows n list = 11 when (not (eqb (sum (take 12 list)) (2 ^ n)) either not (onOneSide (take 12 list))) ∷ []
-
--- ---- the refusal of each call
-
-unfoldable pub checkName : CornerName → ℕ
-checkName r = refusal (canonicalRows r)
-
--- crossing by an edge; naming by a corner number
-unfoldable pub refuseNumbered : TriangleCode → ℕ → ℕ
-refuseNumbered t i = refusal (codeRows t ++ oneToThreeRows i)
-
-unfoldable pub refuseWeights : TriangleCode → ℕ → List ℕ → ℕ
-refuseWeights t i out = refusal (codeRows t ++ oneToThreeRows i ++ listRows 12 out)
-
-unfoldable pub refuseNameWeights : CornerName → List ℕ → ℕ
-refuseNameWeights r out = refusal (canonicalRows r ++ listRows 12 out)
-
-unfoldable pub refuseBack : ℕ → List ℕ → ℕ
-refuseBack n weights = refusal (degreeRows n ++ listRows 12 weights ++ weightRows n weights)
-
-unfoldable pub refuseRing : CornerName → List ℕ → ℕ
-refuseRing r out = refusal (canonicalRows r ++ listRows 6 out)

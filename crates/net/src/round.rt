@@ -5,7 +5,7 @@ ghost use mathlib.Core.Path.{_≡_};
 ghost use Prim.Native.Nat.{_≤_};
 ghost use lib.ListN.{length};
 ghost use Rattle.net.specs.Sides.{OneToThree};
-ghost use Rattle.net.specs.Answers.{over};
+ghost use Rattle.net.specs.Refusals.{over};
 ghost use Rattle.net.specs.Means.Walks.{IsCell, placeOf, ringWords};
 
 // The words of m triangles, from the cell c on, round its corner i, over the front of a list; later places are unchanged.

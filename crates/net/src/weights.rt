@@ -7,7 +7,7 @@ ghost use lib.Dec.{eqb};
 ghost use lib.ListN.{length};
 ghost use Rattle.net.specs.Division.{load};
 ghost use Rattle.net.specs.Steps.{ringSize};
-ghost use Rattle.net.specs.Answers.{over};
+ghost use Rattle.net.specs.Refusals.{over};
 ghost use Rattle.net.specs.Means.Spreads.{weightAt, spread, sign};
 
 // x at the vertex c, and 0 elsewhere.

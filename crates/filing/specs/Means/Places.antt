@@ -5,10 +5,7 @@ use lib.ListN.{length, getD}
 use lib.IntN.{ℤ, pos, negℤ, _+ℤ_}
 use Rattle.golden.specs.Numbers.{Below}
 use Rattle.net.specs.Division.{Weights, sum}
-use Rattle.filing.specs.Drawing.{AreTicks, IsPoint}
 use Rattle.filing.specs.declared.Coordinates.{Coordinates}
-use Rattle.filing.specs.declared.TicksAnswer.{TicksAnswer}
-use Rattle.filing.specs.declared.PointAnswer.{PointAnswer}
 
 -- twelve weights that add to at most 2^24, as those of a corner do
 pub record Twelve (p : Weights) : Type 0 where
@@ -24,12 +21,3 @@ pub record Small (c : Coordinates) : Type 0 where
   pub x : Below (2 ^ 26 + 1) (c .x)
   pub y : Below (2 ^ 26 + 1) (c .y)
   pub z : Below (2 ^ 26 + 1) (c .z)
-
--- answers from exact coordinates
-pub record TickedAt (c : Coordinates) (r : TicksAnswer) : Type 0 where
-  pub number : r .refusal ≡ 0
-  pub are : AreTicks c (r .at)
-
-pub record PointedAt (n : ℕ) (c : Coordinates) (r : PointAnswer) : Type 0 where
-  pub number : r .refusal ≡ 0
-  pub is : IsPoint n c (r .at)

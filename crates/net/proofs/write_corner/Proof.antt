@@ -5,7 +5,7 @@ use mathlib.Core.List.{List}
 use Prim.Native.Nat.{ℕ, _^_}
 use native.Mathlib.Omega.{arith}
 use denote.Ref.{now}
-use Rattle.net.specs.Answers.{over}
+use Rattle.net.specs.Refusals.{over}
 use Rattle.net.specs.Means.States.{stateOf, pointOf, Low}
 use Rattle.net.specs.Means.Paths.{digitsOf}
 use Rattle.net.specs.Means.Spreads.{spread}

@@ -1,2 +1,0 @@
--- The laws that the proofs of `filing_main` cite.
-pub mod SignedNumbers

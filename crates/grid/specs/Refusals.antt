@@ -1,0 +1,34 @@
+-- Document 01, 'Refusal numbers': the refusal of each call, a line each. "Parent, child and crossing take a triangle code. Weights, exact coordinates and
+-- drawn coordinates take a triangle code with a corner number, or a corner name. Naming takes a code with a corner number. The way back takes a
+-- degree and twelve weights, the ring a corner name, filing and listing a degree and a direction." (Checking, parent and child are `checkCode`,
+-- `refuseParent`, `refuseChild` of the crate words; checking a name, and all that takes only a name, is `checkName` of the crate net.) Assumes nothing.
+use Prim.Native.Nat.{ℕ}
+use mathlib.Core.List.{List, _++_}
+use Rattle.words.specs.Refusals.{refusal, degreeRows, codeRows}
+use Rattle.words.specs.declared.TriangleCode.{TriangleCode}
+use Rattle.words.specs.declared.CornerName.{CornerName}
+use Rattle.net.specs.Refusals.{oneToThreeRows, listRows, canonicalRows, weightRows}
+use Rattle.filing.specs.Refusals.{directionRows}
+use Rattle.filing.specs.declared.Direction.{Direction}
+
+-- crossing by an edge; naming, exact coordinates, t and drawn coordinates by a corner number
+unfoldable pub refuseNumbered : TriangleCode → ℕ → ℕ
+refuseNumbered t i = refusal (codeRows t ++ oneToThreeRows i)
+
+unfoldable pub refuseWeights : TriangleCode → ℕ → List ℕ → ℕ
+refuseWeights t i out = refusal (codeRows t ++ oneToThreeRows i ++ listRows 12 out)
+
+unfoldable pub refuseNameWeights : CornerName → List ℕ → ℕ
+refuseNameWeights r out = refusal (canonicalRows r ++ listRows 12 out)
+
+unfoldable pub refuseBack : ℕ → List ℕ → ℕ
+refuseBack n weights = refusal (degreeRows n ++ listRows 12 weights ++ weightRows n weights)
+
+unfoldable pub refuseRing : CornerName → List ℕ → ℕ
+refuseRing r out = refusal (canonicalRows r ++ listRows 6 out)
+
+unfoldable pub refuseFile : ℕ → Direction → ℕ
+refuseFile n d = refusal (degreeRows n ++ directionRows d)
+
+unfoldable pub refuseList : ℕ → Direction → List ℕ → ℕ
+refuseList n d out = refusal (degreeRows n ++ directionRows d ++ listRows 6 out)

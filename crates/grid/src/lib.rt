@@ -1,6 +1,6 @@
-// The grid: every call of document 01, for any number and any lent list. Checking a code, parent and child are methods of `TriangleCode`.
-mod places;
-
+// The grid: every call of document 01, for any number and any lent list. None has a `requires`; each states its complete answer where it is defined.
+//
+// Checking a code, parent and child are methods by value of `TriangleCode`: `check`, `parent`, `child`.
 pub use filing::Coordinates;
 pub use filing::Direction;
 pub use filing::Point;
@@ -9,357 +9,32 @@ pub use golden::Golden;
 pub use words::CodeAnswer;
 pub use words::CornerName;
 pub use words::TriangleCode;
-use net::Cell;
-use net::cells;
-ghost use mathlib.Core.Path.{_≡_};
-ghost use lib.IntN.{natAbs};
-ghost use Rattle.net.specs.Refusals.{checkName};
-ghost use Rattle.grid.specs.Refusals.{refuseNumbered, refuseFile};
-ghost use Rattle.grid.specs.Answers.{CrossAnswer, WeightsAnswer, NameWeightsAnswer, PlaceAnswer, NamePlaceAnswer, TickAnswer, NameTickAnswer, DrawAnswer, NameDrawAnswer, NamingAnswer, BackAnswer, RingAnswer, FileAnswer, ListAnswer};
+pub use corners::CountAnswer;
+pub use corners::NameAnswer;
+pub use corners::StepAnswer;
+pub use points::CoordinatesAnswer;
+pub use points::PointAnswer;
+pub use points::TicksAnswer;
 
-// A neighbour's code and the number of the shared edge there, or a refusal's number with zeros.
-pub struct StepAnswer {
-    pub refusal: u64,
-    pub code: TriangleCode,
-    pub edge: u64,
-}
-
-// A corner name, or a refusal's number with the name 0.
-pub struct NameAnswer {
-    pub refusal: u64,
-    pub name: CornerName,
-}
-
-// How many places of a lent list were written, or a refusal's number with the count 0.
-pub struct CountAnswer {
-    pub refusal: u64,
-    pub count: u64,
-}
-
-// Exact coordinates, or a refusal's number with zeros.
-pub struct CoordinatesAnswer {
-    pub refusal: u64,
-    pub at: Coordinates,
-}
-
-// t on each axis, or a refusal's number with zeros.
-pub struct TicksAnswer {
-    pub refusal: u64,
-    pub at: Ticks,
-}
-
-// A drawn point, or a refusal's number with zeros.
-pub struct PointAnswer {
-    pub refusal: u64,
-    pub at: Point,
-}
-
-// ---- refusals
-
-// Of a code with an edge or corner number: 0, or 1 to 5.
-fn refuse_numbered(t: TriangleCode, i: u64) -> u64
-    ensures { λ r. ⌜ r ≡ refuseNumbered t i ⌝ }
-{
-    let f = t.check();
-    if f != 0 {
-        return f;
-    }
-    if i == 0 {
-        return 5;
-    }
-    if 3 < i {
-        return 5;
-    }
-    0
-}
-
-// |c|.
-fn size(c: i32) -> u64
-    ensures { λ r. ⌜ r ≡ natAbs c ⌝ }
-{
-    golden::magnitude(c as i64)
-}
-
-// Of a degree and a direction: 0, or 1, 8 or 7.
-fn refuse_direction(degree: u64, d: Direction) -> u64
-    ensures { λ r. ⌜ r ≡ refuseFile degree d ⌝ }
-{
-    let x = size(d.x);
-    let y = size(d.y);
-    let z = size(d.z);
-    if 24 < degree {
-        return 1;
-    }
-    if 1000000000 < x {
-        return 8;
-    }
-    if 1000000000 < y {
-        return 8;
-    }
-    if 1000000000 < z {
-        return 8;
-    }
-    if x + y + z == 0 {
-        return 7;
-    }
-    0
-}
-
-// ---- checking
-
-// Checking a word as a corner name: 0, or its refusal 1 to 4 or 10.
-pub fn check_name(r: CornerName) -> u64
-    ensures { λ f. ⌜ f ≡ checkName r ⌝ }
-{
-    let w = r.0;
-    let f = r.check_fields();
-    if f != 0 {
-        return f;
-    }
-    if net::cell_inside(r).least_name(5, w % 4) != w {
-        return 10;
-    }
-    0
-}
-
-// ---- crossing
-
-// Crossing an edge: the neighbour's code and the number of the shared edge there.
-pub fn cross(t: TriangleCode, edge: u64) -> StepAnswer
-    ensures { λ r. ⌜ CrossAnswer t edge r ⌝ }
-{
-    let f = refuse_numbered(t, edge);
-    if f != 0 {
-        return StepAnswer {
-            refusal: f,
-            code: TriangleCode(0),
-            edge: 0,
-        };
-    }
-    let c = cells::cell_of(t);
-    let r = c.neighbour(edge);
-    StepAnswer {
-        refusal: 0,
-        code: TriangleCode(words::word_of(r.side, c.degree, r.path)),
-        edge: r.edge,
-    }
-}
-
-// ---- weights
-
-// The twelve weights of a corner of a triangle, into a list of at least twelve places.
-pub fn weights_of(t: TriangleCode, corner: u64, out: &mut [u64]) -> u64
-    ensures { λ r. ⌜ WeightsAnswer t corner (now (out .entry)) r (now (out .exit)) ⌝ }
-{
-    let f = refuse_numbered(t, corner);
-    if f != 0 {
-        return f;
-    }
-    if out.len() < 12 {
-        return 9;
-    }
-    net::write_corner(cells::cell_of(t), corner, out);
-    0
-}
-
-// The same for the corner that a name names.
-pub fn weights_of_name(r: CornerName, out: &mut [u64]) -> u64
-    ensures { λ f. ⌜ NameWeightsAnswer r (now (out .entry)) f (now (out .exit)) ⌝ }
-{
-    let w = r.0;
-    let f = check_name(r);
-    if f != 0 {
-        return f;
-    }
-    if out.len() < 12 {
-        return 9;
-    }
-    net::write_corner(net::cell_inside(r), w % 4, out);
-    0
-}
-
-// ---- coordinates
-
-// The exact coordinates of a corner of a triangle.
-pub fn coordinates_of(t: TriangleCode, corner: u64) -> CoordinatesAnswer
-    ensures { λ r. ⌜ PlaceAnswer t corner r ⌝ }
-{
-    let mut ws = [0u64; 12];
-    let f = weights_of(t, corner, &mut ws);
-    places::place_answer(f, &ws)
-}
-
-// The same for the corner that a name names.
-pub fn coordinates_of_name(q: CornerName) -> CoordinatesAnswer
-    ensures { λ r. ⌜ NamePlaceAnswer q r ⌝ }
-{
-    let mut ws = [0u64; 12];
-    let f = weights_of_name(q, &mut ws);
-    places::place_answer(f, &ws)
-}
-
-// t on each axis, of a corner of a triangle.
-pub fn ticks_of(t: TriangleCode, corner: u64) -> TicksAnswer
-    ensures { λ r. ⌜ TickAnswer t corner r ⌝ }
-{
-    places::ticks_answer(coordinates_of(t, corner))
-}
-
-// The same for the corner that a name names.
-pub fn ticks_of_name(q: CornerName) -> TicksAnswer
-    ensures { λ r. ⌜ NameTickAnswer q r ⌝ }
-{
-    places::ticks_answer(coordinates_of_name(q))
-}
-
-// The drawn coordinates of a corner of a triangle.
-pub fn drawn_of(t: TriangleCode, corner: u64) -> PointAnswer
-    ensures { λ r. ⌜ DrawAnswer t corner r ⌝ }
-{
-    places::point_answer(words::degree_of(t.0), coordinates_of(t, corner))
-}
-
-// The same for the corner that a name names.
-pub fn drawn_of_name(q: CornerName) -> PointAnswer
-    ensures { λ r. ⌜ NameDrawAnswer q r ⌝ }
-{
-    places::point_answer(words::degree_of(q.0), coordinates_of_name(q))
-}
-
-// ---- names
-
-// The canonical name of a corner of a triangle.
-pub fn name_of(t: TriangleCode, corner: u64) -> NameAnswer
-    ensures { λ r. ⌜ NamingAnswer t corner r ⌝ }
-{
-    let f = refuse_numbered(t, corner);
-    if f != 0 {
-        return NameAnswer {
-            refusal: f,
-            name: CornerName(0),
-        };
-    }
-    NameAnswer {
-        refusal: 0,
-        name: CornerName(cells::cell_of(t).least_name(5, corner)),
-    }
-}
-
-// The way back: the name of the corner of this degree that has the twelve weights.
-pub fn name_back(degree: u64, weights: &[u64]) -> NameAnswer
-    ensures { λ r. ⌜ BackAnswer degree (now (weights .entry)) r ⌝ }
-{
-    let none = CornerName(0);
-    if 24 < degree {
-        return NameAnswer {
-            refusal: 1,
-            name: none,
-        };
-    }
-    if weights.len() < 12 {
-        return NameAnswer {
-            refusal: 9,
-            name: none,
-        };
-    }
-    let total = words::power(degree);
-    if !net::back::adds_to(weights, total) {
-        return NameAnswer {
-            refusal: 11,
-            name: none,
-        };
-    }
-    let s = net::back::side_of(weights, total);
-    if s == 24 {
-        return NameAnswer {
-            refusal: 11,
-            name: none,
-        };
-    }
-    let c = net::back::corner_at(s, degree, net::back::point_on(weights, s));
-    let here = Cell {
-        side: s,
-        degree,
-        path: c.path,
-    };
-    NameAnswer {
-        refusal: 0,
-        name: CornerName(here.least_name(5, c.number)),
-    }
-}
-
-// ---- the ring
-
-// The ring: the triangles round the corner that a name names, into a list of at least six places.
-pub fn ring(r: CornerName, out: &mut [u64]) -> CountAnswer
-    ensures { λ a. ⌜ RingAnswer r (now (out .entry)) a (now (out .exit)) ⌝ }
-{
-    let w = r.0;
-    let f = check_name(r);
-    if f != 0 {
-        return CountAnswer {
-            refusal: f,
-            count: 0,
-        };
-    }
-    if out.len() < 6 {
-        return CountAnswer {
-            refusal: 9,
-            count: 0,
-        };
-    }
-    let c = net::cell_inside(r);
-    let i = w % 4;
-    let m = net::weights::ring_count(net::states::state_of(c.degree, c.path).corner(i));
-    net::round::write_ring(c, i, m, out);
-    CountAnswer {
-        refusal: 0,
-        count: m,
-    }
-}
-
-// ---- filing and listing
-
-// Filing a direction: the least code of the degree that holds it.
-pub fn file(degree: u64, d: Direction) -> CodeAnswer
-    ensures { λ r. ⌜ FileAnswer degree d r ⌝ }
-{
-    let f = refuse_direction(degree, d);
-    if f != 0 {
-        return CodeAnswer {
-            refusal: f,
-            code: TriangleCode(0),
-        };
-    }
-    let h = filing::least::least_side(d, 4);
-    let t = h.dets;
-    let path = filing::descent::descend(degree, t, t.total(), 0);
-    CodeAnswer {
-        refusal: 0,
-        code: TriangleCode(words::word_of(h.side, degree, path)),
-    }
-}
-
-// Listing: all codes of the degree that hold a direction, rising, into a list of at least six places.
-pub fn list(degree: u64, d: Direction, out: &mut [u64]) -> CountAnswer
-    ensures { λ r. ⌜ ListAnswer degree d (now (out .entry)) r (now (out .exit)) ⌝ }
-{
-    let f = refuse_direction(degree, d);
-    if f != 0 {
-        return CountAnswer {
-            refusal: f,
-            count: 0,
-        };
-    }
-    if out.len() < 6 {
-        return CountAnswer {
-            refusal: 9,
-            count: 0,
-        };
-    }
-    let m = filing::walks::list_sides(d, degree, 4, 0, out);
-    CountAnswer {
-        refusal: 0,
-        count: m as u64,
-    }
-}
+// Checking a word as a corner name.
+pub use corners::check_name;
+// Crossing an edge.
+pub use corners::cross;
+// The twelve weights of a corner, of a code with a corner number or of a name.
+pub use corners::weights_of;
+pub use corners::weights_of_name;
+// Its exact coordinates, its t on each axis, its drawn coordinates.
+pub use points::coordinates_of;
+pub use points::coordinates_of_name;
+pub use points::drawn_of;
+pub use points::drawn_of_name;
+pub use points::ticks_of;
+pub use points::ticks_of_name;
+// Naming a corner, and the way back from twelve weights.
+pub use corners::name_back;
+pub use corners::name_of;
+// The ring round a corner.
+pub use corners::ring;
+// Filing a direction, and listing all triangles that hold it.
+pub use directions::file;
+pub use directions::list;

@@ -1,0 +1,218 @@
+-- What the public functions answer, return by return. Assumes nothing.
+use mathlib.Core.Path.{_≡_, _∙_, refl, sym, ap, subst}
+use mathlib.Core.Bool.{Bool, true, false, not}
+use mathlib.Core.List.{List, _++_}
+use Prim.Native.Nat.{ℕ, zero, suc, _+_, _*_, _≤_, _<_, _^_}
+use native.Mathlib.Omega.{arith}
+use lib.Seq.{length-take-le}
+use lib.Dec.{eqb}
+use lib.ListN.{length, take}
+use borrow.Author.Tests.{eqb-true, lt-ltb, le-ltb, eq-eqb}
+use Rattle.words.proofs.Codes.{code-degree, code-side, is-code, name-code, name-passes}
+use Rattle.words.proofs.Digits.{digits-are}
+use Rattle.words.proofs.Refusing.{either-left, either-right, here, next, refuse-after, refuse-before, refuse-first}
+use Rattle.words.specs.Family.{codeOf}
+use Rattle.words.specs.Refusals.{Row, checkCode, checkNameFields, codeRows, degreeRows, nameRows, refusal}
+use Rattle.words.specs.Words.{cornerNumber, degreeOf, digits, path, side, sideOf, wordOf}
+use Rattle.words.specs.declared.CornerName.{CornerName}
+use Rattle.words.specs.declared.TriangleCode.{TriangleCode}
+use Rattle.net.specs.Corners.{nameOf, codeInside, corner, named}
+use Rattle.corners.specs.Answers.{Answer, BackAnswer, CrossAnswer, Lent, NamingAnswer, nameAnswer, stepAnswer}
+use Rattle.net.specs.Division.{cornerOf, sum}
+use Rattle.net.specs.Means.Paths.{digitsOf}
+use Rattle.net.specs.Means.Spreads.{pointIn, spread}
+use Rattle.net.specs.Means.States.{across}
+use Rattle.net.specs.Means.Walks.{Place, cellOf, leastName, packed, placeOf, stepOf}
+use Rattle.net.specs.Names.{IsName}
+use Rattle.net.specs.Refusals.{canonical, canonicalRows, checkName, listRows, notCanonical, onOneSide, onSide, oneToThreeRows, weightRows}
+use Rattle.corners.specs.Refusals.{refuseBack, refuseNameWeights, refuseNumbered, refuseRing, refuseWeights}
+use Rattle.net.specs.Sides.{IsSide, OneToThree}
+use Rattle.net.specs.Steps.{Across}
+use Rattle.net.specs.declared.Cell.{Cell}
+use Rattle.net.specs.declared.Corner.{Corner}
+use Rattle.net.specs.declared.Point.{Point}
+use Rattle.net.specs.declared.Reached.{Reached}
+use Rattle.net.proofs.Canonical.{canonical-is, name-means}
+use Rattle.net.proofs.CodePlaces.{corner-at, digitsIn, in-digits, in-length}
+use Rattle.net.proofs.Crossing.{across-is, codeAcross}
+use Rattle.net.proofs.LeastName.{least-is-name, place-in, placeIn}
+use Rattle.net.proofs.Loads.{sum-spread}
+use Rattle.net.proofs.Names.{one-name}
+use Rattle.net.proofs.Paths.{of-digits, of-length, of-path}
+use Rattle.corners.proofs.Refused.{back-passes, numbered-passes}
+use Rattle.net.proofs.Rings.{At}
+use Rattle.net.proofs.StateCode.{on-one, spread-of}
+use Rattle.net.proofs.Stepping.{step-beside}
+
+-- ---- an answer from its refusal
+
+module _ {A : Type 0} {f : ℕ} {Good : A → Type 0} {zeros : ℕ → A} where
+  -- refusal k was found, and it is not 0
+  pub refusing : {k : ℕ} → k ≡ f → (k ≡ 0 → ⊥) → Answer f Good zeros (zeros k)
+  refusing e no-zero = record { answered = λ z. absurd (no-zero (e ∙ z)); refused = λ n. ap zeros e }
+
+  pub answering : {r : A} → f ≡ 0 → Good r → Answer f Good zeros r
+  answering z g = record { answered = λ e. g; refused = λ n. absurd (n z) }
+
+module _ {A : Type 0} {f : ℕ} {Good : A → List ℕ → Type 0} {zeros : ℕ → A} {out : List ℕ} where
+  pub refusing-lent : {k : ℕ} → k ≡ f → (k ≡ 0 → ⊥) → Lent f Good zeros out (zeros k) out
+  refusing-lent e no-zero = record { answered = λ z. absurd (no-zero (e ∙ z)); refused = λ n. (ap zeros e, refl) }
+
+  pub answering-lent : {r : A} {new : List ℕ} → f ≡ 0 → Good r new → Lent f Good zeros out r new
+  answering-lent z g = record { answered = λ e. g; refused = λ n. absurd (n z) }
+
+-- ---- refusals in turn
+
+module _ (t : TriangleCode) (i : ℕ) where
+  pub numbered-code : {k : ℕ} → k ≡ checkCode t → (k ≡ 0 → ⊥) → k ≡ refuseNumbered t i
+  unfolding refuseNumbered checkCode
+  numbered-code e n = refuse-before (codeRows t) (oneToThreeRows i) tt tt e n
+
+  pub numbered-low : checkCode t ≡ 0 → i ≡ 0 → 5 ≡ refuseNumbered t i
+  unfolding refuseNumbered checkCode
+  numbered-low z e = refuse-after (codeRows t) (oneToThreeRows i) tt tt z (here (either-left _ _ (eq-eqb i 0 e)))
+
+  pub numbered-high : checkCode t ≡ 0 → 3 < i → 5 ≡ refuseNumbered t i
+  unfolding refuseNumbered checkCode
+  numbered-high z h = refuse-after (codeRows t) (oneToThreeRows i) tt tt z (here (either-right (eqb i 0) _ (lt-ltb 3 i h)))
+
+-- ---- a code's cell
+
+pub cell-place : (t : TriangleCode) (i : ℕ) → placeOf (sideOf (t .0)) (degreeOf (t .0)) (path (digitsIn t)) i ≡ placeIn t i
+cell-place t i = λ j. record { side = sideOf (t .0); digits = of-path (digits-are (t .0) (degreeOf (t .0))) j; number = i }
+
+-- ---- crossing
+
+pub cross-answers : (t : TriangleCode) (k : ℕ) (d : Cell) (r : Reached) {w : ℕ} → refuseNumbered t k ≡ 0 → d ≡ cellOf t
+    → r ≡ packed (stepOf k (d .side) (digitsOf (d .degree) (d .path))) → w ≡ wordOf (r .side) (d .degree) (r .path)
+    → CrossAnswer t k (stepAnswer 0 (codeOf w) (r .edge))
+cross-answers t k d r {w} z is e′ f′ =
+    let e : r ≡ packed (stepOf k (sideOf (t .0)) (digitsOf (degreeOf (t .0)) (path (digitsIn t)))) = subst (λ (d : Cell). r ≡ packed (stepOf k (d .side) (digitsOf (d .degree) (d .path)))) is e′ in
+    let f : w ≡ wordOf (r .side) (degreeOf (t .0)) (r .path) = subst (λ (d : Cell). w ≡ wordOf (r .side) (d .degree) (r .path)) is f′ in
+    let p = numbered-passes t k .0 z in
+    let c = is-code t (p .0) in
+    let l = p .1 in
+    let q = stepOf k (sideOf (t .0)) (digitsIn t) in
+    let g : r ≡ packed q = e ∙ ap (λ (ds : List ℕ). packed (stepOf k (sideOf (t .0)) ds)) (of-path (digits-are (t .0) (degreeOf (t .0)))) in
+    let len : length (q .digits) ≡ degreeOf (t .0) = step-beside k (sideOf (t .0)) (digitsIn t) l (code-side c) (in-digits c) .degree ∙ in-length c in
+    let h : w ≡ codeAcross k t .0 = f ∙ (λ i. wordOf (g i .side) (sym len i) (g i .path)) in
+    answering z (record { number = refl; across = subst (λ (x : ℕ). Across (degreeOf (t .0)) t k (codeOf x) (r .edge)) (sym h) (subst (λ (x : ℕ). Across (degreeOf (t .0)) t k (codeAcross k t) x) (sym (ap (λ (x : Reached). x .edge) g)) (across-is c k l)) })
+
+-- ---- names
+
+pub naming-answers : (t : TriangleCode) (i : ℕ) (d : Cell) {w : ℕ} → refuseNumbered t i ≡ 0 → d ≡ cellOf t
+    → w ≡ leastName 5 (placeOf (d .side) (d .degree) (d .path) i) → NamingAnswer t i (nameAnswer 0 (nameOf w))
+naming-answers t i d {w} z is e′ =
+    let e : w ≡ leastName 5 (placeOf (sideOf (t .0)) (degreeOf (t .0)) (path (digitsIn t)) i) = subst (λ (d : Cell). w ≡ leastName 5 (placeOf (d .side) (d .degree) (d .path) i)) is e′ in
+    let p = numbered-passes t i .0 z in
+    let c = is-code t (p .0) in
+    let f : w ≡ leastName 5 (placeIn t i) = e ∙ ap (leastName 5) (cell-place t i) in
+    answering z (record { number = refl; is = subst (λ (x : ℕ). IsName (degreeOf (t .0)) (corner t i) (nameOf x)) (sym f) (least-is-name _ (corner t i) (placeIn t i) (place-in c (p .1)) (code-degree c)) })
+
+-- the least name round the corner that a name names, from the cell inside it
+module _ (r : CornerName) (z : checkNameFields r ≡ 0) (d : Cell) (is : d ≡ cellOf (codeInside r)) where
+  abbrev least : ℕ
+  least = leastName 5 (placeOf (d .side) (d .degree) (d .path) (cornerNumber (r .0)))
+
+  least-name : IsName (degreeOf (r .0)) (named r) (nameOf least)
+  least-name =
+      let c = name-code r z in
+      let p = name-passes r .0 z in
+      let i = cornerNumber (r .0) in
+      let q : placeOf (d .side) (d .degree) (d .path) i ≡ placeIn (codeInside r) i = ap (λ (d : Cell). placeOf (d .side) (d .degree) (d .path) i) is ∙ cell-place (codeInside r) i in
+      subst (λ (q : Place). IsName (degreeOf (r .0)) (named r) (nameOf (leastName 5 q))) (sym q)
+      (least-is-name _ (named r) (placeIn (codeInside r) i) (place-in c (p .2, p .3)) (code-degree c))
+
+  pub name-ten : (least ≡ r .0 → ⊥) → 10 ≡ checkName r
+  unfolding checkName checkNameFields
+  name-ten n = refuse-after (nameRows r) _ tt tt z (here (not-so (refusal (nameRows r)) z))
+    where
+      no-true : (b : Bool) → (b ≡ true → ⊥) → not b ≡ true
+      no-true true f = absurd (f refl)
+      no-true false f = refl
+
+      not-so : (f : ℕ) → f ≡ 0 → notCanonical f r ≡ true
+      not-so zero e = no-true (canonical r) (λ e. n (ap (λ (q : CornerName). q .0) (one-name least-name (canonical-is r z .0 e))))
+      not-so (suc f) e = absurd (omega arith)
+
+  pub name-passing : least ≡ r .0 → 0 ≡ checkName r
+  name-passing e = sym (name-means r .1 (z, subst (λ (w : ℕ). IsName (degreeOf (r .0)) (named r) (nameOf w)) e least-name))
+
+pub name-first : (r : CornerName) {k : ℕ} → k ≡ checkNameFields r → (k ≡ 0 → ⊥) → k ≡ checkName r
+unfolding checkName checkNameFields
+name-first r e n = refuse-before (nameRows r) _ tt tt e n
+
+-- ---- lists
+
+pub weights-first : (t : TriangleCode) (i : ℕ) (out : List ℕ) {k : ℕ} → k ≡ refuseNumbered t i → (k ≡ 0 → ⊥) → k ≡ refuseWeights t i out
+unfolding refuseNumbered refuseWeights
+weights-first t i out e n = refuse-before (codeRows t ++ oneToThreeRows i) (listRows 12 out) tt tt e n
+
+pub weights-nine : (t : TriangleCode) (i : ℕ) (out : List ℕ) → refuseNumbered t i ≡ 0 → length out < 12 → 9 ≡ refuseWeights t i out
+unfolding refuseNumbered refuseWeights
+weights-nine t i out z h = refuse-after (codeRows t ++ oneToThreeRows i) (listRows 12 out) tt tt z (here (lt-ltb (length out) 12 h))
+
+module _ (r : CornerName) (out : List ℕ) where
+  pub name-weights-first : {k : ℕ} → k ≡ checkName r → (k ≡ 0 → ⊥) → k ≡ refuseNameWeights r out
+  unfolding checkName refuseNameWeights
+  name-weights-first e n = refuse-before (canonicalRows r) (listRows 12 out) tt tt e n
+
+  pub name-weights-nine : checkName r ≡ 0 → length out < 12 → 9 ≡ refuseNameWeights r out
+  unfolding checkName refuseNameWeights
+  name-weights-nine z h = refuse-after (canonicalRows r) (listRows 12 out) tt tt z (here (lt-ltb (length out) 12 h))
+
+  pub ring-first : {k : ℕ} → k ≡ checkName r → (k ≡ 0 → ⊥) → k ≡ refuseRing r out
+  unfolding checkName refuseRing
+  ring-first e n = refuse-before (canonicalRows r) (listRows 6 out) tt tt e n
+
+  pub ring-nine : checkName r ≡ 0 → length out < 6 → 9 ≡ refuseRing r out
+  unfolding checkName refuseRing
+  ring-nine z h = refuse-after (canonicalRows r) (listRows 6 out) tt tt z (here (lt-ltb (length out) 6 h))
+
+-- the weights of a cell's corner are those of the code's
+pub cell-corner : (t : TriangleCode) (i : ℕ) (d : Cell) → d ≡ cellOf t → cornerOf (d .side) (digitsOf (d .degree) (d .path)) i ≡ corner t i
+cell-corner t i d is = ap (λ (d : Cell). cornerOf (d .side) (digitsOf (d .degree) (d .path)) i) is ∙ ap (λ (ds : List ℕ). cornerOf (sideOf (t .0)) ds i) (of-path (digits-are (t .0) (degreeOf (t .0)))) ∙ sym (corner-at t i)
+
+-- ---- the way back
+
+module _ (n : ℕ) (weights : List ℕ) where
+  abbrev rows : List Row
+  rows = degreeRows n ++ listRows 12 weights ++ weightRows n weights
+
+  pub back-one-refused : 24 < n → 1 ≡ refuseBack n weights
+  unfolding refuseBack
+  back-one-refused h = refuse-first rows tt (here (lt-ltb 24 n h))
+
+  pub back-nine : n ≤ 24 → length weights < 12 → 9 ≡ refuseBack n weights
+  unfolding refuseBack
+  back-nine h l = refuse-first rows tt (next (le-ltb 24 n h) (here (lt-ltb (length weights) 12 l)))
+
+  module _ (h : n ≤ 24) (l : 12 ≤ length weights) where
+    pub back-sum : eqb (sum (take 12 weights)) (2 ^ n) ≡ false → 11 ≡ refuseBack n weights
+    unfolding refuseBack
+    back-sum e = refuse-first rows tt (next (le-ltb 24 n h) (next (le-ltb (length weights) 12 l) (here (either-left _ _ (ap not e)))))
+
+    pub back-side : onOneSide (take 12 weights) ≡ false → 11 ≡ refuseBack n weights
+    unfolding refuseBack
+    back-side e = refuse-first rows tt (next (le-ltb 24 n h) (next (le-ltb (length weights) 12 l) (here (either-right (not (eqb (sum (take 12 weights)) (2 ^ n))) _ (ap not e)))))
+
+-- the name of the corner with twelve weights, from the side that they lie on and a triangle there that has the corner
+pub back-answers : (n : ℕ) (weights : List ℕ) (s : ℕ) (k : Corner) (p : Point) {w : ℕ} → n ≤ 24 → 12 ≤ length weights → eqb (sum (take 12 weights)) (2 ^ n) ≡ true
+    → IsSide s → onSide s 0 (take 12 weights) ≡ true → p ≡ pointIn s (take 12 weights)
+    → (k .path < 2 ^ (2 * n)) × OneToThree (k .number) × (cornerOf s (digitsOf n (k .path)) (k .number) ≡ spread s p)
+    → w ≡ leastName 5 (placeOf s n (k .path) (k .number)) → BackAnswer n weights (nameAnswer 0 (nameOf w))
+back-answers n weights s k p {w} h l e hs on is found eq =
+    let ws = take 12 weights in
+    let twelve : length ws ≡ 12 = length-take-le 12 weights l in
+    let there : spread s p ≡ ws = ap (spread s) is ∙ spread-of s ws hs twelve on in
+    let a : At n ws (placeOf s n (k .path) (k .number)) =
+    record { a-side = hs; the-digits = of-digits n (k .path); degree = of-length n (k .path); a-number = found .1; corner = found .2 ∙ there } in
+    answering (back-passes n weights .1 (h, l, eqb-true _ _ e, on-one ws s hs on))
+    (record { number = refl; is = subst (λ (x : ℕ). IsName n ws (nameOf x)) (sym eq) (least-is-name n ws (placeOf s n (k .path) (k .number)) a h) })
+
+-- the three weights of a side on which all twelve lie add to their sum
+pub back-total : (n : ℕ) (weights : List ℕ) (s : ℕ) (p : Point) → 12 ≤ length weights → eqb (sum (take 12 weights)) (2 ^ n) ≡ true → IsSide s
+    → onSide s 0 (take 12 weights) ≡ true → p ≡ pointIn s (take 12 weights) → p .w1 + p .w2 + p .w3 ≡ 2 ^ n
+back-total n weights s p l e hs on is =
+    let ws = take 12 weights in
+    sym (sum-spread s p hs) ∙ ap sum (ap (spread s) is ∙ spread-of s ws hs (length-take-le 12 weights l) on) ∙ eqb-true _ _ e

@@ -1,0 +1,69 @@
+-- When each call refuses nothing, and the answers of the calls from their parts. Assumes nothing.
+use mathlib.Core.Path.{_≡_, ap}
+use mathlib.Core.Logic.{_↔_}
+use mathlib.Core.Bool.{true, not}
+use mathlib.Core.List.{List, _++_}
+use Prim.Native.Nat.{ℕ, _≤_, _^_}
+use native.Mathlib.Nat.{pos-of-ne-zero}
+use native.Mathlib.Omega.{arith}
+use lib.ListN.{length, take}
+use borrow.Author.Tests.{ltb-false, eqb-false, eqb-true, le-ltb, ne-eqb, eq-eqb, not-false}
+use Rattle.words.proofs.Refusing.{NoneSo, either-false, none-after, none-so}
+use Rattle.words.specs.Refusals.{checkCode, codeRows, degreeRows}
+use Rattle.words.specs.declared.CornerName.{CornerName}
+use Rattle.words.specs.declared.TriangleCode.{TriangleCode}
+use Rattle.net.specs.Division.{sum}
+use Rattle.net.specs.Refusals.{canonicalRows, checkName, listRows, onOneSide, oneToThreeRows, weightRows}
+use Rattle.corners.specs.Refusals.{refuseBack, refuseNameWeights, refuseNumbered, refuseRing, refuseWeights}
+use Rattle.net.specs.Sides.{OneToThree}
+
+one-to-three : (k : ℕ) → NoneSo (oneToThreeRows k) ↔ OneToThree k
+one-to-three k = (
+  λ n. let e = either-false _ _ .0 (n .0) in (pos-of-ne-zero (eqb-false k 0 (e .0)), ltb-false 3 k (e .1)),
+  λ l. (either-false _ _ .1 (ne-eqb k 0 (λ e. omega (arith, l .0)), le-ltb 3 k (l .1)), tt),
+)
+
+pub numbered-passes : (t : TriangleCode) (k : ℕ) → (refuseNumbered t k ≡ 0) ↔ ((checkCode t ≡ 0) × OneToThree k)
+unfolding refuseNumbered checkCode
+numbered-passes t k = (
+  λ e. let n = none-after (codeRows t) _ tt tt .0 e in (n .0, one-to-three k .0 (n .1)),
+  λ p. none-after (codeRows t) _ tt tt .1 (p .0, one-to-three k .1 (p .1)),
+)
+
+long-enough : (n : ℕ) (list : List ℕ) → NoneSo (listRows n list) ↔ (n ≤ length list)
+long-enough n list = (λ e. ltb-false (length list) n (e .0), λ h. (le-ltb (length list) n h, tt))
+
+pub weights-passes : (t : TriangleCode) (i : ℕ) (out : List ℕ) → (refuseWeights t i out ≡ 0) ↔ ((refuseNumbered t i ≡ 0) × (12 ≤ length out))
+unfolding refuseWeights refuseNumbered
+weights-passes t i out = (
+  λ e. let n = none-after (codeRows t ++ oneToThreeRows i) (listRows 12 out) tt tt .0 e in (n .0, long-enough 12 out .0 (n .1)),
+  λ p. none-after (codeRows t ++ oneToThreeRows i) (listRows 12 out) tt tt .1 (p .0, long-enough 12 out .1 (p .1)),
+)
+
+pub name-weights-passes : (r : CornerName) (out : List ℕ) → (refuseNameWeights r out ≡ 0) ↔ ((checkName r ≡ 0) × (12 ≤ length out))
+unfolding refuseNameWeights checkName
+name-weights-passes r out = (
+  λ e. let n = none-after (canonicalRows r) (listRows 12 out) tt tt .0 e in (n .0, long-enough 12 out .0 (n .1)),
+  λ p. none-after (canonicalRows r) (listRows 12 out) tt tt .1 (p .0, long-enough 12 out .1 (p .1)),
+)
+
+pub ring-passes : (r : CornerName) (out : List ℕ) → (refuseRing r out ≡ 0) ↔ ((checkName r ≡ 0) × (6 ≤ length out))
+unfolding refuseRing checkName
+ring-passes r out = (
+  λ e. let n = none-after (canonicalRows r) (listRows 6 out) tt tt .0 e in (n .0, long-enough 6 out .0 (n .1)),
+  λ p. none-after (canonicalRows r) (listRows 6 out) tt tt .1 (p .0, long-enough 6 out .1 (p .1)),
+)
+
+pub back-passes : (n : ℕ) (weights : List ℕ) → (refuseBack n weights ≡ 0) ↔ ((n ≤ 24) × (12 ≤ length weights) × (sum (take 12 weights) ≡ 2 ^ n) × (onOneSide (take 12 weights) ≡ true))
+unfolding refuseBack
+back-passes n weights = (
+  λ e.
+      let x = none-so (degreeRows n ++ listRows 12 weights ++ weightRows n weights) tt .0 e in
+      let y = either-false _ _ .0 (x .1 .1 .0) in
+      (ltb-false 24 n (x .0), ltb-false (length weights) 12 (x .1 .0), eqb-true _ _ (not-false _ (y .0)), not-false _ (y .1)),
+  λ p.
+      none-so (degreeRows n ++ listRows 12 weights ++ weightRows n weights) tt .1 (
+        le-ltb 24 n (p .0),
+        (le-ltb (length weights) 12 (p .1), (either-false _ _ .1 (ap not (eq-eqb _ _ (p .2)), ap not (p .3)), tt)),
+      ),
+)

@@ -1,0 +1,212 @@
+// The calls of document 01 on corners and edges: checking a name, crossing, weights, naming, the way back, the ring.
+use net::Cell;
+use net::cells;
+use words::CornerName;
+use words::TriangleCode;
+ghost use mathlib.Core.Path.{_≡_};
+ghost use Rattle.net.specs.Refusals.{checkName};
+ghost use Rattle.corners.specs.Refusals.{refuseNumbered};
+ghost use Rattle.corners.specs.Answers.{CrossAnswer, WeightsAnswer, NameWeightsAnswer, NamingAnswer, BackAnswer, RingAnswer};
+
+// A neighbour's code and the number of the shared edge there, or a refusal's number with zeros.
+pub struct StepAnswer {
+    pub refusal: u64,
+    pub code: TriangleCode,
+    pub edge: u64,
+}
+
+// A corner name, or a refusal's number with the name 0.
+pub struct NameAnswer {
+    pub refusal: u64,
+    pub name: CornerName,
+}
+
+// How many places of a lent list were written, or a refusal's number with the count 0.
+pub struct CountAnswer {
+    pub refusal: u64,
+    pub count: u64,
+}
+
+// ---- a code with an edge or corner number
+
+// Of a code with an edge or corner number: 0, or 1 to 5.
+fn refuse_numbered(t: TriangleCode, i: u64) -> u64
+    ensures { λ r. ⌜ r ≡ refuseNumbered t i ⌝ }
+{
+    let f = t.check();
+    if f != 0 {
+        return f;
+    }
+    if i == 0 {
+        return 5;
+    }
+    if 3 < i {
+        return 5;
+    }
+    0
+}
+
+// ---- checking
+
+// Checking a word as a corner name: 0, or its refusal 1 to 4 or 10.
+pub fn check_name(r: CornerName) -> u64
+    ensures { λ f. ⌜ f ≡ checkName r ⌝ }
+{
+    let w = r.0;
+    let f = r.check_fields();
+    if f != 0 {
+        return f;
+    }
+    if net::cell_inside(r).least_name(5, w % 4) != w {
+        return 10;
+    }
+    0
+}
+
+// ---- crossing
+
+// Crossing an edge: the neighbour's code and the number of the shared edge there.
+pub fn cross(t: TriangleCode, edge: u64) -> StepAnswer
+    ensures { λ r. ⌜ CrossAnswer t edge r ⌝ }
+{
+    let f = refuse_numbered(t, edge);
+    if f != 0 {
+        return StepAnswer {
+            refusal: f,
+            code: TriangleCode(0),
+            edge: 0,
+        };
+    }
+    let c = cells::cell_of(t);
+    let r = c.neighbour(edge);
+    StepAnswer {
+        refusal: 0,
+        code: TriangleCode(words::word_of(r.side, c.degree, r.path)),
+        edge: r.edge,
+    }
+}
+
+// ---- weights
+
+// The twelve weights of a corner of a triangle, into a list of at least twelve places.
+pub fn weights_of(t: TriangleCode, corner: u64, out: &mut [u64]) -> u64
+    ensures { λ r. ⌜ WeightsAnswer t corner (now (out .entry)) r (now (out .exit)) ⌝ }
+{
+    let f = refuse_numbered(t, corner);
+    if f != 0 {
+        return f;
+    }
+    if out.len() < 12 {
+        return 9;
+    }
+    net::write_corner(cells::cell_of(t), corner, out);
+    0
+}
+
+// The same for the corner that a name names.
+pub fn weights_of_name(r: CornerName, out: &mut [u64]) -> u64
+    ensures { λ f. ⌜ NameWeightsAnswer r (now (out .entry)) f (now (out .exit)) ⌝ }
+{
+    let w = r.0;
+    let f = check_name(r);
+    if f != 0 {
+        return f;
+    }
+    if out.len() < 12 {
+        return 9;
+    }
+    net::write_corner(net::cell_inside(r), w % 4, out);
+    0
+}
+
+// ---- names
+
+// The canonical name of a corner of a triangle.
+pub fn name_of(t: TriangleCode, corner: u64) -> NameAnswer
+    ensures { λ r. ⌜ NamingAnswer t corner r ⌝ }
+{
+    let f = refuse_numbered(t, corner);
+    if f != 0 {
+        return NameAnswer {
+            refusal: f,
+            name: CornerName(0),
+        };
+    }
+    NameAnswer {
+        refusal: 0,
+        name: CornerName(cells::cell_of(t).least_name(5, corner)),
+    }
+}
+
+// The way back: the name of the corner of this degree that has the twelve weights.
+pub fn name_back(degree: u64, weights: &[u64]) -> NameAnswer
+    ensures { λ r. ⌜ BackAnswer degree (now (weights .entry)) r ⌝ }
+{
+    let none = CornerName(0);
+    if 24 < degree {
+        return NameAnswer {
+            refusal: 1,
+            name: none,
+        };
+    }
+    if weights.len() < 12 {
+        return NameAnswer {
+            refusal: 9,
+            name: none,
+        };
+    }
+    let total = words::power(degree);
+    if !net::back::adds_to(weights, total) {
+        return NameAnswer {
+            refusal: 11,
+            name: none,
+        };
+    }
+    let s = net::back::side_of(weights, total);
+    if s == 24 {
+        return NameAnswer {
+            refusal: 11,
+            name: none,
+        };
+    }
+    let c = net::back::corner_at(s, degree, net::back::point_on(weights, s));
+    let here = Cell {
+        side: s,
+        degree,
+        path: c.path,
+    };
+    NameAnswer {
+        refusal: 0,
+        name: CornerName(here.least_name(5, c.number)),
+    }
+}
+
+// ---- the ring
+
+// The ring: the triangles round the corner that a name names, into a list of at least six places.
+pub fn ring(r: CornerName, out: &mut [u64]) -> CountAnswer
+    ensures { λ a. ⌜ RingAnswer r (now (out .entry)) a (now (out .exit)) ⌝ }
+{
+    let w = r.0;
+    let f = check_name(r);
+    if f != 0 {
+        return CountAnswer {
+            refusal: f,
+            count: 0,
+        };
+    }
+    if out.len() < 6 {
+        return CountAnswer {
+            refusal: 9,
+            count: 0,
+        };
+    }
+    let c = net::cell_inside(r);
+    let i = w % 4;
+    let m = net::weights::ring_count(net::states::state_of(c.degree, c.path).corner(i));
+    net::round::write_ring(c, i, m, out);
+    CountAnswer {
+        refusal: 0,
+        count: m,
+    }
+}

@@ -1,0 +1,84 @@
+-- The answers of `file` and `list` from their parts. Assumes nothing.
+use mathlib.Core.Path.{_≡_, refl, ap}
+use mathlib.Core.List.{List, _++_}
+use Prim.Native.Nat.{ℕ, zero, suc, _+_, _≤_, _<_}
+use native.Mathlib.Omega.{arith}
+use lib.ListN.{length, length-append}
+use borrow.Author.Tests.{lt-ltb}
+use Rattle.words.specs.Words.{wordOf}
+use Rattle.words.specs.Family.{codeOf}
+use Rattle.words.specs.Refusals.{degreeRows}
+use Rattle.words.proofs.Refusing.{here, refuse-before, refuse-after}
+use Rattle.net.specs.Refusals.{listRows}
+use Rattle.corners.specs.Answers.{countAnswer}
+use Rattle.directions.specs.Answers.{FileAnswer, ListAnswer}
+use Rattle.corners.proofs.Calls.{answering, answering-lent}
+use Rattle.net.proofs.Flips.{each-length}
+use Rattle.filing.specs.Refusals.{directionRows}
+use Rattle.directions.specs.Refusals.{refuseFile, refuseList}
+use Rattle.filing.specs.Means.Descent.{descent, holders}
+use Rattle.filing.specs.Means.Sides.{sideDets, leastFrom}
+use Rattle.filing.specs.Means.Lists.{joined, Puts, sideWords, allWords}
+use Rattle.filing.specs.declared.Direction.{Direction}
+use Rattle.filing.specs.declared.Determinants.{Determinants}
+use Rattle.directions.proofs.Refused.{allowed, list-passes}
+use Rattle.filing.proofs.LeastSide.{found-code}
+use Rattle.filing.proofs.AtMostSix.{sumSides, at-most-six}
+use Rattle.filing.proofs.NoVertex.{zeroDirection}
+use Rattle.filing.proofs.AllHolders.{all-holders}
+
+-- ---- file
+
+pub filed-answer : (n : ℕ) (d : Direction) (s : ℕ) (t : Determinants) (v w : ℕ) → refuseFile n d ≡ 0
+    → s ≡ leastFrom d 4 → t ≡ sideDets d s → v ≡ descent n t 0 → w ≡ wordOf s n v → FileAnswer n d (record { refusal = 0; code = codeOf w })
+filed-answer n d s t v w z e f g h =
+    answering z (record { number = refl; is = rw (h, g, f, e) (found-code n d (allowed n d z .low)) })
+
+-- ---- list
+
+module _ (n : ℕ) (d : Direction) (out : List ℕ) where
+  pub list-first : {k : ℕ} → k ≡ refuseFile n d → (k ≡ 0 → ⊥) → k ≡ refuseList n d out
+  unfolding refuseFile refuseList
+  list-first e f = refuse-before (degreeRows n ++ directionRows d) (listRows 6 out) tt tt e f
+
+  pub list-nine : refuseFile n d ≡ 0 → length out < 6 → 9 ≡ refuseList n d out
+  unfolding refuseFile refuseList
+  list-nine z h = refuse-after (degreeRows n ++ directionRows d) (listRows 6 out) tt tt z (here (lt-ltb (length out) 6 h))
+
+-- the lists of the sides, one after the other, are as long as they are together
+side-lengths : (m j : ℕ) (f : ℕ → List ℕ) → length (joined m (4 + j) f) + sumSides j (λ s. length (f s)) ≡ sumSides (j + m) (λ s. length (f s))
+unfolding joined sumSides
+side-lengths zero j f = let e : j + 0 ≡ j = omega arith in rw e (omega arith)
+side-lengths (suc m) j f =
+    let e : 4 + suc j ≡ suc (4 + j) = omega arith in
+    let q : j + suc m ≡ suc j + m = omega arith in
+    rw q (omega (arith, length-append (f (4 + j)) (joined m (suc (4 + j)) f), rw e at (side-lengths m (suc j) f)))
+
+sum-same : (m : ℕ) (f g : ℕ → ℕ) → ((s : ℕ) → f s ≡ g s) → sumSides m f ≡ sumSides m g
+unfolding sumSides
+sum-same zero f g h = refl
+sum-same (suc m) f g h = omega (arith, sum-same m f g h, h (4 + m))
+
+pub words-count : (n : ℕ) (d : Direction) → length (allWords d n 4) ≡ sumSides 20 (λ s. length (holders n (sideDets d s) 0))
+unfolding allWords sideWords sumSides
+words-count n d =
+    let l = side-lengths 20 0 (sideWords d n) in
+    let q = sum-same 20 (λ s. length (sideWords d n s)) (λ s. length (holders n (sideDets d s) 0)) (λ s. each-length (wordOf s n) (holders n (sideDets d s) 0)) in
+    omega (arith, l, q)
+
+pub not-zero : (n : ℕ) (d : Direction) → refuseFile n d ≡ 0 → d ≡ zeroDirection → ⊥
+not-zero n d z e = allowed n d z .some (rw e refl)
+
+pub six : (n : ℕ) (d : Direction) → refuseFile n d ≡ 0 → length (allWords d n 4) ≤ 6
+six n d z = omega (arith, at-most-six n d (not-zero n d z), words-count n d)
+
+pub listed-answer : (n : ℕ) (d : Direction) (out : List ℕ) (r : ℕ) (new : List ℕ) → refuseFile n d ≡ 0 → 6 ≤ length out
+    → Puts 0 (allWords d n 4) out r new → ListAnswer n d out (countAnswer 0 r) new
+listed-answer n d out r new z l p =
+    let c : r ≡ length (allWords d n 4) = omega (arith, p .count) in
+    answering-lent (list-passes n d out .1 (z, l)) (record {
+      list = allWords d n 4;
+      good = all-holders n d (allowed n d z .low);
+      count = ap (countAnswer 0) c;
+      put = p .list;
+    })

@@ -1,0 +1,5 @@
+-- The laws that the proofs of `directions` cite, and the crates above.
+pub mod Refused
+pub mod FilingCalls
+pub mod OneFiling
+pub mod FilingExamples

@@ -1,0 +1,87 @@
+// The calls of document 01 on directions: filing one, and listing all triangles that hold it.
+use corners::CountAnswer;
+use filing::Direction;
+use words::CodeAnswer;
+use words::TriangleCode;
+ghost use mathlib.Core.Path.{_≡_};
+ghost use lib.IntN.{natAbs};
+ghost use Rattle.directions.specs.Refusals.{refuseFile};
+ghost use Rattle.directions.specs.Answers.{FileAnswer, ListAnswer};
+
+// |c|.
+fn size(c: i32) -> u64
+    ensures { λ r. ⌜ r ≡ natAbs c ⌝ }
+{
+    golden::magnitude(c as i64)
+}
+
+// Of a degree and a direction: 0, or 1, 8 or 7.
+fn refuse_direction(degree: u64, d: Direction) -> u64
+    ensures { λ r. ⌜ r ≡ refuseFile degree d ⌝ }
+{
+    let x = size(d.x);
+    let y = size(d.y);
+    let z = size(d.z);
+    if 24 < degree {
+        return 1;
+    }
+    if 1000000000 < x {
+        return 8;
+    }
+    if 1000000000 < y {
+        return 8;
+    }
+    if 1000000000 < z {
+        return 8;
+    }
+    if x + y + z == 0 {
+        return 7;
+    }
+    0
+}
+
+// ---- filing and listing
+
+// Filing a direction: the least code of the degree that holds it.
+pub fn file(degree: u64, d: Direction) -> CodeAnswer
+    ensures { λ r. ⌜ FileAnswer degree d r ⌝ }
+{
+    let f = refuse_direction(degree, d);
+    if f != 0 {
+        return CodeAnswer {
+            refusal: f,
+            code: TriangleCode(0),
+        };
+    }
+    let h = filing::least::least_side(d, 4);
+    let t = h.dets;
+    let path = filing::descent::descend(degree, t, t.total(), 0);
+    CodeAnswer {
+        refusal: 0,
+        code: TriangleCode(words::word_of(h.side, degree, path)),
+    }
+}
+
+// Listing: all codes of the degree that hold a direction, rising, into a list of at least six places.
+pub fn list(degree: u64, d: Direction, out: &mut [u64]) -> CountAnswer
+    ensures { λ r. ⌜ ListAnswer degree d (now (out .entry)) r (now (out .exit)) ⌝ }
+{
+    let f = refuse_direction(degree, d);
+    if f != 0 {
+        return CountAnswer {
+            refusal: f,
+            count: 0,
+        };
+    }
+    if out.len() < 6 {
+        return CountAnswer {
+            refusal: 9,
+            count: 0,
+        };
+    }
+    let m = filing::walks::list_sides(d, degree, 4, 0, out);
+    CountAnswer {
+        refusal: 0,
+        count: m as u64,
+    }
+}

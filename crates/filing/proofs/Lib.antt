@@ -30,3 +30,6 @@ pub mod WalkSteps
 pub mod AllHolders
 pub mod Anticlockwise
 pub mod ThroughVertices
+pub mod OnePoint
+pub mod Multipliers
+pub mod MiddleSums

@@ -4,11 +4,10 @@
 use mathlib.Core.Path.{_≡_, refl, sym, _∙_, ap}
 use mathlib.Core.Logic.{⊎-elim}
 use mathlib.Core.List.{List, [], _∷_}
-use Prim.Native.Nat.{ℕ, zero, suc, _*_}
-use native.Mathlib.Omega.{arith}
-use lib.IntN.{ℤ, pos, negsuc, negℤ, natAbs, _+ℤ_, _*ℤ_, zero-*ℤ}
+use Prim.Native.Nat.{ℕ}
+use lib.IntN.{ℤ, pos, negℤ, _+ℤ_, _*ℤ_, zero-*ℤ}
 use Rattle.golden.proofs.IntegerSolver.{ℤ-ring, re}
-use Rattle.golden.proofs.Magnitudes.{abs-mul}
+use Rattle.golden.proofs.Magnitudes.{cancelℤ}
 use Rattle.golden.proofs.RingSolver.{reify, done}
 use Rattle.golden.specs.Numbers.{whole, _+φ_, negφ, _*φ_}
 use Rattle.golden.specs.declared.Golden.{Golden}
@@ -58,23 +57,12 @@ module _ (d a b c : Direction) where
   cramer-z : detℤ a b c *ℤ d .z ≡ along-row (λ w. w .z)
   cramer-z = reify ℤ-ring env (λ σ x. simp (x 0, x 1, x 2, x 3, x 4, x 5, x 6, x 7, x 8, x 9, x 10, x 11, re) (done ℤ-ring σ _ _ refl))
 
-zero-abs : (x : ℤ) → natAbs x ≡ 0 → x ≡ pos 0
-zero-abs (pos a) e = ap pos e
-zero-abs (negsuc a) e = absurd (omega arith)
-
-no-divisors : (m x : ℕ) → (m ≡ 0 → ⊥) → m * x ≡ 0 → x ≡ 0
-no-divisors zero x n e = absurd (n refl)
-no-divisors (suc m) x n e = omega arith
-
-cancel : (m x : ℤ) → (m ≡ pos 0 → ⊥) → m *ℤ x ≡ pos 0 → x ≡ pos 0
-cancel m x n e = zero-abs x (no-divisors (natAbs m) (natAbs x) (λ z. n (zero-abs m z)) (sym (abs-mul m x) ∙ ap natAbs e))
-
 -- three independent rows leave only the origin
 only-origin : (d a b c : Direction) → (detℤ a b c ≡ pos 0 → ⊥) → dotℤ d a ≡ pos 0 → dotℤ d b ≡ pos 0 → dotℤ d c ≡ pos 0 → d ≡ zeroDirection
 only-origin d a b c n p q r = λ i. record {
-  x = cancel m (d .x) n (cramer-x d a b c ∙ simp (p, q, r, zero-*ℤ)) i;
-  y = cancel m (d .y) n (cramer-y d a b c ∙ simp (p, q, r, zero-*ℤ)) i;
-  z = cancel m (d .z) n (cramer-z d a b c ∙ simp (p, q, r, zero-*ℤ)) i;
+  x = cancelℤ m (d .x) n (cramer-x d a b c ∙ simp (p, q, r, zero-*ℤ)) i;
+  y = cancelℤ m (d .y) n (cramer-y d a b c ∙ simp (p, q, r, zero-*ℤ)) i;
+  z = cancelℤ m (d .z) n (cramer-z d a b c ∙ simp (p, q, r, zero-*ℤ)) i;
 }
   where
     m : ℤ

@@ -20,7 +20,8 @@ use Rattle.golden.proofs.IntegerOrder.{le-or-ltℤ, le-antisym, split, 
 use Rattle.golden.proofs.Magnitudes.{abs-above, pos-abs, neg-of-abs}
 use Rattle.golden.proofs.GoldenRing.{φ-path, φ-ring, scale, of-addφ}
 use Rattle.golden.proofs.GoldenOrder.{nonneg-by, add-nonneg, antisym, nonNeg, is-nonneg, not-nonneg, nonneg-or-not}
-use Rattle.golden.proofs.GoldenProduct.{whole-nonneg, *φ-nonneg, divide-nonneg}
+use Rattle.golden.proofs.GoldenProduct.{whole-nonneg, *φ-nonneg}
+use Rattle.golden.proofs.Quotients.{divide-nonneg}
 
 -- ---- the greatest
 

@@ -1,24 +1,21 @@
 -- The product of two numbers u + vφ that are at least 0 is at least 0. Assumes nothing.
-use mathlib.Core.Path.{_≡_, refl, sym, _∙_, ap}
+use mathlib.Core.Path.{_≡_, refl}
 use mathlib.Core.Logic.{_⊎_, inl, inr, ⊎-elim}
 use mathlib.Core.List.{[], _∷_}
 use Prim.Native.Nat.{ℕ, suc, _*_, _≤_}
-use native.Mathlib.Nat.{mul-le-mul, mul-le-mul-right}
+use native.Mathlib.Nat.{mul-le-mul}
 use native.Mathlib.Omega.{arith}
 use lib.IntN.{ℤ, pos, negsuc, natAbs, _+ℤ_, _-ℤ_, _*ℤ_, +ℤ-comm}
 use lib.Signed.{_≤ℤ_, _<ℤ_}
 use Rattle.golden.specs.declared.Golden.{Golden}
-use Rattle.golden.specs.Numbers.{whole, negφ, _*φ_}
+use Rattle.golden.specs.Numbers.{whole, _*φ_}
 use Rattle.golden.specs.Order.{Sign, wOf, NonNeg}
-use Rattle.golden.proofs.Polynomials.{var, ⊖, _⊗_}
-use Rattle.golden.proofs.RingSolver.{solve, reify, done}
+use Rattle.golden.proofs.RingSolver.{reify, done}
 use Rattle.golden.proofs.IntegerSolver.{ℤ-ring, re, re-lit}
 use Rattle.golden.proofs.IntegerOrder.{zarith, le-or-ltℤ, mul-nonneg, sub-nonneg, le-by, sub-ind}
 use Rattle.golden.proofs.RootFive.{le-of-sq, cross-ge, cross-le}
 use Rattle.golden.proofs.Magnitudes.{abs-mul, pos-abs}
-use Rattle.golden.proofs.GoldenRing.{φ-path, φ-ring, scale}
 use Rattle.golden.proofs.Signs.{to-squares, of-squares, squares-half}
-use Rattle.golden.proofs.GoldenOrder.{nonneg-by, total, antisym}
 
 -- the sign by one comparison of squares
 abbrev Alt : ℤ → ℤ → Type 0
@@ -129,25 +126,3 @@ pub *φ-nonneg : (x y : Golden) → NonNeg x → NonNeg y → NonNeg (x *φ y)
 -- a whole number from 0 up
 pub whole-nonneg : (n : ℕ) → NonNeg (whole (pos n))
 whole-nonneg n = Sign.both (omega zarith) (omega zarith)
-
-one-le : (k : ℕ) → 1 ≤ suc k
-one-le k = omega arith
-
--- k times x is at least 0 only where x is, for k above 0
-pub divide-nonneg : (k : ℕ) (x : Golden) → NonNeg (whole (pos (suc k)) *φ x) → NonNeg x
-divide-nonneg k x h = ⊎-elim (λ n. n) (λ n. nought (antisym _ h (nonneg-by minus (*φ-nonneg _ _ (whole-nonneg (suc k)) n)))) (total x)
-  where
-    minus : whole (pos (suc k)) *φ negφ x ≡ negφ (whole (pos (suc k)) *φ x)
-    minus = solve φ-ring (whole (pos (suc k)) ∷ x ∷ []) (var 0 ⊗ ⊖ (var 1)) (⊖ (var 0 ⊗ var 1)) refl
-
-    nil : (a : ℤ) → natAbs a ≡ 0 → a ≡ pos 0
-    nil (pos n) e = ap pos e
-    nil (negsuc n) e = absurd (omega arith)
-
-    part : (a : ℤ) → pos (suc k) *ℤ a ≡ pos 0 → a ≡ pos 0
-    part a e = nil a (omega (arith, sym (abs-mul (pos (suc k)) a) ∙ ap natAbs e, mul-le-mul-right (natAbs a) (one-le k)))
-
-    nought : ((whole (pos (suc k)) *φ x) .u ≡ pos 0) × ((whole (pos (suc k)) *φ x) .v ≡ pos 0) → NonNeg x
-    nought z =
-        let p : x ≡ whole (pos 0) = φ-path (part (x .u) (sym (ap (λ (y : Golden). y .u) (scale (pos (suc k)) x)) ∙ z .0)) (part (x .v) (sym (ap (λ (y : Golden). y .v) (scale (pos (suc k)) x)) ∙ z .1)) in
-        nonneg-by (sym p) (whole-nonneg 0)

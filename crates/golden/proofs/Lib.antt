@@ -11,5 +11,6 @@ pub mod Signs
 pub mod GoldenRing
 pub mod GoldenOrder
 pub mod GoldenProduct
+pub mod Quotients
 pub mod Floors
 pub mod Examples

@@ -1,5 +1,5 @@
 -- The size of an integer. Assumes nothing.
-use mathlib.Core.Path.{_≡_, refl, ap}
+use mathlib.Core.Path.{_≡_, refl, sym, _∙_, ap}
 use Prim.Native.Nat.{ℕ, zero, suc, _+_, _*_, _≤_, _<_}
 use native.Mathlib.Omega.{arith}
 use lib.IntN.{ℤ, pos, negsuc, negℤ, natAbs, subℕ, _+ℤ_, _-ℤ_, _*ℤ_}
@@ -41,3 +41,15 @@ neg-of-abs (negsuc n) h = refl
 pub abs-above : (x : ℤ) → x <ℤ pos 0 → 0 < natAbs x
 abs-above (pos n) h = let z : ⊥ = omega zarith in absurd z
 abs-above (negsuc n) h = omega arith
+
+pub zero-abs : (x : ℤ) → natAbs x ≡ 0 → x ≡ pos 0
+zero-abs (pos a) e = ap pos e
+zero-abs (negsuc a) e = absurd (omega arith)
+
+-- a product of whole numbers is 0 only where one of them is
+no-divisors : (m x : ℕ) → (m ≡ 0 → ⊥) → m * x ≡ 0 → x ≡ 0
+no-divisors zero x n e = absurd (n refl)
+no-divisors (suc m) x n e = omega arith
+
+pub cancelℤ : (m x : ℤ) → (m ≡ pos 0 → ⊥) → m *ℤ x ≡ pos 0 → x ≡ pos 0
+cancelℤ m x n e = zero-abs x (no-divisors (natAbs m) (natAbs x) (λ z. n (zero-abs m z)) (sym (abs-mul m x) ∙ ap natAbs e))

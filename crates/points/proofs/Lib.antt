@@ -2,3 +2,4 @@
 pub mod PlaceCalls
 pub mod OnePlace
 pub mod PlaceExamples
+pub mod DrawnBits

@@ -3,8 +3,8 @@ use Rattle.golden.specs.Numbers.{whole, _+φ_, negφ, _*φ_}
 use Rattle.golden.specs.Order.{NonNeg}
 use Rattle.golden.specs.declared.Golden.{Golden}
 use Rattle.words.specs.declared.TriangleCode.{TriangleCode}
-use Rattle.net.specs.Division.{Triangle, triangle}
-use Rattle.net.specs.Corners.{corner}
+use Rattle.net.specs.Division.{Triangle}
+use Rattle.net.specs.Corners.{triangleOf}
 use Rattle.filing.specs.Coordinates.{coordinates, exact}
 use Rattle.filing.specs.declared.Coordinates.{Coordinates}
 use Rattle.filing.specs.declared.Direction.{Direction}
@@ -46,4 +46,4 @@ pub record AllNonNeg (D : Determinants) : Type 0 where
 
 -- "A closed triangle holds it"
 abbrev pub Holds : TriangleCode → Direction → Type 0
-Holds t d = AllNonNeg (determinants (along d) (triangle (corner t 1) (corner t 2) (corner t 3)))
+Holds t d = AllNonNeg (determinants (along d) (triangleOf t))

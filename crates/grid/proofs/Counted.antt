@@ -15,8 +15,7 @@ use Rattle.words.specs.Refusals.{IsCode}
 use Rattle.words.specs.Words.{cornerNumber, digits, sideOf}
 use Rattle.words.specs.declared.CornerName.{CornerName}
 use Rattle.words.specs.declared.TriangleCode.{TriangleCode}
-use Rattle.net.specs.Answers.{nameOf}
-use Rattle.net.specs.Corners.{codeInside, named}
+use Rattle.net.specs.Corners.{nameOf, codeInside, named}
 use Rattle.net.specs.Division.{Weights, cornerOf, kept, triangleAt, unitAt}
 use Rattle.net.specs.Names.{IsName}
 use Rattle.net.specs.Sides.{IsSide, OneToThree, cornerVertex}

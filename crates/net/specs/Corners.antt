@@ -7,11 +7,15 @@ use Rattle.words.specs.Family.{codeOf}
 use Rattle.words.specs.declared.TriangleCode.{TriangleCode}
 use Rattle.words.specs.declared.CornerName.{CornerName}
 use Rattle.net.specs.Sides.{OneToThree}
-use Rattle.net.specs.Division.{Weights, cornerOf}
+use Rattle.net.specs.Division.{Weights, Triangle, triangle, cornerOf}
 
 -- The weights of corner i of a triangle code.
 unfoldable pub corner : TriangleCode → ℕ → Weights
 corner t i = cornerOf (sideOf (t .0)) (digits (t .0) (degreeOf (t .0))) i
+
+-- Its three corners together.
+abbrev pub triangleOf : TriangleCode → Triangle
+triangleOf t = triangle (corner t 1) (corner t 2) (corner t 3)
 
 -- p is a corner of the triangle t. ("Two corners of one degree are the same point exactly when all twelve weights agree.")
 abbrev pub HasCorner : TriangleCode → Weights → Type 0

@@ -5,3 +5,4 @@ pub mod EdgeHalves
 pub mod Middles
 pub mod CornerSteps
 pub mod Counted
+pub mod Demands

@@ -14,7 +14,6 @@ use Rattle.words.specs.declared.CodeAnswer.{CodeAnswer}
 use Rattle.net.specs.Sides.{OneToThree, next, prev, cornerVertex}
 use Rattle.net.specs.Division.{Weights, unitAt, triangle, divide}
 use Rattle.net.specs.Corners.{corner, triangleOf, HasCorner, named}
-use Rattle.net.specs.Names.{IsName}
 use Rattle.net.specs.Steps.{Across}
 use Rattle.net.specs.Refusals.{checkName}
 use Rattle.filing.specs.Coordinates.{exact}

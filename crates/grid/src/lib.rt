@@ -1,20 +1,20 @@
 // The grid: every call of document 01, for any number and any lent list. None has a `requires`; each states its complete answer where it is defined.
 //
 // Checking a code, parent and child are methods by value of `TriangleCode`: `check`, `parent`, `child`.
+pub use corners::CountAnswer;
+pub use corners::NameAnswer;
+pub use corners::StepAnswer;
 pub use filing::Coordinates;
 pub use filing::Direction;
 pub use filing::Point;
 pub use filing::Ticks;
 pub use golden::Golden;
-pub use words::CodeAnswer;
-pub use words::CornerName;
-pub use words::TriangleCode;
-pub use corners::CountAnswer;
-pub use corners::NameAnswer;
-pub use corners::StepAnswer;
 pub use points::CoordinatesAnswer;
 pub use points::PointAnswer;
 pub use points::TicksAnswer;
+pub use words::CodeAnswer;
+pub use words::CornerName;
+pub use words::TriangleCode;
 
 // Checking a word as a corner name.
 pub use corners::check_name;

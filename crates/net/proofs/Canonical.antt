@@ -9,7 +9,7 @@ use native.Mathlib.Omega.{arith}
 use lib.Dec.{eqb, leb}
 use borrow.Author.Tests.{eqb-true, eq-eqb, leb-true, le-leb}
 use Rattle.words.proofs.CodeCount.{code-at, code-place}
-use Rattle.words.proofs.Codes.{code-degree, name-code, name-passes}
+use Rattle.words.proofs.Codes.{code-degree, code-name, name-code, name-passes}
 use Rattle.words.proofs.Refusing.{none-after}
 use Rattle.words.specs.Counting.{codeAt}
 use Rattle.words.specs.Refusals.{IsCode, _either_, checkNameFields, nameRows}
@@ -117,3 +117,11 @@ name-means r = (
 
     canonical-so : {f : ℕ} → f ≡ 0 → canonical r ≡ true → notCanonical f r ≡ false
     canonical-so {f} z e = subst (λ (k : ℕ). notCanonical k r ≡ false) (sym z) (ap not e)
+
+-- the name of a corner passes, and has the corner's degree
+pub name-passes-all : {n : ℕ} {p : Weights} {r : CornerName} → IsName n p r → (checkName r ≡ 0) × (degreeOf (r .0) ≡ n)
+name-passes-all {n} {p} {r} x =
+    let f = code-name r (x .code .passes) (x .number .0) (x .number .1) in
+    let d : degreeOf (r .0) ≡ n = f .1 ∙ x .code .degreeIs in
+    let own : IsName n (named r) r = record { code = x .code; number = x .number; there = refl; least = λ t c h. x .least t c (h .0, h .1, h .2 ∙ x .there) } in
+    (name-means r .1 (f .0, subst (λ (m : ℕ). IsName m (named r) r) (sym d) own), d)

@@ -78,6 +78,15 @@ name-passes r =
           ),
     )
 
+bits-clear : (u : ℕ) → u % 64 ≡ 0 → zeroBits u ≡ 0
+bits-clear u e = omega arith
+
+inside-bits : (w : ℕ) → zeroBits (inside w) ≡ zeroBits w
+inside-bits w = let e : inside w / 2 ^ 2 ≡ w / 2 ^ 2 = omega arith in ap (λ (x : ℕ). x % 2 ^ 4) e
+
+inside-degree : (w : ℕ) → zeroBits w ≡ 0 → degreeOf (inside w) ≡ degreeOf w
+inside-degree w z = omega arith
+
 -- the code inside a name is one of the name's degree
 pub name-code : (r : CornerName) → checkNameFields r ≡ 0 → IsCode (degreeOf (r .0)) (codeOf (inside (r .0)))
 name-code r e =
@@ -86,7 +95,7 @@ name-code r e =
     let u = inside w in
     let z : zeroBits w ≡ 0 = p .1 in
     let f = p .0 in
-    let d : degreeOf u ≡ degreeOf w = omega arith in
+    let d : degreeOf u ≡ degreeOf w = inside-degree w z in
     let x : u / 64 ≡ w / 64 = omega arith in
     let g : Fields u =
     record {
@@ -96,6 +105,27 @@ name-code r e =
       clear = ap (λ (n : ℕ). beyond u n) d ∙ ap (λ (y : ℕ). y % 2 ^ (48 - 2 * degreeOf w)) x ∙ f .clear;
     } in
     record { passes = code-passes (codeOf u) .1 (g, omega arith); degreeIs = d }
+
+-- and a word with a code inside it and a corner number has a name's fields, and the code's degree
+pub code-name : (r : CornerName) → checkCode (codeOf (inside (r .0))) ≡ 0 → 1 ≤ cornerNumber (r .0) → cornerNumber (r .0) ≤ 3
+    → (checkNameFields r ≡ 0) × (degreeOf (r .0) ≡ degreeOf (inside (r .0)))
+code-name r e low high =
+    let w = r .0 in
+    let u = inside w in
+    let p = code-passes (codeOf u) .0 e in
+    let low-bits : u % 64 ≡ 0 = p .1 in
+    let z : zeroBits w ≡ 0 = sym (inside-bits w) ∙ bits-clear u low-bits in
+    let f = p .0 in
+    let d : degreeOf w ≡ degreeOf u = sym (inside-degree w z) in
+    let x : w / 64 ≡ u / 64 = omega (arith, z) in
+    let g : Fields w =
+    record {
+      degree = omega (arith, f .degree);
+      aLow = omega (arith, f .aLow);
+      aHigh = omega (arith, f .aHigh);
+      clear = ap (λ (n : ℕ). beyond w n) d ∙ ap (λ (y : ℕ). y % 2 ^ (48 - 2 * degreeOf u)) x ∙ f .clear;
+    } in
+    (name-passes r .1 (g, z, low, high), d)
 
 -- ---- what a code is known for
 

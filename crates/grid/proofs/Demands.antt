@@ -1,0 +1,268 @@
+-- The three demands hold: a theorem for each part of specs/Demands.antt, where they are stated. Assumes nothing.
+use mathlib.Core.Path.{_≡_, _∙_, refl, sym, ap, subst}
+use mathlib.Core.Logic.{_⊎_, inl, inr, ⊎-elim}
+use mathlib.Core.List.{List, []}
+use Prim.Native.Nat.{ℕ, zero, suc, _≤_}
+use native.Mathlib.Omega.{arith}
+use lib.ListN.{length, take, drop, length-append}
+use lib.Seq.{take-append-seam}
+use Rattle.words.specs.Words.{cornerNumber, degreeOf, digitOf, digits, sideOf}
+use Rattle.words.specs.Refusals.{IsCode}
+use Rattle.words.specs.Family.{codeAnswer, refuseParent, refuseChild, parentOf, childOf, parentAnswer, childAnswer}
+use Rattle.words.specs.declared.TriangleCode.{TriangleCode}
+use Rattle.words.specs.declared.CodeAnswer.{CodeAnswer}
+use Rattle.words.proofs.Codes.{code-degree, is-code}
+use Rattle.words.proofs.ParentChild.{child-has, child-then-parent, parent-then-child}
+use Rattle.net.specs.Sides.{OneToThree, next, prev}
+use Rattle.net.specs.Division.{Weights, sum, triangleAt, cornerOf, divide}
+use Rattle.net.specs.Corners.{codeInside, corner, triangleOf, HasCorner, named}
+use Rattle.net.specs.Names.{IsName}
+use Rattle.net.specs.Steps.{Across}
+use Rattle.net.specs.Refusals.{over, onOneSide}
+use Rattle.net.proofs.Canonical.{name-means, name-passes-all}
+use Rattle.net.proofs.Crossing.{across-back}
+use Rattle.net.proofs.Demand3.{one-across, three-distinct, just-two, names-equal}
+use Rattle.net.proofs.Stepping.{next-three, prev-three, next-not, prev-not}
+use Rattle.net.proofs.Table.{either-way, same, sound, threes, _or_}
+use Rattle.net.proofs.WayBack.{weights-mean}
+use Rattle.filing.specs.Coordinates.{exact}
+use Rattle.filing.proofs.OnePoint.{same-point}
+use Rattle.filing.proofs.Weighted.{corner-twelve}
+use Rattle.corners.specs.Refusals.{refuseNumbered}
+use Rattle.corners.specs.Answers.{Answer, Lent, Put, stepAnswer, nameAnswer, Named, CrossAnswer, NamingAnswer, BackAnswer}
+use Rattle.corners.specs.declared.StepAnswer.{StepAnswer}
+use Rattle.corners.specs.declared.NameAnswer.{NameAnswer}
+use Rattle.corners.proofs.Refused.{numbered-passes, weights-passes, name-weights-passes, back-passes}
+use Rattle.corners.proofs.Calls.{answering}
+use Rattle.corners.proofs.OneAnswer as corners
+use Rattle.points.proofs.OnePlace as points
+use Rattle.directions.specs.Answers.{noCode}
+use Rattle.directions.proofs.OneFiling as directions
+use Rattle.grid.specs.Demands.{Keeps, WithList, Demand1, Demand2Codes, Demand2Back, Demand2Files, Demand3}
+
+-- ---- 1
+
+-- the number of an answer is the refusal's
+number-is : {A : Type 0} {f : ℕ} {Good : A → Type 0} {zeros : ℕ → A} (number : A → ℕ) → number (zeros f) ≡ f → ((r : A) → Good r → number r ≡ 0)
+    → (r : A) → Answer f Good zeros r → number r ≡ f
+number-is {A} {f} number z g r a = ⊎-elim (λ e. g r (a .answered e) ∙ sym e) (λ n. ap number (a .refused n) ∙ z) (either-way (same f 0))
+
+-- an answer whose number is 0 is what was asked for
+module _ {A : Type 0} {f : ℕ} {Good : A → Type 0} {zeros : ℕ → A} (number : A → ℕ) (z : number (zeros f) ≡ f) (g : (r : A) → Good r → number r ≡ 0) where
+  passed : {r : A} → Answer f Good zeros r → number r ≡ 0 → f ≡ 0
+  passed {r} a e = sym (number-is number z g r a) ∙ e
+
+  good : {r : A} → Answer f Good zeros r → number r ≡ 0 → Good r
+  good a e = a .answered (passed a e)
+
+module _ {A : Type 0} {f : ℕ} {Good : A → Type 0} {zeros : ℕ → A} {number : A → ℕ} where
+  keeps : ((r : A) × Answer f Good zeros r) → ((r r′ : A) → Answer f Good zeros r → Answer f Good zeros r′ → r ≡ r′)
+      → number (zeros f) ≡ f → ((r : A) → Good r → number r ≡ 0) → Keeps f (Answer f Good zeros) number zeros
+  keeps some one z g = record {
+    one = (some .0, some .1, λ r a. one r (some .0) a (some .1));
+    exactly = number-is number z g;
+    refused = λ r a n. a .refused n;
+  }
+
+module _ {A : Type 0} {f : ℕ} {Good : A → List ℕ → Type 0} {zeros : ℕ → A} {out : List ℕ} {number : A → ℕ} where
+  keeps-lent : ((r : A) × (new : List ℕ) × Lent f Good zeros out r new)
+      → ((r r′ : A) (new new′ : List ℕ) → Lent f Good zeros out r new → Lent f Good zeros out r′ new′ → (r ≡ r′) × (new ≡ new′))
+      → number (zeros f) ≡ f → ((r : A) (new : List ℕ) → Good r new → number r ≡ 0)
+      → Keeps {A = WithList A} f (λ r. Lent f Good zeros out (r .0) (r .1)) (λ r. number (r .0)) (λ k. (zeros k, out))
+  keeps-lent some one z g = record {
+    one = ((some .0, some .1), some .2, λ r a. let e = one (r .0) (some .0) (r .1) (some .1) a (some .2) in λ i. (e .0 i, e .1 i));
+    exactly = λ r a. ⊎-elim (λ e. g (r .0) (r .1) (a .answered e) ∙ sym e) (λ n. ap number (a .refused n .0) ∙ z) (either-way (same f 0));
+    refused = λ r a n. let e = a .refused n in λ i. (e .0 i, e .1 i);
+  }
+
+-- an answer that is an equation
+keeps-is : {A : Type 0} {f : ℕ} {number : A → ℕ} {zeros : ℕ → A} (v : A) → number v ≡ f → ((f ≡ 0 → ⊥) → v ≡ zeros f) → Keeps f (λ r. r ≡ v) number zeros
+keeps-is {A} {f} {number} {zeros} v h k = record { one = (v, refl, λ r e. e); exactly = λ r e. ap number e ∙ h; refused = λ r e n. e ∙ k n }
+
+code-number : (f : ℕ) (t : TriangleCode) → codeAnswer f t .refusal ≡ f
+code-number zero t = refl
+code-number (suc f) t = refl
+
+code-zeros : (f : ℕ) (t : TriangleCode) → (f ≡ 0 → ⊥) → codeAnswer f t ≡ noCode f
+code-zeros zero t n = absurd (n refl)
+code-zeros (suc f) t n = refl
+
+pub demand-1 : Demand1
+unfolding parentAnswer childAnswer
+demand-1 = record {
+  check = λ t. keeps-is _ refl (λ n. refl);
+  checkNames = λ q. keeps-is _ refl (λ n. refl);
+  parent = λ t. keeps-is (parentAnswer t) (code-number (refuseParent t) (parentOf t)) (code-zeros (refuseParent t) (parentOf t));
+  child = λ t d. keeps-is (childAnswer t d) (code-number (refuseChild t d) (childOf t d)) (code-zeros (refuseChild t d) (childOf t d));
+  cross = λ t k. keeps (corners.cross-some t k) (corners.cross-one t k) refl (λ r g. g .number);
+  weights = λ t i out. keeps-lent (corners.weights-some t i out) (corners.weights-one t i out) refl (λ r new g. g .0);
+  nameWeights = λ q out. keeps-lent (corners.name-weights-some q out) (corners.name-weights-one q out) refl (λ r new g. g .0);
+  coordinates = λ t i. keeps (points.place-some t i) (points.place-one t i) refl (λ r g. g .number);
+  nameCoordinates = λ q. keeps (points.name-place-some q) (points.name-place-one q) refl (λ r g. g .number);
+  ticks = λ t i. keeps (points.tick-answer-some t i) (points.tick-answer-one t i) refl (λ r g. g .number);
+  nameTicks = λ q. keeps (points.name-tick-some q) (points.name-tick-one q) refl (λ r g. g .number);
+  drawn = λ t i. keeps (points.draw-some t i) (points.draw-one t i) refl (λ r g. g .number);
+  nameDrawn = λ q. keeps (points.name-draw-some q) (points.name-draw-one q) refl (λ r g. g .number);
+  naming = λ t i. keeps (corners.naming-some t i) (corners.naming-one t i) refl (λ r g. g .number);
+  back = λ n weights. keeps (corners.back-some n weights) (corners.back-one n weights) refl (λ r g. g .number);
+  ring = λ q out. keeps-lent (corners.ring-answer-some q out) (corners.ring-answer-one q out) refl (λ r new g. ap (λ (x : _). x .refusal) (g .count));
+  file = λ n d. keeps (directions.file-some n d) (directions.file-one n d) refl (λ r g. g .number);
+  list = λ n d out. keeps-lent (directions.list-some n d out) (directions.list-one n d out) refl (λ r new g. ap (λ (x : _). x .refusal) (g .count));
+}
+
+-- ---- 2, from code to corner
+
+-- the three corners of a code, by the division of its side along its digits
+triangle-at : (t : TriangleCode) → triangleOf t ≡ triangleAt (sideOf (t .0)) (digits (t .0) (degreeOf (t .0)))
+unfolding corner cornerOf
+triangle-at t = refl
+
+side-corners : (t : TriangleCode) → IsCode 0 t → triangleOf t ≡ triangleAt (sideOf (t .0)) []
+unfolding digits
+side-corners t c = triangle-at t ∙ ap (λ (n : ℕ). triangleAt (sideOf (t .0)) (digits (t .0) n)) (c .degreeIs)
+
+child-corners : (t : TriangleCode) (d : ℕ) → refuseChild t d ≡ 0 → triangleOf (childOf t d) ≡ divide d (triangleOf t)
+unfolding triangleAt
+child-corners t d z =
+    let h = child-has t d z in
+    let w = childOf t d .0 in
+    triangle-at (childOf t d)
+    ∙ ap (λ (n : ℕ). triangleAt (sideOf w) (digits w n)) (h .code .degreeIs)
+    ∙ (λ i. triangleAt (h .side i) (h .digitsAre i))
+    ∙ ap (divide d) (sym (triangle-at t))
+
+-- an answered parent or child
+was-answered : {r : CodeAnswer} (f : ℕ) (t : TriangleCode) → r ≡ codeAnswer f t → r .refusal ≡ 0 → (f ≡ 0) × (r .code ≡ t)
+was-answered {r} f t e z = go f e (sym (code-number f t) ∙ ap (λ (x : CodeAnswer). x .refusal) (sym e) ∙ z)
+  where
+    go : (f : ℕ) → r ≡ codeAnswer f t → f ≡ 0 → (f ≡ 0) × (r .code ≡ t)
+    go zero e z = (refl, ap (λ (x : CodeAnswer). x .code) e)
+    go (suc f) e z = absurd (omega arith)
+
+-- twelve weights at the front of a list
+front : (p out : List ℕ) → length p ≡ 12 → take 12 (over p out) ≡ p
+front p out e = ap (λ (n : ℕ). take n (over p out)) (sym e) ∙ take-append-seam p (drop (length p) out)
+
+-- weights that were answered, with 0
+put : {f : ℕ} (p : Weights) {out new : List ℕ} → Lent f (Put p out) (λ k. k) out 0 new → (f ≡ 0) × (new ≡ over p out)
+put {f} p a = ⊎-elim (λ e. (e, a .answered e .1)) (λ n. absurd (n (sym (a .refused n .0)))) (either-way (same f 0))
+
+numbered : (t : TriangleCode) (i : ℕ) → refuseNumbered t i ≡ 0 → IsCode (degreeOf (t .0)) t × OneToThree i
+numbered t i z = let p = numbered-passes t i .0 z in (is-code t (p .0), p .1)
+
+-- the name of a corner, where naming answers
+naming-is : (t : TriangleCode) (i : ℕ) (s : NameAnswer) → NamingAnswer t i s → s .refusal ≡ 0 → (refuseNumbered t i ≡ 0) × IsName (degreeOf (t .0)) (corner t i) (s .name)
+naming-is t i s a z =
+    let f = passed (λ r. r .refusal) refl (λ r g. g .number) a z in
+    (f, a .answered f .is)
+
+pub demand-2-codes : Demand2Codes
+unfolding parentAnswer childAnswer triangleAt
+demand-2-codes = record {
+  side = side-corners;
+  child = λ t d r e z. let p = was-answered (refuseChild t d) (childOf t d) e z in ap triangleOf (p .1) ∙ child-corners t d (p .0);
+  childParent = λ t d r e z. let p = was-answered (refuseChild t d) (childOf t d) e z in ap parentAnswer (p .1) ∙ child-then-parent t d (p .0);
+  parentChild = λ t r e z. let p = was-answered (refuseParent t) (parentOf t) e z in ap (λ (u : TriangleCode). childAnswer u (digitOf (t .0) (degreeOf (t .0)))) (p .1) ∙ parent-then-child t (p .0);
+  weights = λ t i out new a.
+      let p = put (corner t i) a in
+      let c = numbered t i (weights-passes t i out .0 (p .0) .0) in
+      ap (take 12) (p .1) ∙ front (corner t i) out (corner-twelve (c .0) i .places);
+  nameWeights = λ t i s out new a z b.
+      let n = naming-is t i s a z in
+      let e : named (s .name) ≡ corner t i = n .1 .there in
+      let c = numbered t i (n .0) in
+      ap (take 12) (put (named (s .name)) b .1) ∙ front (named (s .name)) out (ap length e ∙ corner-twelve (c .0) i .places) ∙ e;
+  coordinates = λ t i r a z. good (λ r. r .refusal) refl (λ r g. g .number) a z .is;
+  nameCoordinates = λ t i s r a z b.
+      let n = naming-is t i s a z in
+      let g = b .answered (name-passes-all (n .1) .0) in
+      λ j. record { refusal = g .number j; at = (g .is ∙ ap exact (n .1 .there)) j };
+  samePoint = same-point;
+}
+
+-- ---- 2, from weights back to the name
+
+-- twelve weights of a corner at the front of a list are not refused, and have its name
+back-answered : (n : ℕ) (t : TriangleCode) (i : ℕ) (out : List ℕ) (q : NameAnswer) → IsCode n t → OneToThree i → Named n (corner t i) q → BackAnswer n (over (corner t i) out) q
+back-answered n t i out q c l g =
+    let p = corner t i in
+    let twelve : length p ≡ 12 = corner-twelve c i .places in
+    let m = weights-mean n p (code-degree c) twelve .1 (t, c, (i, l, refl)) in
+    let e : take 12 (over p out) ≡ p = front p out twelve in
+    let long : 12 ≤ length (over p out) = omega (arith, length-append p (drop (length p) out)) in
+    answering (back-passes n (over p out) .1 (code-degree c, long, ap sum e ∙ m .0, ap onOneSide e ∙ m .1)) (subst (λ (w : Weights). Named n w q) (sym e) g)
+
+pub demand-2-back : Demand2Back
+demand-2-back = record {
+  back = λ t i out new r s w b a.
+      let p = put (corner t i) w in
+      let z = weights-passes t i out .0 (p .0) .0 in
+      let c = numbered t i z in
+      corners.back-one (degreeOf (t .0)) new r s b (subst (λ (l : List ℕ). BackAnswer (degreeOf (t .0)) l s) (sym (p .1)) (back-answered _ t i out s (c .0) (c .1) (a .answered z)));
+  round = λ n weights r b z. good (λ r. r .refusal) refl (λ r g. g .number) b z .is .there;
+  again = λ q out new r w b.
+      let p = put (named q) w in
+      let x = name-means q .0 (name-weights-passes q out .0 (p .0) .0) .1 in
+      corners.back-one (degreeOf (q .0)) new r (nameAnswer 0 q) b
+      (subst (λ (l : List ℕ). BackAnswer (degreeOf (q .0)) l (nameAnswer 0 q)) (sym (p .1)) (back-answered _ (codeInside q) (cornerNumber (q .0)) out (nameAnswer 0 q) (x .code) (x .number) (record { number = refl; is = x })));
+}
+
+pub demand-2-files : Demand2Files
+demand-2-files = record {
+  holds = λ n d r a z. let g = good (λ r. r .refusal) refl (λ r g. g .number) a z .is in (g .code, g .holds);
+  least = λ n d r a z. good (λ r. r .refusal) refl (λ r g. g .number) a z .is .least;
+}
+
+-- ---- 3
+
+-- a crossing that was answered
+crossed-is : (t : TriangleCode) (k : ℕ) (r : StepAnswer) → CrossAnswer t k r → r .refusal ≡ 0
+    → IsCode (degreeOf (t .0)) t × OneToThree k × Across (degreeOf (t .0)) t k (r .code) (r .edge)
+crossed-is t k r a z =
+    let f = passed (λ r. r .refusal) refl (λ r g. g .number) a z in
+    let c = numbered t k f in
+    (c .0, c .1, a .answered f .across)
+
+-- of the numbers 1 to 3 the two that are not k
+other-two : (k : ℕ) → OneToThree k → (i : ℕ) → OneToThree i → (i ≡ k) ⊎ ((next k ≡ i) ⊎ (prev k ≡ i))
+other-two = sound (threes λ k. threes λ i. same i k or (same (next k) i or same (prev k) i)) refl
+
+pub demand-3 : Demand3
+demand-3 = record {
+  oneOther = λ n t k c l.
+      let x = one-across n t k c l in
+      (x .0, (x .1, x .2), λ u p. x .3 u (p .0) (p .1) .0);
+  crossed = λ n t k r c l a.
+      let g = a .answered (numbered-passes t k .1 (c .passes, l)) in
+      (g .number, subst (λ (m : ℕ). Across m t k (r .code) (r .edge)) (c .degreeIs) (g .across));
+  distinct = λ t j k r s a b y z n.
+      let p = crossed-is t j r a y in
+      let q = crossed-is t k s b z in
+      three-distinct _ t j k (p .0) (p .1) (q .1) n (r .code) (s .code) (r .edge) (s .edge) (p .2) (q .2);
+  justTwo = λ t k r p a z.
+      let x = crossed-is t k r a z in
+      let just = just-two _ t k (x .0) (x .1) (r .code) (r .edge) (x .2) in (
+        λ h.
+            let i = h .0 .0 in
+            let e : corner t i ≡ p = h .0 .2 in
+            let u : HasCorner (r .code) (corner t i) = (h .1 .0, h .1 .1, h .1 .2 ∙ sym e) in
+            ⊎-elim (λ f. inl (ap (corner t) f ∙ e)) (λ f. inr (ap (corner t) f ∙ e)) (⊎-elim (λ f. absurd (just i (h .0 .1) .0 u f)) (λ f. f) (other-two k (x .1) i (h .0 .1))),
+        ⊎-elim
+            (λ e. shared t (r .code) (next k) (next-three k (x .1)) e (just (next k) (next-three k (x .1)) .1 (next-not k (x .1))))
+            (λ e. shared t (r .code) (prev k) (prev-three k (x .1)) e (just (prev k) (prev-three k (x .1)) .1 (prev-not k (x .1)))),
+      );
+  back = λ t k r s a z b.
+      let x = crossed-is t k r a z in
+      let y = x .2 in
+      let d = y .code .degreeIs in
+      let v : Across (degreeOf (r .code .0)) (r .code) (r .edge) t k = subst (λ (m : ℕ). Across m (r .code) (r .edge) t k) (sym d) (across-back (x .0) (x .1) y) in
+      corners.cross-one (r .code) (r .edge) s (stepAnswer 0 t k) b
+      (answering (numbered-passes (r .code) (r .edge) .1 (y .code .passes, y .edge)) (record { number = refl; across = v }));
+  names = λ t u i j r s a b y z d.
+      let p = naming-is t i r a y .1 in
+      let q = naming-is u j s b z .1 in
+      names-equal (degreeOf (t .0)) (corner t i) (corner u j) (r .name) (s .name) p (subst (λ (m : ℕ). IsName m (corner u j) (s .name)) (sym d) q);
+}
+  where
+    shared : (t u : TriangleCode) {p : Weights} (i : ℕ) → OneToThree i → corner t i ≡ p → HasCorner u (corner t i) → HasCorner t p × HasCorner u p
+    shared t u i l e h = ((i, l, e), (h .0, h .1, h .2 ∙ e))

@@ -2,4 +2,3 @@
 pub mod Refused
 pub mod FilingCalls
 pub mod OneFiling
-pub mod FilingExamples

@@ -59,7 +59,7 @@ module _ {A : Type 0} {f : ℕ} {Good : A → Type 0} {zeros : ℕ → A} {numbe
   keeps : ((r : A) × Answer f Good zeros r) → ((r r′ : A) → Answer f Good zeros r → Answer f Good zeros r′ → r ≡ r′)
       → number (zeros f) ≡ f → ((r : A) → Good r → number r ≡ 0) → Keeps f (Answer f Good zeros) number zeros
   keeps some one z g = record {
-    one = (some .0, some .1, λ r a. one r (some .0) a (some .1));
+    one = (some .0, record { meets = some .1; only = λ r a. one r (some .0) a (some .1) });
     exactly = number-is number z g;
     refused = λ r a n. a .refused n;
   }
@@ -70,14 +70,14 @@ module _ {A : Type 0} {f : ℕ} {Good : A → List ℕ → Type 0} {zeros : ℕ 
       → number (zeros f) ≡ f → ((r : A) (new : List ℕ) → Good r new → number r ≡ 0)
       → Keeps {A = WithList A} f (λ r. Lent f Good zeros out (r .0) (r .1)) (λ r. number (r .0)) (λ k. (zeros k, out))
   keeps-lent some one z g = record {
-    one = ((some .0, some .1), some .2, λ r a. let e = one (r .0) (some .0) (r .1) (some .1) a (some .2) in λ i. (e .0 i, e .1 i));
+    one = ((some .0, some .1), record { meets = some .2; only = λ r a. let e = one (r .0) (some .0) (r .1) (some .1) a (some .2) in λ i. (e .0 i, e .1 i) });
     exactly = λ r a. ⊎-elim (λ e. g (r .0) (r .1) (a .answered e) ∙ sym e) (λ n. ap number (a .refused n .0) ∙ z) (either-way (same f 0));
     refused = λ r a n. let e = a .refused n in λ i. (e .0 i, e .1 i);
   }
 
 -- an answer that is an equation
 keeps-is : {A : Type 0} {f : ℕ} {number : A → ℕ} {zeros : ℕ → A} (v : A) → number v ≡ f → ((f ≡ 0 → ⊥) → v ≡ zeros f) → Keeps f (λ r. r ≡ v) number zeros
-keeps-is {A} {f} {number} {zeros} v h k = record { one = (v, refl, λ r e. e); exactly = λ r e. ap number e ∙ h; refused = λ r e n. e ∙ k n }
+keeps-is {A} {f} {number} {zeros} v h k = record { one = (v, record { meets = refl; only = λ r e. e }); exactly = λ r e. ap number e ∙ h; refused = λ r e n. e ∙ k n }
 
 code-number : (f : ℕ) (t : TriangleCode) → codeAnswer f t .refusal ≡ f
 code-number zero t = refl
@@ -231,7 +231,7 @@ pub demand-3 : Demand3
 demand-3 = record {
   oneOther = λ n t k c l.
       let x = one-across n t k c l in
-      (x .0, (x .1, x .2), λ u p. x .3 u (p .0) (p .1) .0);
+      (x .0, record { meets = (x .1, x .2); only = λ u p. x .3 u (p .0) (p .1) .0 });
   crossed = λ n t k r c l a.
       let g = a .answered (numbered-passes t k .1 (c .passes, l)) in
       (g .number, subst (λ (m : ℕ). Across m t k (r .code) (r .edge)) (c .degreeIs) (g .across));

@@ -28,10 +28,11 @@ use Rattle.points.specs.Answers.{noCoordinates, noTicks, noPoint, PlaceAnswer, 
 use Rattle.points.specs.declared.CoordinatesAnswer.{CoordinatesAnswer}
 use Rattle.directions.specs.Refusals.{refuseFile, refuseList}
 use Rattle.directions.specs.Answers.{noCode, FileAnswer, ListAnswer}
+use Rattle.grid.specs.Writing.{_gives_}
 
--- There is one, and any two are equal.
+-- There is one, and whatever else meets P is that one.
 abbrev pub One : {A : Type 0} → (A → Type 0) → Type 0
-One {A} P = (a : A) × P a × ((b : A) → P b → b ≡ a)
+One {A} P = (a : A) × (P gives a)
 
 -- ---- 1
 

@@ -1,5 +1,4 @@
 -- The laws that the proofs of `points` cite, and the crates above.
 pub mod PlaceCalls
 pub mod OnePlace
-pub mod PlaceExamples
 pub mod DrawnBits

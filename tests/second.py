@@ -1,0 +1,1506 @@
+#!/usr/bin/env python3
+"""A second program for the grid of document 01, "The grid, its words and its rules", written from that paper alone.
+
+It answers by literal search, in whole numbers: corners by the division rule on twelve weights; neighbours, names and rings by
+comparing corners over the triangles of the degree; holders by the three determinants. To degree 5 every triangle is compared
+(to degree 3 for directions). Below that the search comes down from all twenty sides, and leaves out only triangles that can not
+have the corner, or do not hold the direction. There are no rules for steps, seams or names here.
+
+    second.py CALLS ANSWERS    writes the calls, one a line, and the answers that the console must give to them
+    second.py --answer         answers the call lines of standard input, all but help
+"""
+import itertools
+import math
+import operator
+import random
+import re
+import struct
+import sys
+from functools import lru_cache
+
+DEEPEST = 24
+WHOLE = 5  # Corners are compared over all triangles of a degree up to this one,
+FULL = 3  # directions over all triangles of a degree up to this one.
+
+
+def must(true, *what):
+    """An internal check."""
+    if not true:
+        raise AssertionError(what)
+
+
+# ==== Document 01, "Vertices and sides"
+
+# "| vertex | direction | vertex | direction |"
+DIRECTION_TABLE = """
+    00  0  1  φ   01  0 -1 -φ
+    10  0 -1  φ   11  1 -φ  0
+    20  φ  0  1   21  φ  0 -1
+    30  1  φ  0   31  0  1 -φ
+    40 -1  φ  0   41 -φ  0 -1
+    50 -φ  0  1   51 -1 -φ  0
+"""
+
+# A number u + vφ is the pair (u, v).
+NUMBERS = {"0": (0, 0), "1": (1, 0), "-1": (-1, 0), "φ": (0, 1), "-φ": (0, -1)}
+
+
+def read_directions():
+    cells = DIRECTION_TABLE.split()
+    return {cells[i]: tuple(NUMBERS[x] for x in cells[i + 1 : i + 4]) for i in range(0, len(cells), 4)}
+
+
+DIRECTIONS = read_directions()
+
+
+def after(a):
+    # "a runs over 1 to 5; a+ and a- are next and previous, cyclic."
+    return a % 5 + 1
+
+
+def side_vertices(a, p, q):
+    # "A side is named apq. Its corners 1, 2, 3, anticlockwise seen from outside"
+    return {
+        (0, 0): ("00", f"{a}0", f"{after(a)}0"),
+        (0, 1): (f"{a}1", f"{after(a)}0", f"{a}0"),
+        (1, 0): ("01", f"{after(a)}1", f"{a}1"),
+        (1, 1): (f"{after(a)}0", f"{a}1", f"{after(a)}1"),
+    }[p, q]
+
+
+SIDES = [(a, p, q) for a in (1, 2, 3, 4, 5) for p in (0, 1) for q in (0, 1)]
+
+
+# ==== Document 01, "Division and weights"
+
+# "twelve whole weights, one for each vertex, in the order"
+ORDER = "00 01 10 20 30 40 50 11 21 31 41 51".split()
+
+
+def vertex_weights(vertex):
+    # "At degree 0 one weight is 1 and the rest 0."
+    return tuple(1 if v == vertex else 0 for v in ORDER)
+
+
+def side_triangle(side):
+    return tuple(vertex_weights(v) for v in side_vertices(*side))
+
+
+def kept(x):
+    # "At each step a kept corner's weights are doubled"
+    return tuple(map(operator.add, x, x))
+
+
+def middle(x, y):
+    # "and a middle's weights are the sum of its two ends'."
+    return tuple(map(operator.add, x, y))
+
+
+def children(triangle):
+    # "digit 0: M1, M2, M3; digit 1: A1, M3, M2; digit 2: M3, A2, M1; digit 3: M2, M1, A3"
+    a1, a2, a3 = triangle
+    m1, m2, m3 = middle(a2, a3), middle(a3, a1), middle(a1, a2)
+    return (m1, m2, m3), (kept(a1), m3, m2), (m3, kept(a2), m1), (m2, m1, kept(a3))
+
+
+@lru_cache(maxsize=1 << 17)
+def exact(weights):
+    # "The exact coordinate is the weighted sum of the vertex directions, kept on each axis as two signed whole numbers u, v"
+    at = [[0, 0], [0, 0], [0, 0]]
+    for vertex, k in zip(ORDER, weights):
+        if k:
+            for sum_, (u, v) in zip(at, DIRECTIONS[vertex]):
+                sum_[0] += k * u
+                sum_[1] += k * v
+    return tuple(map(tuple, at))
+
+
+# ==== Document 01, "The 64-bit words"
+
+
+def make_code(side, digits):
+    # "a (3 bits), p (1), q (1), degree (5), twenty-four digits of 2 bits with the first digit first, four zero bits, corner
+    # number (2). A triangle code has corner number 0."
+    a, p, q = side
+    code = a << 61 | p << 60 | q << 59 | len(digits) << 54
+    for place, digit in enumerate(digits):
+        code |= digit << (52 - 2 * place)
+    return code
+
+
+def side_of(word):
+    return word >> 61, word >> 60 & 1, word >> 59 & 1
+
+
+def degree_of(word):
+    return word >> 54 & 31
+
+
+def all_digits(word):
+    return [word >> (52 - 2 * place) & 3 for place in range(24)]
+
+
+def digits_of(word):
+    return all_digits(word)[: degree_of(word)]
+
+
+def zero_bits(word):
+    return word >> 2 & 15
+
+
+def corner_number(word):
+    return word & 3
+
+
+def child_code(code, digit):
+    return make_code(side_of(code), digits_of(code) + [digit])
+
+
+def parent_code(code):
+    return make_code(side_of(code), digits_of(code)[:-1])
+
+
+def read_triangle(text):
+    # "Codes are written apq then digits."
+    return make_code(tuple(map(int, text[:3])), list(map(int, text[3:])))
+
+
+@lru_cache(maxsize=1 << 15)
+def triangle_text(code):
+    return "".join(map(str, side_of(code))) + "".join(map(str, digits_of(code)))
+
+
+# ==== All triangles of a degree, and the corners they have
+
+
+@lru_cache(maxsize=None)
+def whole_degree(n):
+    """All triangles of a degree, code: corners, in rising order."""
+    if n == 0:
+        found = {make_code(side, []): side_triangle(side) for side in SIDES}
+    else:
+        found = {}
+        for code, triangle in whole_degree(n - 1).items():
+            for digit, child in enumerate(children(triangle)):
+                found[child_code(code, digit)] = child
+    return dict(sorted(found.items()))
+
+
+@lru_cache(maxsize=None)
+def whole_index(n):
+    """The search over all triangles of a degree, indexed: each corner, with every (code, number) that has it, rising."""
+    index = {}
+    for code, triangle in whole_degree(n).items():
+        for number in (1, 2, 3):
+            index.setdefault(triangle[number - 1], []).append((code, number))
+    return index
+
+
+@lru_cache(maxsize=1 << 14)
+def deep_corners(code):
+    triangle = side_triangle(side_of(code))
+    for digit in digits_of(code):
+        triangle = children(triangle)[digit]
+    return triangle
+
+
+def corners(code):
+    return whole_degree(degree_of(code))[code] if degree_of(code) <= WHOLE else deep_corners(code)
+
+
+def with_numbers(level, p):
+    return sorted((code, number) for code, triangle in level for number in (1, 2, 3) if triangle[number - 1] == p)
+
+
+def come_down(level, left, keep):
+    """The triangles `left` degrees below those of the level, through triangles that `keep`, asked with the degrees then left."""
+    level = [(code, triangle) for code, triangle in level if keep(triangle, left)]
+    while left > 0:
+        left -= 1
+        below = [(child_code(code, d), x) for code, triangle in level for d, x in enumerate(children(triangle))]
+        level = [(code, triangle) for code, triangle in below if keep(triangle, left)]
+    return level
+
+
+def deep_search(n, p):
+    """Every triangle of degree n that has the corner p, by coming down from all sides. A corner below a triangle is reached by
+    middles of middles, so each of its weights lies between the least and the greatest of the three corners', doubled as often as
+    there are degrees between."""
+
+    def can_have(triangle, left):
+        return all(min(x, y, z) << left <= w <= max(x, y, z) << left for x, y, z, w in zip(*triangle, p))
+
+    return with_numbers(come_down(whole_degree(0).items(), n, can_have), p)
+
+
+@lru_cache(maxsize=1 << 15)
+def deep_having(n, p):
+    return deep_search(n, p)
+
+
+def having(n, p):
+    """Every triangle of degree n that has the corner p, as (code, number), rising."""
+    return whole_index(n).get(p, []) if n <= WHOLE else deep_having(n, p)
+
+
+def canonical(n, p):
+    # "the least triangle code of that degree that has the corner, with the number the corner has in it"
+    code, number = having(n, p)[0]
+    return code | number
+
+
+# ==== Numbers u + vφ
+
+
+def times(x, y):
+    # "φ is the positive root of φ² = φ + 1."
+    (a, b), (c, d) = x, y
+    return a * c + b * d, a * d + b * c + b * d
+
+
+def minus(x, y):
+    return x[0] - y[0], x[1] - y[1]
+
+
+def plus(x, y):
+    return x[0] + y[0], x[1] + y[1]
+
+
+def at_least_zero(u, v):
+    # "with w = 2u + v, u + vφ is at least 0 exactly when w and v are both at least 0, or w ≥ 0 > v and w² ≥ 5v²,
+    # or v ≥ 0 > w and 5v² ≥ w²"
+    w = 2 * u + v
+    return (w >= 0 and v >= 0) or (w >= 0 > v and w * w >= 5 * v * v) or (v >= 0 > w and 5 * v * v >= w * w)
+
+
+def above_zero(x):
+    return x != (0, 0) and at_least_zero(*x)
+
+
+def crossed(y, z):
+    """The three two-by-two determinants of y and z, so that the determinant of x, y, z is x times them, axis by axis."""
+    return (
+        minus(times(y[1], z[2]), times(y[2], z[1])),
+        minus(times(y[2], z[0]), times(y[0], z[2])),
+        minus(times(y[0], z[1]), times(y[1], z[0])),
+    )
+
+
+def determinant(x, y, z):
+    n = crossed(y, z)
+    return plus(plus(times(x[0], n[0]), times(x[1], n[1])), times(x[2], n[2]))
+
+
+# ==== Document 01, "Steps and rings"
+
+
+@lru_cache(maxsize=1 << 12)
+def neighbour(code, edge):
+    # "Edge k lies opposite corner k." "Crossing an edge answers the neighbour's code and the number of the shared edge there."
+    # The neighbour is the other triangle that has both corners of the edge.
+    one, two = (p for number, p in enumerate(corners(code), 1) if number != edge)
+    have_two = {other for other, _ in having(degree_of(code), two)}
+    others = [other for other, _ in having(degree_of(code), one) if other in have_two and other != code]
+    must(len(others) == 1, "one other triangle", code, edge, others)
+    (shared,) = [number for number, p in enumerate(corners(others[0]), 1) if p not in (one, two)]
+    return others[0], shared
+
+
+def ends_round(p, triangle):
+    """The two other corners of a triangle that has the corner p, first and last when going anticlockwise round p: the
+    determinant of p, first, last is above zero."""
+    x, y = (c for c in triangle if c != p)
+    return (x, y) if above_zero(determinant(exact(p), exact(x), exact(y))) else (y, x)
+
+
+@lru_cache(maxsize=1 << 12)
+def round_corner(name):
+    # "its triangles, 5 if the corner has only one non-zero weight, else 6, anticlockwise seen from outside, beginning with the
+    # triangle inside the corner's own name"
+    start = name - corner_number(name)
+    p = corners(start)[corner_number(name) - 1]
+    ends = {code: ends_round(p, corners(code)) for code, _ in having(degree_of(name), p)}
+    beginning = {first: code for code, (first, _) in ends.items()}
+    ring = [start]
+    while beginning[ends[ring[-1]][1]] != start:
+        ring.append(beginning[ends[ring[-1]][1]])
+    must(sorted(ring) == sorted(ends), "the ring has all triangles of the corner", name)
+    must(len(ring) == (5 if sum(w != 0 for w in p) == 1 else 6), "5 or 6", name)
+    return ring
+
+
+# ==== Document 01, "Filing a direction"
+
+
+@lru_cache(maxsize=1 << 13)
+def walls(triangle):
+    # "put the direction in place of corner 1, 2 or 3 among the triangle's three exact corner coordinates in order": the
+    # determinants of (d, b, c), (a, d, c), (a, b, d) are d times these, axis by axis. For each: the three u, and the three v.
+    a, b, c = map(exact, triangle)
+    return [tuple(zip(*n)) for n in (crossed(b, c), crossed(c, a), crossed(a, b))]
+
+
+def holds(triangle, d):
+    # "the three determinants, each a u + vφ, are all at least 0"
+    x, y, z = d
+    for (xu, yu, zu), (xv, yv, zv) in walls(triangle):
+        if not at_least_zero(x * xu + y * yu + z * zu, x * xv + y * yv + z * zv):
+            return False
+    return True
+
+
+def full_holders(n, d):
+    """Every triangle of the degree is asked."""
+    return [code for code, triangle in whole_degree(n).items() if holds(triangle, d)]
+
+
+@lru_cache(maxsize=1 << 14)
+def deep_holders(n, d):
+    """What a child holds its parent holds, so only children of holders are asked."""
+    if n == 0:
+        found = list(whole_degree(0).items())
+    else:
+        found = [(child_code(c, k), x) for c, triangle in deep_holders(n - 1, d) for k, x in enumerate(children(triangle))]
+    return [(code, triangle) for code, triangle in found if holds(triangle, d)]
+
+
+@lru_cache(maxsize=1 << 14)
+def holders(n, d):
+    # "The list of all holders is in rising order"
+    found = full_holders(n, d) if n <= FULL else sorted(code for code, _ in deep_holders(n, d))
+    # "there are 1, 2 or 6 holders and never 5; at degree 0 there are 1 or 2"
+    must(len(found) in ((1, 2) if n == 0 else (1, 2, 6)), "the count of holders", n, d)
+    return found
+
+
+# ==== Document 01, "Coordinates for drawing"
+
+
+def tick(u, v):
+    # "t, the greatest whole number not above 65,536·(u + vφ)", which is (65536(2u + v) + 65536v·√5) / 2.
+    w, s = 65536 * (2 * u + v), 65536 * v
+    root = math.isqrt(5 * s * s)  # √5 times a whole number other than 0 is never whole
+    t = (w + (root if s >= 0 else -root - 1)) // 2
+    # "The same rule says what t is."
+    must(at_least_zero(65536 * u - t, 65536 * v), "t is not above", u, v)
+    must(not at_least_zero(65536 * u - t - 1, 65536 * v), "t is the greatest", u, v)
+    must(abs(t) < 2**53, "|t| stays below 2^53", u, v)
+    return t
+
+
+@lru_cache(maxsize=1 << 15)
+def ticks(weights):
+    return [tick(u, v) for u, v in exact(weights)]
+
+
+def f64_bits(t, n):
+    # "The drawn coordinate is the f64 equal to t divided by 65,536·2^N." "A zero ... is the positive zero."
+    if t == 0:
+        return 0
+    top = abs(t).bit_length() - 1
+    sign, exponent, fraction = int(t < 0), 1023 + top - 16 - n, (abs(t) << (52 - top)) - 2**52
+    bits = (sign << 63) | (exponent << 52) | fraction
+    (value,) = struct.unpack(">d", struct.pack(">Q", bits))
+    above, below = value.as_integer_ratio()
+    must(above * 65536 * 2**n == t * below, "the f64 is exact", t, n)
+    return bits
+
+
+def decimal(t, n):
+    """The exact decimal of t / (65536·2^N)."""
+    places = 16 + n
+    whole, rest = divmod(abs(t), 2**places)
+    digits = str(rest * 5**places).rjust(places, "0").rstrip("0")
+    return ("-" if t < 0 else "") + str(whole) + ("." + digits if digits else "")
+
+
+# ==== Document 01, "Refusal numbers"
+
+REFUSAL_TABLE = """
+| 1 | a degree, as field or argument, is above 24 |
+| 2 | a is 0, 6 or 7 |
+| 3 | a digit beyond the degree is not 0 |
+| 4 | the four zero bits are not zero, or the corner number does not fit the kind of word |
+| 5 | an edge or corner argument is not 1 to 3, or a child digit is not 0 to 3 |
+| 6 | parent of degree 0, or child of degree 24 |
+| 7 | the direction is (0, 0, 0) |
+| 8 | a direction coordinate lies outside -1,000,000,000 to 1,000,000,000 |
+| 9 | a lent list is too short: 12 for weights, 6 for triangles |
+| 10 | a word passes 1 to 4 as a corner name and is not the canonical one |
+| 11 | no corner of the degree has the twelve weights |
+"""
+REFUSALS = {int(n): text for n, text in re.findall(r"\| (\d+) \| (.*) \|", REFUSAL_TABLE)}
+
+# "Where several hold, the order is"
+REFUSAL_ORDER = [1, 2, 3, 4, 10, 5, 6, 8, 7, 9, 11]
+
+
+def first(refusals):
+    return min(refusals, key=REFUSAL_ORDER.index, default=0)
+
+
+def when(no, true):
+    return {no} if true else set()
+
+
+def degree_refusals(n):
+    return when(1, n > DEEPEST)
+
+
+def word_refusals(word, numbers):
+    return (
+        degree_refusals(degree_of(word))
+        | when(2, side_of(word)[0] in (0, 6, 7))
+        | when(3, any(all_digits(word)[degree_of(word) :]))
+        | when(4, zero_bits(word) != 0 or corner_number(word) not in numbers)
+    )
+
+
+@lru_cache(maxsize=1 << 10)
+def code_refusals(code):
+    # "A triangle code has corner number 0."
+    return word_refusals(code, (0,))
+
+
+def named_corner(name):
+    return corners(name - corner_number(name))[corner_number(name) - 1]
+
+
+@lru_cache(maxsize=1 << 10)
+def name_refusals(name):
+    # "A corner name has corner number 1 to 3, and is canonical"
+    wrong = word_refusals(name, (1, 2, 3))
+    return wrong or when(10, canonical(degree_of(name), named_corner(name)) != name)
+
+
+def number_refusals(number):
+    """An edge or corner argument."""
+    return when(5, number not in (1, 2, 3))
+
+
+def list_refusals(places, least):
+    return when(9, len(places) < least)
+
+
+def direction_refusals(n, d):
+    return degree_refusals(n) | when(8, any(abs(x) > 1_000_000_000 for x in d)) | when(7, d == (0, 0, 0))
+
+
+SIDE_SETS = [set(side_vertices(*side)) for side in SIDES]
+
+
+def back_refusals(n, weights):
+    # "only its first 12 or 6 places are used"
+    r = degree_refusals(n) | list_refusals(weights, 12)
+    if not r:
+        p = tuple(weights[:12])
+        r = when(11, not having(n, p))
+        # "Refusal 11 is given exactly when the weights do not add to 2^N or the vertices with non-zero weights are not all
+        # corners of one side."
+        used = {vertex for vertex, w in zip(ORDER, p) if w != 0}
+        must((not r) == (sum(p) == 2**n and any(used <= one for one in SIDE_SETS)), "row 11", n, p)
+    return r
+
+
+# ==== The console's answers
+
+
+def word_text(word):
+    return f"0x{word:016X}"
+
+
+def code_text(code):
+    return f"{triangle_text(code)} {word_text(code)}"
+
+
+def name_text(name):
+    number = corner_number(name)
+    return f"{word_text(name)} corner {number} of {triangle_text(name - number)}"
+
+
+def refused(no):
+    return f"refused {no}: {REFUSALS[no]}"
+
+
+def either(refusals, say):
+    """The refusal, or else the answer."""
+    no = first(refusals)
+    return refused(no) if no else say()
+
+
+def axes(values):
+    return " ".join(f"{axis} {value}" for axis, value in zip("xyz", values))
+
+
+def lent_list(places, usual):
+    # "whose places hold 1, 2, 3, .. before the call"
+    return list(range(1, (usual if places is None else places) + 1))
+
+
+def with_places(text, places, lent, form):
+    return text if places is None else text + " |" + "".join(" " + form(x) for x in lent)
+
+
+def call_check(code):
+    return either(code_refusals(code), lambda: "ok")
+
+
+def call_check_name(name):
+    return either(name_refusals(name), lambda: "ok")
+
+
+def call_parent(code):
+    r = code_refusals(code) | when(6, degree_of(code) == 0)
+    return either(r, lambda: code_text(parent_code(code)))
+
+
+def call_child(code, digit):
+    r = code_refusals(code) | when(5, digit not in (0, 1, 2, 3)) | when(6, degree_of(code) == DEEPEST)
+    return either(r, lambda: code_text(child_code(code, digit)))
+
+
+def call_cross(code, edge):
+    def say():
+        other, shared = neighbour(code, edge)
+        return f"{code_text(other)} edge {shared}"
+
+    return either(code_refusals(code) | number_refusals(edge), say)
+
+
+def call_name(code, number):
+    r = code_refusals(code) | number_refusals(number)
+    return either(r, lambda: name_text(canonical(degree_of(code), corners(code)[number - 1])))
+
+
+def call_back(n, weights):
+    return either(back_refusals(n, weights), lambda: name_text(canonical(n, tuple(weights[:12]))))
+
+
+def answer_weights(refusals, corner_of, word, places):
+    lent = lent_list(places, 12)
+    no = first(refusals | list_refusals(lent, 12))
+    if not no:
+        lent[:12] = corner_of(word)
+    return with_places(refused(no) if no else " ".join(map(str, lent[:12])), places, lent, str)
+
+
+def call_weights(code, number, places=None):
+    return answer_weights(code_refusals(code) | number_refusals(number), lambda w: corners(w)[number - 1], code, places)
+
+
+def call_name_weights(name, places=None):
+    return answer_weights(name_refusals(name), named_corner, name, places)
+
+
+def of_corner(say):
+    """A call on a code with a corner number, that says something of the degree and the corner's weights."""
+
+    def call(code, number):
+        r = code_refusals(code) | number_refusals(number)
+        return either(r, lambda: say(degree_of(code), corners(code)[number - 1]))
+
+    return call
+
+
+def of_name(say):
+    """The same on a corner name."""
+    return lambda name: either(name_refusals(name), lambda: say(degree_of(name), named_corner(name)))
+
+
+def say_exact(n, p):
+    return axes(f"{u} {v}" for u, v in exact(p))
+
+
+def say_t(n, p):
+    return axes(ticks(p))
+
+
+def say_drawn(n, p):
+    return axes(decimal(t, n) for t in ticks(p))
+
+
+def say_bits(n, p):
+    return axes(word_text(f64_bits(t, n)) for t in ticks(p))
+
+
+def answer_triangles(refusals, search, places):
+    lent = lent_list(places, 6)
+    no = first(refusals | list_refusals(lent, 6))
+    if no:
+        return with_places(refused(no), places, lent, word_text)
+    found = search()
+    lent[: len(found)] = found
+    return with_places(f"{len(found)}: " + ", ".join(map(code_text, found)), places, lent, word_text)
+
+
+def call_ring(name, places=None):
+    return answer_triangles(name_refusals(name), lambda: round_corner(name), places)
+
+
+def call_file(n, x, y, z):
+    # "The answer is the least code that holds it"
+    return either(direction_refusals(n, (x, y, z)), lambda: code_text(min(holders(n, (x, y, z)))))
+
+
+def call_list(n, x, y, z, places=None):
+    return answer_triangles(direction_refusals(n, (x, y, z)), lambda: holders(n, (x, y, z)), places)
+
+
+# ==== The console's lines
+
+HEX = re.compile("0x([0-9A-Fa-f]{1,16})")
+TRIANGLE = re.compile("[0-7][01][01][0-3]{0,24}")
+WHOLE_NUMBER = re.compile("[0-9]+")
+SIGNED_NUMBER = re.compile("-?[0-9]+")
+
+
+class Unreadable(Exception):
+    pass
+
+
+def within(number, least, most):
+    if not least <= number <= most:
+        raise Unreadable
+    return number
+
+
+def read_hex(text):
+    found = HEX.fullmatch(text)
+    if not found:
+        raise Unreadable
+    return int(found[1], 16)
+
+
+def read_code(text):
+    return read_triangle(text) if TRIANGLE.fullmatch(text) else read_hex(text)
+
+
+def read_number(text):
+    return within(int(text), 0, 2**64 - 1) if WHOLE_NUMBER.fullmatch(text) else read_hex(text)
+
+
+def read_signed(text):
+    if not SIGNED_NUMBER.fullmatch(text):
+        raise Unreadable
+    return within(int(text), -(2**31), 2**31 - 1)
+
+
+def read_places(text):
+    return within(read_number(text), 0, 16)
+
+
+READERS = {"CODE": read_code, "NAME": read_hex, "X": read_signed, "Y": read_signed, "Z": read_signed, "[PLACES]": read_places}
+
+ANSWERS = {
+    "check CODE": call_check,
+    "check-name NAME": call_check_name,
+    "parent CODE": call_parent,
+    "child CODE DIGIT": call_child,
+    "cross CODE EDGE": call_cross,
+    "name CODE CORNER": call_name,
+    "back DEGREE WEIGHTS": call_back,
+    "weights CODE CORNER [PLACES]": call_weights,
+    "name-weights NAME [PLACES]": call_name_weights,
+    "exact CODE CORNER": of_corner(say_exact),
+    "name-exact NAME": of_name(say_exact),
+    "t CODE CORNER": of_corner(say_t),
+    "name-t NAME": of_name(say_t),
+    "drawn CODE CORNER": of_corner(say_drawn),
+    "name-drawn NAME": of_name(say_drawn),
+    "bits CODE CORNER": of_corner(say_bits),
+    "name-bits NAME": of_name(say_bits),
+    "ring NAME [PLACES]": call_ring,
+    "file DEGREE X Y Z": call_file,
+    "list DEGREE X Y Z [PLACES]": call_list,
+}
+FORMS = {form.split()[0]: (form, form.split()[1:], answer) for form, answer in ANSWERS.items()}
+
+
+def read_arguments(kinds, given):
+    if kinds[-1] == "WEIGHTS":  # "(0 to 16 weights)"
+        within(len(given), 1, 17)
+        return [read_number(given[0]), [read_number(x) for x in given[1:]]]
+    within(len(given), len(kinds) - (kinds[-1] == "[PLACES]"), len(kinds))
+    return [READERS.get(kind, read_number)(x) for kind, x in zip(kinds, given)]
+
+
+def answer(line):
+    """The answer to one line, a character for each byte."""
+    if len(line) > 1000:
+        return "error: a line has at most 1000 bytes"
+    parts = [x for x in line.replace("\t", " ").replace("\r", " ").split(" ") if x]
+    if not parts or parts[0].startswith("#"):
+        return ""
+    if parts[0] not in FORMS:
+        must(parts[0] != "help", "help is not answered here")
+        return "error: no such call; help shows them"
+    form, kinds, call = FORMS[parts[0]]
+    try:
+        values = read_arguments(kinds, parts[1:])
+    except Unreadable:
+        return "error: write it as " + form
+    return call(*values)
+
+
+# ==== Internal checks
+
+
+def check_degree(n):
+    # "There are 20·4^N triangles, 30·4^N edges and 10·4^N + 2 corners."
+    triangles, index = whole_degree(n), whole_index(n)
+    edges = {}
+    for code, triangle in triangles.items():
+        must(above_zero(determinant(*map(exact, triangle))), "anticlockwise seen from outside", code)
+        for two in itertools.combinations(triangle, 2):
+            edges.setdefault(frozenset(two), []).append(code)
+    must(len(triangles) == 20 * 4**n, "20·4^N triangles", n)
+    must(len(edges) == 30 * 4**n, "30·4^N edges", n)
+    must(len(index) == 10 * 4**n + 2, "10·4^N + 2 corners", n)
+    must(all(len(two) == 2 for two in edges.values()), "each edge has two triangles", n)
+    must(all(sum(p) == 2**n for p in index), "So they add to 2^N", n)
+    must(len({exact(p) for p in index}) == len(index), "equal exact coordinates mean equal weights", n)
+    for code in triangles:
+        for edge in (1, 2, 3):
+            must(neighbour(*neighbour(code, edge)) == (code, edge), "there and back", code, edge)
+
+
+def search_by_determinants(n, p):
+    """Every triangle of degree n that has the corner p, by coming down through triangles that hold its exact coordinate."""
+    at = exact(p)
+
+    def holds_it(triangle, left):
+        a, b, c = map(exact, triangle)
+        return all(at_least_zero(*determinant(*three)) for three in ((at, b, c), (a, at, c), (a, b, at)))
+
+    return with_numbers(come_down(whole_degree(0).items(), n, holds_it), p)
+
+
+def check_search():
+    """Coming down against the search over all triangles, and against coming down by determinants."""
+    for n in range(WHOLE + 1):
+        for at, (p, found) in enumerate(whole_index(n).items()):
+            if n <= 3 or at % 23 == 0:
+                must(deep_search(n, p) == found, "coming down", n, p)
+            if n <= 1 or at % 97 == 0:
+                must(search_by_determinants(n, p) == found, "coming down by determinants", n, p)
+    chance = random.Random(11)
+    for n in range(WHOLE + 1, DEEPEST + 1):
+        p = chance.choice(corners(random_code(chance, n)))
+        must(deep_search(n, p) == search_by_determinants(n, p) != [], "the two ways of coming down", n, p)
+
+
+def literal_holds(triangle, d):
+    a, b, c = map(exact, triangle)
+    at = tuple((x, 0) for x in d)
+    return all(at_least_zero(*determinant(*three)) for three in ((at, b, c), (a, at, c), (a, b, at)))
+
+
+def check_holders(directions):
+    """Coming down against the search over all triangles of degrees 0 to 4, with determinants written out for a share."""
+    for at, d in enumerate(directions):
+        for n in range(FULL + 2):
+            must(full_holders(n, d) == sorted(code for code, _ in deep_holders(n, d)), "coming down", n, d)
+        if at % 8 == 0:
+            for code, triangle in whole_degree(2).items():
+                must(literal_holds(triangle, d) == holds(triangle, d), "the determinants", code, d)
+
+
+def check_signs():
+    """F(k+1) - φF(k) is above zero exactly for even k, and comes as close to zero as whole numbers of its size can."""
+    a, b = 0, 1
+    for k in range(120):
+        must(at_least_zero(b, -a) == (k % 2 == 0), "the sign rule", k)
+        must(at_least_zero(-b, a) == (k % 2 == 1), "the sign rule", k)
+        a, b = b, a + b
+    must(at_least_zero(0, 0) and not above_zero((0, 0)), "the sign of zero")
+    must(times((0, 1), (0, 1)) == (1, 1), "φ² = φ + 1")
+
+
+def check_examples():
+    # "Examples, proved together as one tabled statement (E1 to E12)"
+    word = read_triangle
+    must(word("100") == 0x2000000000000000 and answer("check 0x2000000000000000") == "ok", "E1")
+    must(word("1001") == 0x2050000000000000 and answer("child 100 1") == "1001 0x2050000000000000", "E2")
+    must(answer("file 2 0 0 1") == "10003 0x208C000000000000", "E3")
+    must(answer("file 3 1 1 1") == code_text(word("200000")), "E4")
+    must(answer("file 3 -1 -1 -1") == code_text(word("410000")), "E5")
+    must(answer("file 2 1 0 0") == code_text(word("11102")), "E6")
+    must(answer("file 2 0 0 -1") == code_text(word("21003")), "E7")
+    must(answer("cross 1001 2") == code_text(word("2001")) + " edge 3", "E8")
+    must(answer("cross 1002 1") == code_text(word("1013")) + " edge 1", "E9")
+    must(answer("cross 1011 2") == code_text(word("5113")) + " edge 2", "E10")
+    must(canonical(0, vertex_weights("20")) == 0x2000000000000003, "E11")
+    must(answer("name 100 3") == "0x2000000000000003 corner 3 of 100", "E11 again")
+    must(ticks(vertex_weights("41")) == [-106040, 0, -65536], "E12")
+    must(corners(word("410"))[2] == vertex_weights("41") and answer("t 410 3") == "x -106040 y 0 z -65536", "E12 again")
+    must(answer("list 0 0 0 1") == "2: 100 0x2000000000000000, 500 0xA000000000000000", "all holders of (0,0,1)")
+
+
+def internal_checks():
+    must(sorted(DIRECTIONS) == sorted(ORDER) and sorted(REFUSALS) == sorted(REFUSAL_ORDER), "the tables")
+    check_signs()
+    for n in range(WHOLE + 1):
+        check_degree(n)
+    check_search()
+    check_holders(all_directions())
+    check_examples()
+
+
+# ==== The calls: examples, and every triangle to degree 5
+
+MOST = 2**64 - 1
+
+
+def example_calls():
+    yield from ["check 0x2000000000000000", "check 100", "check 1001", "check 0x2050000000000000", "child 100 1", "parent 1001"]
+    yield from ["file 2 0 0 1", "file 3 1 1 1", "file 3 -1 -1 -1", "file 2 1 0 0", "file 2 0 0 -1"]
+    yield from ["cross 1001 2", "cross 1002 1", "cross 1011 2", "name 100 3", "t 410 3", "name-t 0x2000000000000003"]
+    yield from ["list 0 0 0 1", "list 0 0 0 1 6", "list 0 0 0 1 8"]
+
+
+def some_form(code, at):
+    """A code as document 01 writes it, or as a word in upper or lower case."""
+    return [triangle_text(code), f"0x{code:016X}", triangle_text(code), f"0x{code:016x}"][at % 4]
+
+
+def triangle_calls(n):
+    for at, code in enumerate(whole_degree(n)):
+        c = some_form(code, at)
+        yield f"check {c}"
+        for i in (1, 2, 3):
+            yield f"weights {c} {i}"
+            yield f"exact {c} {i}"
+            yield f"t {c} {i}"
+            yield f"name {c} {i}"
+            yield f"cross {c} {i}"
+
+
+def corner_calls(n):
+    for at, p in enumerate(whole_index(n)):
+        name = f"0x{canonical(n, p):016{'xX'[at % 2]}}"
+        yield f"check-name {name}"
+        yield f"ring {name}" + ["", " 6", "", " 7", "", ""][at % 6]
+        yield f"back {n} {' '.join(map(str, p))}"
+        yield f"name-weights {name}" + ["", "", " 12", "", "", " 14", ""][at % 7]
+        yield f"name-exact {name}"
+        yield f"name-t {name}"
+
+
+def every_triangle():
+    for n in range(WHOLE + 1):
+        yield from triangle_calls(n)
+
+
+def every_corner():
+    for n in range(WHOLE + 1):
+        yield from corner_calls(n)
+
+
+def other_words():
+    """Words that pass 1 to 4 as a corner name and are not the canonical one: all to degree 2, and a share of the others."""
+    for n in range(WHOLE + 1):
+        at = 0
+        for found in whole_index(n).values():
+            for code, number in found[1:]:
+                at += 1
+                if n <= 2 or at % 9 == 0:
+                    yield f"check-name {word_text(code | number)}"
+                if at % 401 == 0:
+                    for call in ("name-weights", "name-exact", "name-t", "name-drawn", "name-bits", "ring"):
+                        yield f"{call} {word_text(code | number)}"
+
+
+def every_drawing():
+    """All triangles to degree 3 and all corners to degree 2, and a share of the others to degree 5."""
+    for n in range(WHOLE + 1):
+        for at, code in enumerate(whole_degree(n)):
+            if n <= 3 or at % 41 == 0:
+                for i in (1, 2, 3) if n <= 3 else (at % 3 + 1,):
+                    yield f"drawn {some_form(code, at)} {i}"
+                    yield f"bits {some_form(code, at + 1)} {i}"
+        for at, p in enumerate(whole_index(n)):
+            if n <= 2 or at % 61 == 0:
+                yield f"name-drawn {word_text(canonical(n, p))}"
+                yield f"name-bits {word_text(canonical(n, p))}"
+
+
+def every_step():
+    for n in range(WHOLE):
+        for at, code in enumerate(whole_degree(n)):
+            yield f"parent {some_form(code, at)}"
+            for digit in range(4):
+                yield f"child {some_form(code, at)} {digit}"
+
+
+# ==== The calls: directions
+
+FAR = 1_000_000_000
+
+
+def fits(d):
+    return any(d) and all(abs(x) <= FAR for x in d)
+
+
+def shortened(d):
+    g = math.gcd(*d)
+    return tuple(x // g for x in d) if g else d
+
+
+def small_directions():
+    return [d for d in itertools.product((-2, -1, 0, 1, 2), repeat=3) if any(d)]
+
+
+def far_directions():
+    ends = itertools.product((-FAR, 0, FAR), repeat=3)
+    near = [(FAR, FAR - 1, -FAR), (-FAR, 1, FAR), (1, -FAR, -1), (FAR - 1, FAR, FAR), (0, 1, FAR), (1, 0, -FAR), (FAR, -1, -1)]
+    return [d for d in ends if any(d)] + near
+
+
+def random_directions(chance):
+    return [tuple(chance.randint(-most, most) for _ in range(3)) for most in [10] * 20 + [10**5] * 20 + [FAR] * 50]
+
+
+def on_corners():
+    """The corners to degree 5 whose direction is whole: the u and the v of the three axes are in proportion."""
+    found = []
+    for p in itertools.chain.from_iterable(whole_index(n) for n in range(WHOLE + 1)):
+        u, v = zip(*exact(p))
+        if plain_crossed(u, v) == (0, 0, 0):
+            d = shortened(u if any(u) else v)
+            found += [e for e in (d, tuple(-x for x in d)) if holds(corners(having(degree_for(p), p)[0][0]), e)]
+    return list(dict.fromkeys(found))
+
+
+def degree_for(p):
+    return sum(p).bit_length() - 1
+
+
+def plain_crossed(y, z):
+    return y[1] * z[2] - y[2] * z[1], y[2] * z[0] - y[0] * z[2], y[0] * z[1] - y[1] * z[0]
+
+
+def on_edges(chance):
+    """Whole directions on edges inside a side. A line of degree n through a side runs between a point of one edge and a point of
+    another; a whole direction lies in its plane exactly when its products with the u and the v of the plane are both zero."""
+    found = []
+    for n in (n for n in range(1, 15) for _ in range(30)):
+        side = side_triangle(chance.choice(SIDES))
+        a, b, c = chance.sample(side, 3)
+        j = chance.randrange(1, 2**n, 2)
+        p, q = (tuple((2**n - j) * x + j * y for x, y in zip(a, end)) for end in (b, c))
+        d = shortened(plain_crossed(*zip(*crossed(exact(p), exact(q)))))
+        found += [e for e in (d, tuple(-x for x in d)) if fits(e) and holds(side, e)]
+    return list(dict.fromkeys(found))
+
+
+def beside_edges(chance, directions):
+    """One step beside them, as far out as the bounds allow."""
+    found = []
+    for d in directions:
+        scale = (FAR - 1) // max(map(abs, d))
+        found.append(tuple(scale * x + e for x, e in zip(d, chance.sample((-1, 0, 1), 3))))
+    return found
+
+
+def fibonacci_pairs():
+    a, b = 1, 1
+    while b <= 2 * FAR:
+        yield a, b
+        a, b = b, a + b
+
+
+def close_to(at):
+    """Whole directions ever closer to an exact coordinate: u + vφ times F(k) is almost uF(k) + vF(k+1)."""
+    return [d for d in (tuple(u * a + v * b for u, v in at) for a, b in fibonacci_pairs()) if fits(d)]
+
+
+def close_directions(chance):
+    """Close to vertices, to corners and to points of edges, as close as the bounds allow and less, and one step beside."""
+    points = [vertex_weights(v) for v in ORDER]
+    for n in (1, 2, 3, 4, 5, 6, 8, 10):
+        for _ in range(2):
+            x, y = chance.sample(corners(random_code(chance, n)), 2)
+            g, h = chance.randint(1, 4), chance.randint(1, 4)
+            points += [x, tuple(g * j + h * k for j, k in zip(x, y))]
+    found = []
+    for p in points:
+        some = close_to(exact(p))
+        if some:
+            beside = tuple(x + chance.randint(-1, 1) for x in some[-1])
+            found += some[-2:] + [chance.choice(some)] + ([beside] if fits(beside) else [])
+    return found
+
+
+def planes_of_zero():
+    """Directions with one coordinate 0, close to φ : 1 and to 1 : φ, and their turns and signs."""
+    found = []
+    for a, b in [(610, 987), (832040, 1346269), (1346269, 832040), (433494437, 701408733), (701408733, 433494437)]:
+        for d in [(a, 0, b), (-a, 0, -b), (0, -a, b), (b, a, 0), (a, 1, b), (-b, -1, a)]:
+            found.append(d)
+    return found
+
+
+@lru_cache(maxsize=None)
+def all_directions():
+    chance = random.Random(2)
+    kinds = [small_directions(), far_directions(), random_directions(chance), on_corners(), on_edges(chance)]
+    kinds += [beside_edges(chance, kinds[-1]), planes_of_zero(), close_directions(chance)]
+    return list(dict.fromkeys(itertools.chain.from_iterable(kinds)))
+
+
+def direction_calls():
+    """The list for degrees 0 to 4, and list and file for a share of all degrees; for some directions both for all degrees."""
+    chance = random.Random(3)
+    for at, (x, y, z) in enumerate(all_directions()):
+        every = at % 14 == 0
+        for n in range(DEEPEST + 1):
+            if every or n <= FULL + 1 or chance.random() < 0.18:
+                yield f"list {n} {x} {y} {z}" + chance.choice(["", "", " 6", " 9"])
+            if every or chance.random() < 0.15:
+                yield f"file {n} {x} {y} {z}"
+
+
+# ==== The calls: degrees 6 to 24
+
+
+def random_code(chance, n):
+    """Digits of every kind: any, along one edge, towards one corner, into the middle, and mixtures."""
+    kinds = [(0, 1, 2, 3), (0, 1, 2, 3), (1, 2), (2, 3), (1, 3), (1,), (2,), (3,), (0,), (0, chance.randrange(1, 4))]
+    some = chance.choice(kinds)
+    turn = chance.choice([0, 0, 1, 2, n // 2, n - 1])
+    digits = [chance.randrange(4) if at < turn else chance.choice(some) for at in range(n)]
+    return make_code(chance.choice(SIDES), digits)
+
+
+def deep_calls():
+    chance = random.Random(4)
+    for n in range(WHOLE + 1, DEEPEST + 1):
+        for at in range(19):
+            code = random_code(chance, n)
+            c, i = some_form(code, at), chance.randrange(1, 4)
+            yield from deep_triangle_calls(c, i, chance.randrange(4))
+            yield from deep_corner_calls(n, corners(code)[i - 1], chance)
+        for vertex in chance.sample(ORDER, 3):
+            p = tuple(w << n for w in vertex_weights(vertex))
+            yield f"ring {word_text(canonical(n, p))} {chance.choice([6, 7])}"
+
+
+def deep_triangle_calls(c, i, digit):
+    yield f"check {c}"
+    for call in ("weights", "exact", "t", "drawn", "bits"):
+        yield f"{call} {c} {i}"
+    for k in (1, 2, 3):
+        yield f"name {c} {k}"
+        yield f"cross {c} {k}"
+    yield f"parent {c}"
+    yield f"child {c} {digit}"
+
+
+def deep_corner_calls(n, p, chance):
+    name = word_text(canonical(n, p))
+    code, number = chance.choice(having(n, p))
+    yield f"back {n} {' '.join(map(str, p))}"
+    yield f"ring {name}"
+    yield f"check-name {name}"
+    yield f"check-name {word_text(code | number)}"
+    yield f"{chance.choice(['name-weights', 'name-exact', 'name-t', 'name-drawn', 'name-bits'])} {name}"
+
+
+# ==== The calls: refusals
+
+CODE_CALLS = {
+    "check": [""],
+    "parent": [""],
+    "child": [" 1", " 4", f" {MOST}"],
+    "cross": [" 2", " 0", " 4", f" {MOST}"],
+    "name": [" 3", " 0", " 4", f" {MOST}"],
+    "weights": [" 1", " 0", " 4", f" {MOST}", " 2 11", " 3 12", " 1 13", " 2 0", " 4 11", " 0 12"],
+    "exact": [" 2", " 0", " 4", f" {MOST}"],
+    "t": [" 3", " 0", " 4", f" {MOST}"],
+    "drawn": [" 1", " 0", " 4", f" {MOST}"],
+    "bits": [" 2", " 0", " 4", f" {MOST}"],
+}
+NAME_CALLS = {
+    "check-name": [""],
+    "name-weights": ["", " 11", " 12", " 13", " 0"],
+    "name-exact": [""],
+    "name-t": [""],
+    "name-drawn": [""],
+    "name-bits": [""],
+    "ring": ["", " 5", " 6", " 7", " 0"],
+}
+
+
+def break_degree(word, chance):
+    return word & ~(31 << 54) | chance.choice([25, 31, chance.randrange(25, 32)]) << 54
+
+
+def break_a(word, chance):
+    return word & ~(7 << 61) | chance.choice([0, 6, 7]) << 61
+
+
+def break_digit(word, chance):
+    """A digit beyond the degree, the next one or the last one among them."""
+    beyond = range(degree_of(word), 24)
+    if not beyond:
+        return word
+    place = chance.choice([beyond[0], beyond[-1], chance.choice(beyond)])
+    return word | chance.randrange(1, 4) << (52 - 2 * place)
+
+
+def break_zero_bits(word, chance):
+    return word | 1 << chance.randrange(2, 6)
+
+
+def break_code_number(word, chance):
+    return word | chance.randrange(1, 4)
+
+
+def break_name_number(word, chance):
+    return word & ~3
+
+
+def break_canonical(word, chance):
+    """Another triangle that has the corner, in place of the least."""
+    if first(name_refusals(word)):
+        return word
+    code, number = chance.choice(having(degree_of(word), named_corner(word))[1:])
+    return code | number
+
+
+FIELD_BREAKS = [break_degree, break_a, break_digit, break_zero_bits]
+CODE_BREAKS = FIELD_BREAKS + [break_code_number]
+NAME_BREAKS = [break_canonical, break_name_number] + FIELD_BREAKS  # canonical first: the others spoil the search for it
+
+
+def broken(word, breaks, chance):
+    for one in breaks:
+        word = one(word, chance)
+    return word
+
+
+def alone_and_in_pairs(breaks):
+    return itertools.chain.from_iterable(itertools.combinations(breaks, k) for k in (0, 1, 2))
+
+
+def random_name(chance, n):
+    return canonical(n, chance.choice(corners(random_code(chance, n))))
+
+
+def broken_calls():
+    """Every call, with every field broken alone and in pairs, with good and bad arguments and lists."""
+    chance = random.Random(5)
+    for n in (0, chance.randrange(1, 6), chance.randrange(6, 24), 24):
+        for call, arguments in CODE_CALLS.items():
+            for breaks in alone_and_in_pairs(CODE_BREAKS):
+                word = broken(random_code(chance, n), breaks, chance)
+                yield from (f"{call} {word_text(word)}{x}" for x in arguments)
+        for call, arguments in NAME_CALLS.items():
+            for breaks in alone_and_in_pairs(NAME_BREAKS):
+                word = broken(random_name(chance, n), breaks, chance)
+                yield from (f"{call} {word_text(word)}{x}" for x in arguments)
+
+
+def random_words():
+    """Every call with words of three kinds: any 64 bits, and good words with one field and with two fields broken."""
+    chance = random.Random(6)
+    for calls, make, breaks in ((CODE_CALLS, random_code, CODE_BREAKS), (NAME_CALLS, random_name, NAME_BREAKS)):
+        for call, arguments in calls.items():
+            for at in range(150):
+                word = chance.getrandbits(64)
+                if at % 3:
+                    few = sorted(chance.sample(breaks, at % 3), key=breaks.index)
+                    word = broken(make(chance, chance.randrange(25)), few, chance)
+                yield f"{call} {word_text(word)}{chance.choice(arguments)}"
+
+
+def fixed_words():
+    """Words at the ends of the fields, as both kinds."""
+    words = [0, 1, 2, 3, 4, 0x40, MOST, MOST - 3, 1 << 63, 1 << 61, 5 << 61, 6 << 61, 7 << 61, 0x27C0000000000000]
+    words += [0x2600000000000000 | i for i in range(4)] + [0x2640000000000000 | i for i in range(4)]
+    words += [0xB800000000000000 | i for i in range(4)] + [0x2000000000000000 | 1 << k for k in range(64)]
+    for word in dict.fromkeys(words):
+        for call in ("check", "check-name", "parent", "ring"):
+            yield f"{call} {word_text(word)}"
+
+
+def list_lengths():
+    # "list lengths 5 and 6, 11 and 12", and others, for a corner with 5 and one with 6 triangles, and directions with 1, 2, 6.
+    names = [0x2000000000000001, 0x2000000000000002, 0x2040000000000001, 0x2600000000000001]
+    names.append(canonical(3, corners(read_triangle("210123"))[0]))
+    for places in (0, 1, 5, 6, 7, 8, 11, 12, 13, 15, 16):
+        for one in names:
+            yield f"ring {word_text(one)} {places}"
+            yield f"name-weights {word_text(one)} {places}"
+        for code in ("100", "511", "3010123", "2113120312", "100111111111111111111111111", "000", "600", "0x2000000000000001"):
+            for i in (0, 1, 3, 4):
+                yield f"weights {code} {i} {places}"
+        for n in (0, 1, 7, 24, 25):
+            for d in ("1 2 3", "0 0 1", "0 1 3", "0 0 0", "1000000001 0 0"):
+                yield f"list {n} {d} {places}"
+
+
+def direction_refusal_calls():
+    most = [FAR, FAR + 1, -FAR, -FAR - 1, -(2**31), 2**31 - 1]
+    directions = [(0, 0, 0), (1, -2, 3), (FAR, -FAR, FAR)]
+    directions += [(FAR + 1, -FAR - 1, 2**31 - 1), (-(2**31),) * 3, (2**31 - 1, 0, -(2**31))]
+    directions += [d for x in most for d in ((x, 0, 0), (5, x, 0), (-7, 1, x), (0, x, 0), (0, 0, x))]
+    for n in (0, 2, 24, 25, 31, 2**32, 2**63, MOST):
+        for x, y, z in directions:
+            yield f"file {n} {x} {y} {z}"
+            for places in ("", " 5"):
+                yield f"list {n} {x} {y} {z}{places}"
+
+
+def spread(parts):
+    """Twelve weights from vertex: weight."""
+    return [parts.get(v, 0) for v in ORDER]
+
+
+def wrong_weights(n, chance):
+    """Weights that do not add up, add up only modulo 2^64 or 2^32, or lie on no common side; and lists of other lengths."""
+    one = 2**n
+    a, b, c = side_vertices(*chance.choice(SIDES))
+    good = spread({a: one})
+    yield from (good[:k] for k in (0, 1, 11))
+    yield from (good, good + [0], good + [MOST], good + [7, 8, 9, 10])
+    yield spread({})
+    yield spread({a: one + 1})
+    yield spread({a: one - 1})
+    yield spread({a: one, b: 1})
+    yield spread({a: 2 * one})
+    yield spread({a: 2**63, b: 2**63, c: one})
+    yield spread({a: 2**63 + one, b: 2**63})
+    yield spread({a: MOST, b: 1, c: one})
+    yield spread({a: MOST, b: one + 1})
+    yield spread({a: MOST})
+    yield spread({a: 2**32 + one})
+    yield spread({a: 2**31, b: 2**31, c: one})
+    yield [MOST] * 12
+    yield [MOST] * 16
+    yield [one] * 12
+    yield [MOST] * 11
+    yield spread({"00": one - one // 2, "01": one // 2})
+    yield spread({"00": one, "11": MOST, "31": 1})
+
+
+def back_refusal_calls():
+    chance = random.Random(7)
+    for n in (0, 1, 2, 5, 6, 13, 23, 24, 25, 31, 32, 63, 64, 2**32 + 1, MOST):
+        for weights in wrong_weights(min(n, 24), chance):
+            yield f"back {n} {' '.join(map(str, weights))}".rstrip()
+
+
+def back_calls():
+    """Any weights on a side, then every pair and every three of vertices, of one side or not."""
+    chance = random.Random(8)
+    for n in range(DEEPEST + 1):
+        for _ in range(5):
+            x, y = sorted(chance.randint(0, 2**n) for _ in range(2))
+            a, b, c = chance.sample(side_vertices(*chance.choice(SIDES)), 3)
+            yield f"back {n} {' '.join(map(str, spread({a: x, b: y - x, c: 2**n - y})))}"
+    for two in itertools.combinations(ORDER, 2):
+        for n in (1, 24):
+            yield f"back {n} {' '.join(map(str, spread(dict.fromkeys(two, 2 ** (n - 1)))))}"
+    for a, b, c in itertools.combinations(ORDER, 3):
+        yield f"back 2 {' '.join(map(str, spread({a: 1, b: 2, c: 1})))}"
+    for four in itertools.combinations(ORDER[:8], 4):
+        yield f"back 2 {' '.join(map(str, spread(dict.fromkeys(four, 1))))}"
+
+
+def refusal_calls():
+    yield from broken_calls()
+    yield from random_words()
+    yield from fixed_words()
+    yield from list_lengths()
+    yield from direction_refusal_calls()
+    yield from back_refusal_calls()
+    yield from back_calls()
+
+
+# ==== The calls: lines that cannot be read, and lines that can, just
+
+
+def good_arguments(kinds):
+    good = {"CODE": "100", "NAME": "0x2000000000000001", "DEGREE": "0", "WEIGHTS": "1 0 0 0 0 0 0 0 0 0 0 0", "[PLACES]": "12"}
+    return [good.get(kind, "1") for kind in kinds]
+
+
+BAD_NUMBERS = """
+    18446744073709551616 99999999999999999999999999 0x10000000000000000 0x00000000000000001 -1 +1 1.0 0x x1 1x 1, 0xG 1_0 ٣
+""".split()
+BAD_CODES = """
+    10 1 800 120 102 1004 10O 100- -100 1000000000000000000000000000 0x 0xg1 0x20000000000000000 0X2000000000000000 100,
+    2000000000000000 E1
+""".split()
+BAD_NAMES = """
+    100 10003 1 0x 0x1G 2000000000000001 0x20000000000000001 0x00000000000000000 -0x1 x2
+""".split()
+BAD_SIGNED = """
+    2147483648 -2147483649 4294967296 18446744073709551615 -18446744073709551617 0x1 +1 --1 - 1- 1.5 1e3 −1 1,000
+""".split()
+BAD_PLACES = "17 18446744073709551615 18446744073709551616 -1 six 0x11 0x 12.0".split()
+BAD = {"CODE": BAD_CODES, "NAME": BAD_NAMES, "X": BAD_SIGNED, "Y": BAD_SIGNED, "Z": BAD_SIGNED, "[PLACES]": BAD_PLACES}
+
+
+def as_bytes(text):
+    """A character for each byte."""
+    return text.encode().decode("latin-1")
+
+
+def written(text):
+    """Lines written in a block: one after the other, with a semicolon between."""
+    return [as_bytes(x.strip(" ")) for x in text.strip().replace("\n", ";").split(";")]
+
+
+# What can not be read is said before any refusal.
+UNREADABLE_AND_REFUSED = """
+    child 600 x; child 000 18446744073709551616; weights 000 9 17; weights 100 4 x; ring 0x0 17; ring 0xFFFFFFFFFFFFFFFF -1
+    file 25 0 0 2147483648; file 25 0 0; list 25 0 0 0 17; list 99 -2147483649 0 0; name-weights 0x0 17; cross 700 0 1; back 25 x
+    back 25 0 0 0 0 0 0 0 0 0 0 0 0 0 0 0 0 0; parent 100 1; check-name 100
+"""
+
+
+def unreadable_calls():
+    """Every call with arguments missing, one too many, and each argument unreadable."""
+    chance = random.Random(9)
+    for call, (_, kinds, _) in FORMS.items():
+        good = good_arguments(kinds)
+        least = len(kinds) - (kinds[-1] in ("[PLACES]", "WEIGHTS"))
+        yield from (" ".join([call] + good[:k]) for k in range(least))
+        yield " ".join([call] + good + (["0"] * 5 if kinds[-1] == "WEIGHTS" else ["1"]))
+        yield " ".join([call] + good + ["x"])
+        yield " ".join([call] + good + ["# note"])
+        for at, kind in enumerate(kinds):
+            bad = BAD.get(kind, BAD_NUMBERS)
+            for word in bad if call in ("check", "check-name", "child", "file", "list", "ring") else chance.sample(bad, 4):
+                yield as_bytes(" ".join([call] + good[:at] + [word] + good[at + 1 :]))
+    for at, word in enumerate(BAD_NUMBERS):
+        yield as_bytes("back 1 " + " ".join(["0"] * at + [word] + ["0"] * (13 - at)))
+    yield from written(UNREADABLE_AND_REFUSED)
+
+
+UNKNOWN = """
+    foo; Check 100; CHECK 100; checks 100; chec 100; check100; check:100; 100; 0x2000000000000000; -; --help; Help; HELP; helpme
+    ?; exit; quit; check_name 0x2000000000000001; name_weights 1; names 100 1; names; crossing 1001 2; T 100 1; t1 100 1; tt
+    rings; Ring 0x2000000000000001; filed 0 1 1 1; lists 0 1 1 1; weight 100 1; backs 0 1; bit 100 1; drawn-name 100 1
+    exact-name 100 1; name-; -name; name-name 1; check#; check, 100; chéck 100; check\u00a0100; \u2003check 100
+    \ufeffcheck 100; φ
+"""
+
+
+def unknown_calls():
+    """Only spaces, tabs and carriage returns stand between words; any other byte belongs to a word."""
+    yield from written(UNKNOWN)
+    yield from ["check\x0b100", "\x0bcheck 100", "check\x0c 100", "check\x00 100", "\x00", "\x1acheck 100", "\x7f", "\xff\xfe"]
+    yield from ["\x80check 100", "check 100\x0b", "check \x0c100", "check 100\x00", "file 0 1 1 1\x0c", "child 100 \x001"]
+    yield as_bytes("check 100\u00a0")
+
+
+def empty_lines():
+    yield from ["", " ", "\t", "\r", "  \t \r ", "\r\r", " " * 80, "", "", "\t\t\t"]
+    yield from ["#", "# a note", "#check 100", "  # check 100", "\t#\t", "\r# x", "##", "#\x00", "# 100 1", "#error", "   #"]
+    yield from ["# " + "x" * 500, " \t# 0x2000000000000000 \r", "#\xff", "\r \t#"]
+
+
+READABLE = """
+    child 100 0x1; child 100 0x0000000000000003; child 100 000000000000000000000000000000000003; child 100 0x4; cross 1001 0x2
+    cross 1001 00002; cross 0x2050000000000000 2; name 100 03; weights 100 1 0x0c; weights 100 0x2 0x0C; weights 100 1 0012
+    ring 0x2000000000000001 0x06; ring 0x2000000000000001 0x10; ring 0x2000000000000001 016; ring 0x2000000000000001 0x5
+    ring 0x2000000000000001 0x0000000000000005; file 0x2 0 0 1; file 0x18 0 0 1; file 0x19 0 0 1; file 024 0 0 1
+    file 2 -0 -000 0001; file 2 -0 0 -0; file 2 00 -0001 0; list 2 000 0 -00001 0x7; file 2 -0000000002147483648 0 0
+    file 18446744073709551615 1 1 1; file 0xFFFFFFFFFFFFFFFF 1 1 1; file 0xffffffffffffffff 0 0 0
+    list 018446744073709551615 1 1 1 5; file 0000000000000000000000000025 1 1 1; check 0x0; check 0x1; check 0xa000000000000000
+    check 0xA000000000000000; check 0xaBcDeF0123456789; check-name 0x3; check-name 0x0; check-name 0xbE00000000000003
+    check 000; check 0003; check 6001; check 711; check 711333333333333333333333333; check 511333333333333333333333333
+    parent 600; parent 7013; child 000 4; back 0 0x1 0 0 0 0 0 0 0 0 0 0 0x0; back 0x0 01 00 0 0 0 0 0 0 0 0 0 0; back 0; back 25
+    back 0x18; back 1 2 0 0 0 0 0 0 0 0 0 0 0 0xFFFFFFFFFFFFFFFF; weights 100 18446744073709551615
+    weights 100 0xFFFFFFFFFFFFFFFF 3; name-drawn 0x2000000000000003
+"""
+
+
+def spaced_lines():
+    """Lines that can be read: tabs, carriage returns, leading zeros, and either case."""
+    yield from written(READABLE)
+    yield from ["check 100\r", "\tcheck\t100\t", "  check   100  ", "check\r100", "\rcheck \t\r 100", "child\t100\t1\r"]
+    yield from ["list 0\t0 0\r1 \t6", "exact 100 2 ", " t 100 3", "drawn 410 3\r", "bits 410 3\t"]
+
+
+def filled(text, length, filling=" "):
+    return text + filling * (length - len(text))
+
+
+def long_lines():
+    """Lines of at most and of more than 1000 bytes, each kind followed by a line that must be answered as ever."""
+    starts = ["check 100", "check 100 ", "foo", "# ", "", "file 2 0 0 1", "list 0 0 0 1 8\t", "check", "back 0 1 0"]
+    for length in (998, 999, 1000, 1001, 1002, 1003, 1023, 1024, 1025, 2000, 2001, 4096, 65536, 100_000):
+        for start in starts if length in (1000, 1001) else starts[length % 4 :: 3]:
+            yield filled(start, length)
+        yield filled("# ", length, "x")
+        yield filled("check 100", length, "0")
+        yield filled("", length, "check 100 ")[:length]
+        yield "child 100 " + "0" * (length - 11) + "2"
+        yield " " * (length - len("cross 1001 2")) + "cross 1001 2"
+        yield "\t" * (length - len("name 100 3")) + "name 100 3"
+        yield "check 1001"
+
+
+def last_line():
+    # "The last line may lack its line end."
+    yield "file 24 1 2 3"
+
+
+# ==== Writing the two files
+
+SECTIONS = {
+    "examples": example_calls,
+    "every triangle to degree 5": every_triangle,
+    "every corner to degree 5": every_corner,
+    "other words than names": other_words,
+    "drawing to degree 5": every_drawing,
+    "parent and child to degree 4": every_step,
+    "directions": direction_calls,
+    "degrees 6 to 24": deep_calls,
+    "refusals": refusal_calls,
+    "unreadable arguments": unreadable_calls,
+    "unknown calls": unknown_calls,
+    "empty lines": empty_lines,
+    "spaced lines": spaced_lines,
+    "long lines": long_lines,
+    "the last line": last_line,
+}
+
+
+def write_bytes(path, text):
+    with open(path, "wb") as out:
+        out.write(text.encode("latin-1"))
+
+
+def write_files(calls_path, answers_path):
+    internal_checks()
+    calls = []
+    for section, make in SECTIONS.items():
+        lines = list(make())
+        calls += lines
+        print(f"{len(lines):8} {section}")
+    print(f"{len(calls):8} lines")
+    must(not any("\n" in line for line in calls), "one line each")
+    answers = "".join(answer(line) + "\n" for line in calls)
+    write_bytes(calls_path, "\n".join(calls))
+    write_bytes(answers_path, answers)
+
+
+def answer_input():
+    text = sys.stdin.buffer.read().decode("latin-1")
+    lines = text.split("\n")
+    for line in lines if lines[-1] else lines[:-1]:
+        sys.stdout.buffer.write((answer(line) + "\n").encode("latin-1"))
+
+
+if __name__ == "__main__":
+    if sys.argv[1:] == ["--answer"]:
+        answer_input()
+    elif len(sys.argv) == 3:
+        write_files(sys.argv[1], sys.argv[2])
+    else:
+        sys.exit(__doc__)

@@ -6,11 +6,11 @@ use mathlib.Core.Logic.{_⊎_}
 use Prim.Native.Nat.{ℕ}
 use lib.ListN.{length}
 use Rattle.words.specs.Words.{wordOf}
-use Rattle.words.specs.Family.{codeOf}
+use Rattle.words.specs.Family.{codeOf, noCode}
 use Rattle.words.specs.declared.CodeAnswer.{CodeAnswer}
 use Rattle.net.specs.Refusals.{over}
 use Rattle.corners.specs.Answers.{Listed, countAnswer}
-use Rattle.directions.specs.Answers.{Filed, FileAnswer, ListAnswer, noCode}
+use Rattle.directions.specs.Answers.{Filed, FileAnswer, ListAnswer}
 use Rattle.corners.specs.declared.CountAnswer.{CountAnswer}
 use Rattle.corners.proofs.OneAnswer.{answer-one, answer-some, lent-one, lent-some}
 use Rattle.filing.specs.Filing.{AreHolders}

@@ -3,17 +3,13 @@
 use mathlib.Core.Path.{_≡_}
 use Prim.Native.Nat.{ℕ}
 use mathlib.Core.List.{List}
-use Rattle.words.specs.Family.{codeOf}
+use Rattle.words.specs.Family.{noCode}
 use Rattle.words.specs.declared.CodeAnswer.{CodeAnswer}
 use Rattle.filing.specs.Filing.{IsFiled, AreHolders}
 use Rattle.filing.specs.declared.Direction.{Direction}
 use Rattle.corners.specs.Answers.{Answer, Lent, Listed, noCount}
 use Rattle.corners.specs.declared.CountAnswer.{CountAnswer}
 use Rattle.directions.specs.Refusals.{refuseFile, refuseList}
-
--- "Every refusal returns only its number and zeros"
-abbrev pub noCode : (refusal : ℕ) → CodeAnswer
-noCode f = record { refusal = f; code = codeOf 0 }
 
 -- ---- filing
 

@@ -7,7 +7,7 @@ use native.Mathlib.Omega.{arith}
 use lib.IntN.{pos, natAbs}
 use lib.Pow.{pow-pos}
 use Rattle.golden.specs.Numbers.{golden, whole, _+φ_, negφ, _*φ_}
-use Rattle.golden.specs.Order.{NonNeg}
+use Rattle.golden.specs.Order.{Positive}
 use Rattle.golden.specs.declared.Golden.{Golden}
 use Rattle.golden.proofs.GoldenProduct.{*φ-nonneg, whole-nonneg}
 use Rattle.golden.proofs.GoldenRing.{φ-ring, reφ, +φ-*φ, of-addφ, one-mulφ, scale}
@@ -28,10 +28,6 @@ use Rattle.filing.specs.declared.Coordinates.{Coordinates}
 use Rattle.filing.proofs.GoldenTests.{sameφ, φ-same}
 use Rattle.filing.proofs.HeldCodes.{code-triangle}
 use Rattle.filing.proofs.Sums.{exact-kept, Twelve, all-twelve, exact-m1, exact-m2, exact-m3}
-
--- above 0
-abbrev pub Positive : Golden → Type 0
-Positive x = NonNeg x × (x ≡ whole (pos 0) → ⊥)
 
 -- the determinant of three vectors is above 0 exactly when they turn anticlockwise seen from outside
 abbrev orientation : Triangle → Golden

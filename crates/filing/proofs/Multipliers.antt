@@ -6,7 +6,7 @@ use mathlib.Core.List.{List, [], _∷_}
 use Prim.Native.Nat.{ℕ}
 use Rattle.golden.specs.declared.Golden.{Golden}
 use Rattle.golden.specs.Numbers.{_*φ_}
-use Rattle.golden.specs.Order.{NonNeg}
+use Rattle.golden.specs.Order.{NonNeg, Positive}
 use Rattle.golden.proofs.GoldenRing.{φ-ring, reφ}
 use Rattle.golden.proofs.GoldenOrder.{nonneg-by}
 use Rattle.golden.proofs.GoldenProduct.{*φ-nonneg}
@@ -19,7 +19,7 @@ use Rattle.filing.specs.Holding.{along, determinant, replaced, determina
 use Rattle.filing.specs.declared.Coordinates.{Coordinates}
 use Rattle.filing.specs.declared.Direction.{Direction}
 use Rattle.filing.proofs.Parts.{coordinates-path}
-use Rattle.filing.proofs.Anticlockwise.{Positive, anticlockwise}
+use Rattle.filing.proofs.Anticlockwise.{anticlockwise}
 use Rattle.filing.specs.Multiples.{IsSumOf, IsSum}
 use Rattle.golden.proofs.Quotients.{quotient-nonneg}
 

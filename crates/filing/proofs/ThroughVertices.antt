@@ -1,5 +1,5 @@
 -- No direction of whole numbers other than zero passes through a vertex: k times a vertex is of whole numbers only where k is 0.
--- (k is a number u + vφ: the vertex has 1 or -1 on an axis.) A vertex is P + Qφ with P and Q of whole numbers, each of length 1, at right
+-- (k is a number u + vφ, or a quotient of two such numbers.) A vertex is P + Qφ with P and Q of whole numbers, each of length 1, at right
 -- angles. The φ part of k·(P + Qφ) is v·P + (u + v)·Q, and it is 0 only if v and u + v are. Assumes nothing.
 use mathlib.Core.Path.{_≡_, refl, sym, _∙_, ap}
 use mathlib.Core.List.{List, [], _∷_}
@@ -7,7 +7,9 @@ use Prim.Native.Nat.{ℕ, _<_}
 use lib.IntN.{ℤ, pos, _+ℤ_, _*ℤ_}
 use Rattle.golden.specs.Numbers.{whole, _*φ_}
 use Rattle.golden.specs.declared.Golden.{Golden}
-use Rattle.golden.proofs.GoldenRing.{φ-path, zero-mulφ}
+use Rattle.golden.proofs.GoldenRing.{φ-path, zero-mulφ, *φ-assoc, of-mulφ}
+use Rattle.golden.proofs.Magnitudes.{cancelℤ}
+use Rattle.golden.proofs.Quotients.{conjugate, norm, norm-times, norm-zero}
 use Rattle.golden.proofs.IntegerOrder.{→eq}
 use Rattle.golden.proofs.IntegerSolver.{ℤ-ring, re}
 use Rattle.golden.proofs.Polynomials.{var, lit, _⊕_, _⊗_}
@@ -19,6 +21,7 @@ use Rattle.filing.specs.declared.Coordinates.{Coordinates}
 use Rattle.filing.specs.declared.Direction.{Direction}
 use Rattle.filing.proofs.GoldenTests.{sameℤ}
 use Rattle.filing.proofs.NoVertex.{0φ, zeroDirection}
+use Rattle.filing.proofs.Parts.{coordinates-path}
 
 -- ---- P and Q of a vertex
 
@@ -103,12 +106,32 @@ module _ (c : ℤ) (k x : Golden) (e : whole c ≡ k *φ x) where
   at-zero : k ≡ 0φ → c ≡ pos 0
   at-zero z = ap (λ (y : Golden). y .u) (e ∙ ap (λ (k : Golden). k *φ x) z ∙ zero-mulφ x)
 
--- "No whole-number direction other than zero passes through a vertex of the icosahedron"
-pub no-vertex : (d : Direction) (v : ℕ) → v < 12 → (k : Golden) → along d ≡ times k (direction v) → d ≡ zeroDirection
-no-vertex d v h k e =
+-- k times a vertex
+whole-vertex : (d : Direction) (v : ℕ) → v < 12 → (k : Golden) → along d ≡ times k (direction v) → d ≡ zeroDirection
+whole-vertex d v h k e =
     let a = direction v in
     let ex : whole (d .x) ≡ k *φ a .x = ap (λ (b : Coordinates). b .x) e in
     let ey : whole (d .y) ≡ k *φ a .y = ap (λ (b : Coordinates). b .y) e in
     let ez : whole (d .z) ≡ k *φ a .z = ap (λ (b : Coordinates). b .z) e in
     let z : k ≡ 0φ = k-zero k a (all-square v h) (no-part (d .x) k (a .x) ex) (no-part (d .y) k (a .y) ey) (no-part (d .z) k (a .z) ez) in
     λ i. record { x = at-zero (d .x) k (a .x) ex z i; y = at-zero (d .y) k (a .y) ey z i; z = at-zero (d .z) k (a .z) ez z i }
+
+-- from m times a whole number c to its norm times c, which is whole
+cleared : (m : Golden) (c : ℤ) (k x : Golden) → m *φ whole c ≡ k *φ x → whole (norm m *ℤ c) ≡ (conjugate m *φ k) *φ x
+cleared m c k x e = of-mulφ (norm m) c ∙ sym (norm-times m (whole c)) ∙ ap (λ (y : Golden). conjugate m *φ y) e ∙ sym (*φ-assoc (conjugate m) k x)
+
+-- "No whole-number direction other than zero passes through a vertex of the icosahedron": none is k/m times a vertex
+pub no-vertex : (d : Direction) (v : ℕ) → v < 12 → (m k : Golden) → (m ≡ 0φ → ⊥) → times m (along d) ≡ times k (direction v) → d ≡ zeroDirection
+no-vertex d v h m k n e =
+    let a = direction v in
+    let c = norm m in
+    let some : c ≡ pos 0 → ⊥ = λ z. n (norm-zero m z) in
+    let z = whole-vertex (record { x = c *ℤ d .x; y = c *ℤ d .y; z = c *ℤ d .z }) v h (conjugate m *φ k) (coordinates-path
+    (cleared m (d .x) k (a .x) (ap (λ (b : Coordinates). b .x) e))
+    (cleared m (d .y) k (a .y) (ap (λ (b : Coordinates). b .y) e))
+    (cleared m (d .z) k (a .z) (ap (λ (b : Coordinates). b .z) e))) in
+    λ i. record {
+      x = cancelℤ c (d .x) some (ap (λ (g : Direction). g .x) z) i;
+      y = cancelℤ c (d .y) some (ap (λ (g : Direction). g .y) z) i;
+      z = cancelℤ c (d .z) some (ap (λ (g : Direction). g .z) z) i;
+    }

@@ -45,5 +45,8 @@ pub record AllNonNeg (D : Determinants) : Type 0 where
   pub n3 : NonNeg (D .d3)
 
 -- "A closed triangle holds it"
+abbrev pub dets : TriangleCode → Direction → Determinants
+dets t d = determinants (along d) (triangleOf t)
+
 abbrev pub Holds : TriangleCode → Direction → Type 0
-Holds t d = AllNonNeg (determinants (along d) (triangleOf t))
+Holds t d = AllNonNeg (dets t d)

@@ -23,11 +23,11 @@ abbrev 0φ : Golden
 0φ = whole (pos 0)
 
 -- u + v - vφ: φ and 1 - φ are the two roots
-abbrev conjugate : Golden → Golden
+abbrev pub conjugate : Golden → Golden
 conjugate m = golden (m .u +ℤ m .v) (negℤ (m .v))
 
 -- (u + vφ)(u + v - vφ)
-abbrev norm : Golden → ℤ
+abbrev pub norm : Golden → ℤ
 norm m = m .u *ℤ m .u +ℤ m .u *ℤ m .v +ℤ negℤ (m .v *ℤ m .v)
 
 -- the conjugate of m times m times x
@@ -37,7 +37,7 @@ norm-parts m x = φ-path
     (reify ℤ-ring (m .u ∷ m .v ∷ x .u ∷ x .v ∷ []) (λ σ k. simp (k 0, k 1, k 2, k 3, re) (done ℤ-ring σ _ _ refl)))
     (reify ℤ-ring (m .u ∷ m .v ∷ x .u ∷ x .v ∷ []) (λ σ k. simp (k 0, k 1, k 2, k 3, re) (done ℤ-ring σ _ _ refl)))
 
-norm-times : (m x : Golden) → conjugate m *φ (m *φ x) ≡ whole (norm m) *φ x
+pub norm-times : (m x : Golden) → conjugate m *φ (m *φ x) ≡ whole (norm m) *φ x
 norm-times m x = norm-parts m x ∙ sym (scale (norm m) x)
 
 -- ---- the norm is 0 only at 0
@@ -52,7 +52,7 @@ squares m e = four ∙ ap (λ (n : ℤ). pos 4 *ℤ n +ℤ pos 5 *ℤ (m .v *ℤ
     none : pos 4 *ℤ pos 0 +ℤ pos 5 *ℤ (m .v *ℤ m .v) ≡ pos 5 *ℤ (m .v *ℤ m .v)
     none = reify ℤ-ring (m .v ∷ []) (λ σ k. simp (k 0, re-lit σ, re) (done ℤ-ring σ _ _ refl))
 
-norm-zero : (m : Golden) → norm m ≡ pos 0 → m ≡ 0φ
+pub norm-zero : (m : Golden) → norm m ≡ pos 0 → m ≡ 0φ
 norm-zero m e =
     let w : ℤ = pos 2 *ℤ m .u +ℤ m .v in
     let v : ℤ = m .v in

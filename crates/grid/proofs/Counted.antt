@@ -24,7 +24,7 @@ use Rattle.net.proofs.Demand3.{one-name-each, there-and-back}
 use Rattle.net.proofs.Names.{one-name}
 use Rattle.net.proofs.SharedVertices.{vertex-small}
 use Rattle.net.proofs.Table.{_then_, below, either-way, less, same, some, sound, three}
-use Rattle.grid.specs.Counts.{Count, IsCorner, IsEdge}
+use Rattle.grid.specs.Counts.{Count, Counts, IsCorner, IsEdge}
 use Rattle.grid.proofs.CornerSteps.{IsKept, IsMiddle, kept-corner, kept-once, kept-or-middle, middle-corner, middle-once, middleOf, not-both}
 use Rattle.grid.proofs.CountLaws.{as-many, mapped, matched, together}
 use Rattle.grid.proofs.EdgeHalves.{half-edges}
@@ -105,3 +105,6 @@ names n h =
     (x .0, there-and-back n p (x .0) y .1, y))
     (λ r x. (named r, (codeInside r, x .code, (cornerNumber (r .0), x .number, refl)), x))
     (λ p p′ r x y. sym (x .there) ∙ y .there) (λ p r r′ x y. one-name x y) (corners n h)
+
+pub counted : (n : ℕ) → n ≤ 24 → Counts n
+counted n h = record { triangles = triangles n h; edges = edges n h; corners = corners n h; names = names n h }

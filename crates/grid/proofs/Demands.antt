@@ -8,7 +8,7 @@ use lib.ListN.{length, take, drop, length-append}
 use lib.Seq.{take-append-seam}
 use Rattle.words.specs.Words.{cornerNumber, degreeOf, digitOf, digits, sideOf}
 use Rattle.words.specs.Refusals.{IsCode}
-use Rattle.words.specs.Family.{codeAnswer, refuseParent, refuseChild, parentOf, childOf, parentAnswer, childAnswer}
+use Rattle.words.specs.Family.{codeAnswer, refuseParent, refuseChild, parentOf, childOf, parentAnswer, childAnswer, noCode}
 use Rattle.words.specs.declared.TriangleCode.{TriangleCode}
 use Rattle.words.specs.declared.CodeAnswer.{CodeAnswer}
 use Rattle.words.proofs.Codes.{code-degree, is-code}
@@ -36,7 +36,6 @@ use Rattle.corners.proofs.Refused.{numbered-passes, weights-passes, name-weight
 use Rattle.corners.proofs.Calls.{answering}
 use Rattle.corners.proofs.OneAnswer as corners
 use Rattle.points.proofs.OnePlace as points
-use Rattle.directions.specs.Answers.{noCode}
 use Rattle.directions.proofs.OneFiling as directions
 use Rattle.grid.specs.Demands.{Keeps, WithList, Demand1, Demand2Codes, Demand2Back, Demand2Files, Demand3}
 

@@ -29,7 +29,7 @@ use Rattle.net.specs.Means.Walks.{stepOf}
 use Rattle.net.proofs.Crossing.{corner-one}
 use Rattle.filing.specs.Coordinates.{exact}
 use Rattle.filing.specs.Filing.{AreHolders}
-use Rattle.filing.specs.Holding.{determinant, replaced, determinants, Holds}
+use Rattle.filing.specs.Holding.{determinant, replaced, determinants, Holds, dets}
 use Rattle.filing.specs.Means.Descent.{nonNeg, holds, first, leastChild, descent, holders}
 use Rattle.filing.specs.Means.Sides.{sideDets, leastFrom}
 use Rattle.filing.specs.Means.Lists.{joined, sideWords, allWords}
@@ -49,8 +49,8 @@ use Rattle.points.specs.declared.TicksAnswer.{TicksAnswer}
 use Rattle.directions.specs.Refusals.{refuseFile}
 use Rattle.directions.specs.Answers.{FileAnswer}
 use Rattle.directions.proofs.Refused.{refuse-by}
-use Rattle.grid.specs.Writing.{_gives_, decimals, written, zeros, minus, towards, up}
-use Rattle.grid.specs.Mistakes.{Mistakes, close, holder, across-edge, dets, StrictlyInside}
+use Rattle.grid.specs.Writing.{_gives_, decimals, written, zeroDigits, minus, towards, up}
+use Rattle.grid.specs.Mistakes.{Mistakes, close, holder, across-edge, StrictlyInside}
 use Rattle.grid.proofs.Showing.{files, crosses}
 use Rattle.grid.proofs.Examples.{examples, rings}
 
@@ -124,7 +124,7 @@ fixed-code n t l f =
 fixed-name : (n : ℕ) (q : CornerName) → n ≤ 24
     → ((t : TriangleCode) (i : ℕ) → refuseNumbered t i ≡ 0 → degreeOf (t .0) ≡ n → NamingAnswer t i (nameAnswer 0 q)) → ⊥
 fixed-name n q l f =
-    let t = codeOf (zeros n) in
+    let t = codeOf (zeroDigits n) in
     let c : IsCode n t = path-code 4 n (lit≤ tt) (lit≤ tt) l 0 (pow-pos (2 * n)) in
     let z : refuseNumbered t 1 ≡ 0 = numbered-passes t 1 .1 (c .passes, (lit≤ tt, lit≤ tt)) in
     let z′ : refuseNumbered t 2 ≡ 0 = numbered-passes t 2 .1 (c .passes, (lit≤ tt, lit≤ tt)) in

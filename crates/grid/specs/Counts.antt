@@ -1,9 +1,11 @@
 -- Document 01, 'Division and weights': "There are 20·4^N triangles, 30·4^N edges and 10·4^N + 2 corners." Assumes nothing.
 use mathlib.Core.Path.{_≡_}
-use Prim.Native.Nat.{ℕ, _<_}
+use Prim.Native.Nat.{ℕ, _+_, _*_, _^_, _<_}
 use Rattle.words.specs.Refusals.{IsCode}
 use Rattle.words.specs.declared.TriangleCode.{TriangleCode}
-use Rattle.net.specs.Corners.{HasCorner, corner}
+use Rattle.words.specs.declared.CornerName.{CornerName}
+use Rattle.net.specs.Corners.{HasCorner, corner, named}
+use Rattle.net.specs.Names.{IsName}
 use Rattle.net.specs.Division.{Weights}
 use Rattle.net.specs.Sides.{OneToThree, next, prev}
 use Rattle.net.specs.Steps.{Across, SameTwo}
@@ -38,3 +40,10 @@ SameEnds e f =
 -- p is a corner of degree n: some triangle of the degree has it. "Two corners of one degree are the same point exactly when all twelve weights agree."
 abbrev pub IsCorner : ℕ → Weights → Type 0
 IsCorner n p = (t : TriangleCode) × IsCode n t × HasCorner t p
+
+-- "There are 20·4^N triangles, 30·4^N edges and 10·4^N + 2 corners", and as many names as corners.
+pub record Counts (n : ℕ) : Type 0 where
+  pub triangles : Count (20 * 4 ^ n) (IsCode n)
+  pub edges : Count (30 * 4 ^ n) (IsEdge n)
+  pub corners : Count (10 * 4 ^ n + 2) (IsCorner n)
+  pub names : Count (10 * 4 ^ n + 2) (λ (r : CornerName). IsName n (named r) r)

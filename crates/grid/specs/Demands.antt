@@ -7,7 +7,7 @@ use Prim.Native.Nat.{ℕ, _≤_}
 use lib.ListN.{take}
 use Rattle.words.specs.Words.{degreeOf, digitOf, sideOf}
 use Rattle.words.specs.Refusals.{IsCode, checkCode}
-use Rattle.words.specs.Family.{codeAnswer, refuseParent, refuseChild, parentAnswer, childAnswer}
+use Rattle.words.specs.Family.{codeAnswer, refuseParent, refuseChild, parentAnswer, childAnswer, noCode}
 use Rattle.words.specs.declared.TriangleCode.{TriangleCode}
 use Rattle.words.specs.declared.CornerName.{CornerName}
 use Rattle.words.specs.declared.CodeAnswer.{CodeAnswer}
@@ -27,7 +27,7 @@ use Rattle.corners.specs.declared.CountAnswer.{CountAnswer}
 use Rattle.points.specs.Answers.{noCoordinates, noTicks, noPoint, PlaceAnswer, NamePlaceAnswer, TickAnswer, NameTickAnswer, DrawAnswer, NameDrawAnswer}
 use Rattle.points.specs.declared.CoordinatesAnswer.{CoordinatesAnswer}
 use Rattle.directions.specs.Refusals.{refuseFile, refuseList}
-use Rattle.directions.specs.Answers.{noCode, FileAnswer, ListAnswer}
+use Rattle.directions.specs.Answers.{FileAnswer, ListAnswer}
 use Rattle.grid.specs.Writing.{_gives_}
 
 -- There is one, and whatever else meets P is that one.

@@ -17,7 +17,7 @@ use Rattle.corners.specs.Answers.{CrossAnswer, WeightsAnswer, NameWeightsAnswer
 use Rattle.points.specs.Answers.{PlaceAnswer, NamePlaceAnswer, TickAnswer, NameTickAnswer, DrawAnswer, NameDrawAnswer, noCoordinates}
 use Rattle.directions.specs.Refusals.{refuseFile, refuseList}
 use Rattle.directions.specs.Answers.{FileAnswer, ListAnswer}
-use Rattle.grid.specs.Writing.{_gives_, _leaves_, written, wordsFor, cornerIn, zeros, minus, towards, up, place, ticks, point}
+use Rattle.grid.specs.Writing.{_gives_, _leaves_, written, wordsFor, cornerIn, zeroDigits, minus, towards, up, place, ticks, point}
 
 -- "Codes are written apq then digits."
 pub record Examples : Type 0 where
@@ -110,9 +110,9 @@ pub record Bounds : Type 0 where
   pub word-0 : checkCode (codeOf 0) ≡ 2
   pub word-0-name : checkName (nameOf 0) ≡ 2
   -- 1: "degree 24 accepted and 25 refused"
-  pub degree-24 : checkCode (codeOf (zeros 24)) ≡ 0
-  pub degree-25 : checkCode (codeOf (zeros 25)) ≡ 1
-  pub degree-25-name : checkName (nameOf (zeros 25 + 1)) ≡ 1
+  pub degree-24 : checkCode (codeOf (zeroDigits 24)) ≡ 0
+  pub degree-25 : checkCode (codeOf (zeroDigits 25)) ≡ 1
+  pub degree-25-name : checkName (nameOf (zeroDigits 25 + 1)) ≡ 1
   pub all-ones : checkCode (codeOf (2 ^ 64 - 1)) ≡ 1
   pub file-24 : refuseFile 24 up ≡ 0
   pub file-25 : refuseFile 25 up ≡ 1
@@ -125,14 +125,14 @@ pub record Bounds : Type 0 where
   pub a-6 : checkCode (codeOf (6 * 2 ^ 61)) ≡ 2
   pub a-7 : checkCode (codeOf (7 * 2 ^ 61)) ≡ 2
   -- 3: "a digit beyond the degree is not 0"
-  pub digit-beyond : checkCode (codeOf (zeros 0 + 2 ^ 52)) ≡ 3
-  pub last-digit-beyond : checkCode (codeOf (zeros 23 + 2 ^ 6)) ≡ 3
-  pub last-digit : checkCode (codeOf (zeros 24 + 2 ^ 6)) ≡ 0
+  pub digit-beyond : checkCode (codeOf (zeroDigits 0 + 2 ^ 52)) ≡ 3
+  pub last-digit-beyond : checkCode (codeOf (zeroDigits 23 + 2 ^ 6)) ≡ 3
+  pub last-digit : checkCode (codeOf (zeroDigits 24 + 2 ^ 6)) ≡ 0
   -- 4: "the four zero bits are not zero, or the corner number does not fit the kind of word"
-  pub zero-bits : checkCode (codeOf (zeros 0 + 4)) ≡ 4
-  pub zero-bits-name : checkName (nameOf (zeros 0 + 32 + 1)) ≡ 4
-  pub code-with-corner : checkCode (codeOf (zeros 0 + 1)) ≡ 4
-  pub name-without-corner : checkName (nameOf (zeros 0)) ≡ 4
+  pub zero-bits : checkCode (codeOf (zeroDigits 0 + 4)) ≡ 4
+  pub zero-bits-name : checkName (nameOf (zeroDigits 0 + 32 + 1)) ≡ 4
+  pub code-with-corner : checkCode (codeOf (zeroDigits 0 + 1)) ≡ 4
+  pub name-without-corner : checkName (nameOf (zeroDigits 0)) ≡ 4
   -- 10: "a word passes 1 to 4 as a corner name and is not the canonical one"
   pub canonical : checkName (cornerIn 100 3) ≡ 0
   pub not-canonical : checkName (cornerIn 200 2) ≡ 10
@@ -146,8 +146,8 @@ pub record Bounds : Type 0 where
   -- 6: "parent of degree 0, or child of degree 24"
   pub parent-of-0 : refuseParent (written 100) ≡ 6
   pub parent-of-1 : refuseParent (written 1001) ≡ 0
-  pub child-of-23 : refuseChild (codeOf (zeros 23)) 3 ≡ 0
-  pub child-of-24 : refuseChild (codeOf (zeros 24)) 3 ≡ 6
+  pub child-of-23 : refuseChild (codeOf (zeroDigits 23)) 3 ≡ 0
+  pub child-of-24 : refuseChild (codeOf (zeroDigits 24)) 3 ≡ 6
   -- 7: "the direction is (0, 0, 0)"
   pub nowhere : refuseFile 0 (towards (pos 0) (pos 0) (pos 0)) ≡ 7
   pub only-x : refuseFile 0 (towards (pos 1) (pos 0) (pos 0)) ≡ 0
@@ -181,16 +181,17 @@ pub record Bounds : Type 0 where
   pub wrapped : refuseBack 0 ((2 ^ 64 - 1) ∷ 0 ∷ 2 ∷ replicate 9 0) ≡ 11
   -- "only its first 12 or 6 places are used": a thirteenth weight does not count
   pub thirteenth : refuseBack 0 (1 ∷ replicate 11 0 ++ (5 ∷ [])) ≡ 0
-  -- "Where several hold, the order is 1, 2, 3, 4, 10, 5, 6, 8, 7, 9, 11." (No call can break 10 and 5, or 6 and 8; and 8 and 7 never both hold.)
+  -- "Where several hold, the order is 1, 2, 3, 4, 10, 5, 6, 8, 7, 9, 11." (Row 10 asks that 1 to 4 pass, so none
+  -- of them holds with it; no call can break 10 and 5, or 6 and 8; and 8 and 7 never both hold.)
   pub one-before-two : checkCode (codeOf (25 * 2 ^ 54)) ≡ 1
   pub two-before-three : checkCode (codeOf 64) ≡ 2
-  pub three-before-four : checkCode (codeOf (zeros 0 + 64 + 1)) ≡ 3
-  pub four-before-five : refuseNumbered (codeOf (zeros 0 + 1)) 0 ≡ 4
-  pub four-before-ten : checkName (nameOf (written 200 .0 + 4 + 2)) ≡ 4
-  pub four-before-six : refuseParent (codeOf (zeros 0 + 1)) ≡ 4
+  pub three-before-four : checkCode (codeOf (zeroDigits 0 + 64 + 1)) ≡ 3
+  pub four-before-five : refuseNumbered (codeOf (zeroDigits 0 + 1)) 0 ≡ 4
+  pub four-not-ten : checkName (nameOf (written 200 .0 + 4 + 2)) ≡ 4
+  pub four-before-six : refuseParent (codeOf (zeroDigits 0 + 1)) ≡ 4
   pub ten-before-nine : refuseNameWeights (cornerIn 200 2) [] ≡ 10
   pub ten-before-nine-ring : refuseRing (cornerIn 200 2) [] ≡ 10
-  pub five-before-six : refuseChild (codeOf (zeros 24)) 4 ≡ 5
+  pub five-before-six : refuseChild (codeOf (zeroDigits 24)) 4 ≡ 5
   pub five-before-nine : refuseWeights (written 100) 4 [] ≡ 5
   pub one-before-eight : refuseFile 25 (towards (minus 2147483648) (pos 0) (pos 0)) ≡ 1
   pub one-before-seven : refuseFile 25 (towards (pos 0) (pos 0) (pos 0)) ≡ 1

@@ -5,22 +5,20 @@ use Prim.Native.Nat.{ℕ, suc, _+_, _-_, _^_, _≤_, _<_}
 use lib.IntN.{pos}
 use lib.ListN.{length, replicate}
 use Rattle.golden.specs.Numbers.{golden, whole}
-use Rattle.golden.specs.Order.{NonNeg}
-use Rattle.golden.specs.declared.Golden.{Golden}
+use Rattle.golden.specs.Order.{NonNeg, Positive}
 use Rattle.words.specs.Words.{degreeOf}
 use Rattle.words.specs.Refusals.{IsCode}
-use Rattle.words.specs.Family.{codeOf, codeAnswer}
+use Rattle.words.specs.Family.{codeOf, codeAnswer, noCode}
 use Rattle.words.specs.declared.TriangleCode.{TriangleCode}
 use Rattle.words.specs.declared.CornerName.{CornerName}
-use Rattle.net.specs.Corners.{triangleOf, nameOf}
-use Rattle.filing.specs.Holding.{along, determinants, Holds}
-use Rattle.filing.specs.declared.Determinants.{Determinants}
+use Rattle.net.specs.Corners.{nameOf}
+use Rattle.filing.specs.Holding.{dets, Holds}
 use Rattle.filing.specs.declared.Direction.{Direction}
 use Rattle.corners.specs.Refusals.{refuseNumbered}
 use Rattle.corners.specs.Answers.{CrossAnswer, WeightsAnswer, NamingAnswer, BackAnswer, RingAnswer, stepAnswer, nameAnswer, countAnswer}
 use Rattle.points.specs.Answers.{TickAnswer, NameTickAnswer}
 use Rattle.directions.specs.Refusals.{refuseFile}
-use Rattle.directions.specs.Answers.{FileAnswer, ListAnswer, noCode}
+use Rattle.directions.specs.Answers.{FileAnswer, ListAnswer}
 use Rattle.grid.specs.Writing.{_gives_, written, cornerIn, minus, towards, up, ticks}
 
 -- A direction close to an edge of a triangle of degree 24. Its determinant by that edge is about 0.005, u + vφ with u and v above 10^16 in size; in 64-bit
@@ -34,15 +32,9 @@ holder = written 101113201032313131212120111
 abbrev pub across-edge : TriangleCode
 across-edge = written 101113201032313131212120110
 
--- the three determinants that say whether a closed triangle holds a direction, and the test that leaves out its edges
-abbrev pub dets : TriangleCode → Direction → Determinants
-dets t d = determinants (along d) (triangleOf t)
-
-abbrev pub Above0 : Golden → Type 0
-Above0 x = NonNeg x × (x ≡ whole (pos 0) → ⊥)
-
+-- the test that leaves out a triangle's edges
 abbrev pub StrictlyInside : TriangleCode → Direction → Type 0
-StrictlyInside t d = Above0 (dets t d .d1) × Above0 (dets t d .d2) × Above0 (dets t d .d3)
+StrictlyInside t d = Positive (dets t d .d1) × Positive (dets t d .d2) × Positive (dets t d .d3)
 
 pub record Mistakes : Type 0 where
   -- "Carrying the edge number across a seam unchanged: E8 goes from edge 2 to edge 3."

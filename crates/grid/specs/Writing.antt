@@ -62,8 +62,8 @@ abbrev pub cornerIn : (s i : ℕ) → CornerName
 cornerIn s i = nameOf (written s .0 + i)
 
 -- the word with the side 100, the degree n and digits that are all 0
-abbrev pub zeros : (n : ℕ) → ℕ
-zeros n = wordOf (side 1 0 0) n 0
+abbrev pub zeroDigits : (n : ℕ) → ℕ
+zeroDigits n = wordOf (side 1 0 0) n 0
 
 -- ---- directions and places
 

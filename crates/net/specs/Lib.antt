@@ -3,7 +3,7 @@ pub mod Sides
 pub mod Division
 pub mod Corners
 pub mod Names
-pub mod Steps
 pub mod Refusals
+pub mod Steps
 -- What the code is proved by, and no promise: see there.
 pub mod Means

@@ -59,14 +59,16 @@ canonicalRows r = nameRows r ++ (10 when notCanonical (refusal (nameRows r)) r �
 unfoldable pub checkName : CornerName → ℕ
 checkName r = refusal (canonicalRows r)
 
--- each vertex with a non-zero weight is a corner of the side s; the list begins with vertex v
+-- v is a corner of the side s
 abbrev pub isCornerOf : (s v : ℕ) → Bool
 isCornerOf s v = eqb v (cornerVertex s 1) either eqb v (cornerVertex s 2) either eqb v (cornerVertex s 3)
 
+-- each vertex with a non-zero weight is a corner of the side s; the list begins with vertex v
 abbrev pub onSide : (s v : ℕ) → Weights → Bool
 onSide s v [] = true
 onSide s v (x ∷ xs) = (eqb x 0 either isCornerOf s v) && onSide s (suc v) xs
 
+-- they are all corners of one side
 abbrev pub onOneSide : Weights → Bool
 onOneSide p = not (everyBelow 20 (λ i. not (onSide (4 + i) 0 p)))
 

@@ -10,9 +10,12 @@ abbrev pub codeOf : ℕ → TriangleCode
 codeOf w = record { 0 = w }
 
 -- "Zero means answered. Every refusal returns only its number and zeros": refusal f, or the code t.
+abbrev pub noCode : (refusal : ℕ) → CodeAnswer
+noCode f = record { refusal = f; code = codeOf 0 }
+
 abbrev pub codeAnswer : ℕ → TriangleCode → CodeAnswer
 codeAnswer zero t = record { refusal = 0; code = t }
-codeAnswer (suc f) t = record { refusal = suc f; code = codeOf 0 }
+codeAnswer (suc f) t = noCode (suc f)
 
 unfoldable pub refuseParent : TriangleCode → ℕ
 refuseParent t = refusal (codeRows t ++ parentRows t)

@@ -27,7 +27,7 @@ abbrev pub given : ℕ → List Row → Bool
 given k [] = false
 given k (r ∷ rs) = cond (eqb k (r .number)) (r .so either given k rs) (given k rs)
 
--- the first of these numbers that is given; "zero means answered"
+-- the first of these numbers that is given; "Zero means answered"
 abbrev pub firstOf : List ℕ → List Row → ℕ
 firstOf [] rs = 0
 firstOf (k ∷ ks) rs = cond (given k rs) k (firstOf ks rs)

@@ -36,8 +36,9 @@ neighbour-requires c κs = (a-cell c, passes (c .before) .1)
 
 word-of-requires : tie.Need-word-of-requires
 word-of-requires c κs =
-    let h = next-cell _ (a-cell (c .before)) (passes (c .before .before) .1) (c .neighbour .ensures) in
-    (omega (arith, h .a-side .1), h .low, h .small)
+    let b = a-cell (c .before) in
+    let h = next-cell _ b (passes (c .before .before) .1) (c .neighbour .ensures) in
+    (omega (arith, h .a-side .1, b .a-side .1), h .low, omega (arith, h .small, b .small))
 
 returns-2 : tie.Need-returns-2
 returns-2 c =

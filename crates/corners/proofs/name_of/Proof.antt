@@ -1,5 +1,6 @@
 -- The refusals in turn; the least name round the corner (Calls, CellSteps). Assumes nothing.
 use borrow.Author.Needs.{needs}
+use native.Mathlib.Omega.{arith}
 use mathlib.Core.Path.{_≡_, sym, _∙_, subst}
 use Rattle.words.specs.Refusals.{checkCode}
 use Rattle.corners.specs.Refusals.{refuseNumbered}
@@ -30,7 +31,7 @@ cell-of-requires c κs = passes c .0
 least-name-requires : tie.Need-least-name-requires
 least-name-requires c κs =
     let p = passes (c .before) in
-    (subst IsCell (sym (c .cell-of .ensures)) (cell-is _ (p .0)), p .1)
+    (subst IsCell (sym (c .cell-of .ensures)) (cell-is _ (p .0)), (omega (arith, p .1 .0), omega (arith, p .1 .1)))
 
 returns-2 : tie.Need-returns-2
 returns-2 c = naming-answers _ _ _ (none (c .before .before)) (c .before .cell-of .ensures) (c .least-name .ensures)

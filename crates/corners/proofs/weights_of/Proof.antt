@@ -33,7 +33,7 @@ cell-of-requires c κs = numbered-passes _ _ .0 (none (c .before)) .0
 write-corner-requires : tie.Need-write-corner-requires
 write-corner-requires c κs =
     let p = numbered-passes _ _ .0 (none (c .before .before .before)) in
-    (subst IsCell (sym (c .before .cell-of .ensures)) (cell-is _ (p .0)), p .1, omega arith)
+    (subst IsCell (sym (c .before .cell-of .ensures)) (cell-is _ (p .0)), (omega (arith, p .1 .0), omega (arith, p .1 .1)), omega arith)
 
 same-length : tie.Need-same-length
 same-length c = search needs

@@ -39,7 +39,7 @@ write-corner-requires : tie.Need-write-corner-requires
 write-corner-requires c κs =
     let d = c .before .before .before in
     let p = name-passes _ .0 (fields d) in
-    (subst IsCell (sym (c .before .cell-inside .ensures)) (cell-is _ (name-code _ (fields d) .passes)), (p .2, p .3), omega arith)
+    (subst IsCell (sym (c .before .cell-inside .ensures)) (cell-is _ (name-code _ (fields d) .passes)), (omega (arith, p .2), omega (arith, p .3)), omega arith)
 
 same-length : tie.Need-same-length
 same-length c = search needs

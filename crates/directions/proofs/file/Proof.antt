@@ -1,7 +1,7 @@
 -- The refusals, the least side, the descent from it, and the word (LeastSide, FilingCalls). Assumes nothing.
 use borrow.Author.Needs.{needs}
 use mathlib.Core.Path.{_≡_, sym, subst, _∙_}
-use Prim.Native.Nat.{_+_, _*_, _-_, _^_}
+use Prim.Native.Nat.{_+_, _*_, _-_, _^_, _<_}
 use native.Mathlib.Omega.{arith}
 use lib.Pow.{pow-pos}
 use Rattle.net.specs.Sides.{IsSide}
@@ -50,14 +50,21 @@ descend-requires c κs =
       pow-pos (2 * (24 - n)),
     )
 
+-- the path has as many digits as the degree
+low : (c : tie.After-descend) → c .descend .result < 2 ^ (2 * c .before .before .before .before .before .before .args .degree)
+low c =
+    let l = c .before .before .before in
+    let n = l .before .before .before .args .degree in
+    let e : 0 + n ≡ n = omega arith in
+    rw (c .descend .ensures) (rw e at (descent-low n (l .least-side .result .dets) 0 0 (omega arith)))
+
 word-of-requires : tie.Need-word-of-requires
 word-of-requires c κs =
     let l = c .before .before .before in
-    let n = l .before .before .before .args .degree in
-    let e : 0 + n ≡ n = omega arith in (
+    let n = l .before .before .before .args .degree in (
       omega (arith, a-side l .1),
       may (l .before) .low,
-      rw (c .descend .ensures) (rw e at (descent-low n (l .least-side .result .dets) 0 0 (omega arith))),
+      omega (arith, pow-pos (2 * n), low c),
     )
 
 returns-2 : tie.Need-returns-2

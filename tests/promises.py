@@ -1,5 +1,5 @@
 #!/usr/bin/env python3
-"""Every place that docs/PROMISES.md and docs/DECISIONS.md name is there: the files, the names in them, the must-fail edits; and every must-fail edit
+"""Every place that README.md, docs/PROMISES.md and the other documents name is there: the files, the names in them, the must-fail edits; and every must-fail edit
 has its row in docs/PROMISES.md.
 
 A place is written `crate/path: name, name`, where a file of Rattle ends in .rt and one of antt in .antt; a must-fail edit is written `crate/name`.
@@ -24,19 +24,21 @@ def check_place(doc, place, names):
     if not path.exists():
         wrong.append(f"{doc}: no file crates/{place}")
         return
-    text = path.read_text()
+    text = "\n".join(line for line in path.read_text().splitlines() if not line.lstrip().startswith(("--", "//")))
     for name in names:
         if not has_name(text, name):
             wrong.append(f"{doc}: crates/{place} has no {name}")
 
 
 def check_doc(doc):
-    text = (ROOT / "docs" / doc).read_text()
+    text = (ROOT / doc).read_text()
     for code in re.findall(r"`([^`\n]+)`", text):
         place = re.fullmatch(r"([a-z_]+/(?:specs|proofs|src)/[\w/]+\.(?:antt|rt))(?:: (.+))?", code)
         if place:
             names = [n.strip() for n in (place[2] or "").split(",") if n.strip()]
             check_place(doc, place[1], names)
+        elif re.fullmatch(r"(?:tests|docs)/[\w.]+", code) and not (ROOT / code).exists():
+            wrong.append(f"{doc}: no file {code}")
 
 
 def check_edits():
@@ -59,7 +61,7 @@ def check_edits():
         wrong.append(f"PROMISES.md has no row for the must-fail edit {edit}")
 
 
-for name in ("PROMISES.md", "DECISIONS.md"):
+for name in ("README.md", "docs/PROMISES.md", "docs/DECISIONS.md", "docs/ARCHITECTURE.md"):
     check_doc(name)
 check_edits()
 for line in wrong:

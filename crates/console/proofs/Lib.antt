@@ -1,0 +1,2 @@
+-- The laws that the proofs of `console` cite.
+pub mod Floats

@@ -1,0 +1,88 @@
+// The help: how words are written, then each call with an example and its answer.
+use crate::arguments;
+ghost use Prim.Native.Nat.{_≤_};
+ghost use lib.ListN.{length};
+
+const HELP: [u8; 3350] = *b"The grid of the globe: one call to a line, and one line for its answer.
+
+  WORD     0x and 1 to 16 hexadecimal digits
+  CODE     a triangle code, as 10003 for side 100 and digits 0 and 3; or a WORD
+  NAME     a corner name, as a WORD
+  X Y Z    a direction: three whole numbers
+  PLACES   0 to 16: how many places the lent list has. They hold 1, 2, 3 and so on before the call,
+           and stand after the answer as the call leaves them
+
+Any other number is decimal, or a WORD. A line that begins with # is a remark.
+Under each call stand an example and its answer. A refused call answers its number and the reason.
+
+check CODE                          whether the word is a triangle code
+  check 10003                       ok
+
+check-name NAME                     whether the word is a corner name
+  check-name 0x2000000000000001     ok
+
+parent CODE                         the triangle of which it is a child
+  parent 10003                      1000 0x2040000000000000
+
+child CODE DIGIT                    its child with this digit, 0 to 3
+  child 1000 3                      10003 0x208C000000000000
+
+cross CODE EDGE                     the triangle across an edge, and the edge's number there
+  cross 1001 2                      2001 0x4050000000000000 edge 3
+
+name CODE CORNER                    the name of a corner, 1 to 3
+  name 200 2                        0x2000000000000003 corner 3 of 100
+
+back DEGREE WEIGHTS                 the name of the corner with these twelve weights
+  back 0 0 0 0 1 0 0 0 0 0 0 0 0    0x2000000000000003 corner 3 of 100
+
+weights CODE CORNER [PLACES]        the corner's twelve weights
+  weights 1001 2                    1 0 1 0 0 0 0 0 0 0 0 0
+
+name-weights NAME [PLACES]          the same
+  name-weights 0x2000000000000003   0 0 0 1 0 0 0 0 0 0 0 0
+
+exact CODE CORNER                   u and v of its exact coordinates u + v phi on each axis
+  exact 1001 2                      x 0 0 y 0 0 z 0 2
+
+name-exact NAME                     the same
+  name-exact 0x2000000000000003     x 0 1 y 0 0 z 1 0
+
+t CODE CORNER                       the whole number t on each axis
+  t 1001 2                          x 0 y 0 z 212078
+
+name-t NAME                         the same
+  name-t 0x7000000000000002         x -106040 y 0 z -65536
+
+drawn CODE CORNER                   the drawn coordinates, exactly
+  drawn 1001 2                      x 0 y 0 z 1.6180267333984375
+
+name-drawn NAME                     the same
+  name-drawn 0x7000000000000002     x -1.6180419921875 y 0 z -1
+
+bits CODE CORNER                    the bits of the drawn coordinates, each an f64
+  bits 1001 2                       x 0x0000000000000000 y 0x0000000000000000 z 0x3FF9E37000000000
+
+name-bits NAME                      the same
+  name-bits 0x7000000000000002      x 0xBFF9E38000000000 y 0x0000000000000000 z 0xBFF0000000000000
+
+ring NAME [PLACES]                  the triangles round a corner, anticlockwise
+  ring 0x2000000000000003           5: 100 0x2000000000000000, 101 0x2800000000000000, 111 ..
+
+file DEGREE X Y Z                   the least code that holds a direction
+  file 2 0 0 1                      10003 0x208C000000000000
+
+list DEGREE X Y Z [PLACES]          all codes that hold it, rising
+  list 0 0 0 1                      2: 100 0x2000000000000000, 500 0xA000000000000000
+
+help                                these lines";
+
+pub fn answer(line: &[u8], at: usize, out: &mut [u8]) -> usize
+    requires { ⌜ (at ≤ length (now line)) × (8192 ≤ length (now out)) ⌝ }
+    ensures { λ r. ⌜ r ≤ 8000 ⌝ }
+{
+    if !arguments::at_end(line, at) {
+        return 0;
+    }
+    lines::put_bytes(&HELP, out, 0)
+}

@@ -278,6 +278,8 @@ def main():
         return 0
     if not entries:
         fail("no entry of the table is meant")
+    if not shutil.which("rt"):
+        fail("the Rattle toolchain's command rt is not on the PATH")
     if options.keep:
         options.keep.mkdir(parents=True, exist_ok=True)
 
@@ -286,7 +288,7 @@ def main():
         waiting.put(e)
     tally = {"refused": 0, "SURVIVED": 0, "BAD": 0}
     lock = threading.Lock()
-    failures = []
+    failures, ended = [], threading.Semaphore(0)
 
     def work(clean, room):
         try:
@@ -307,6 +309,8 @@ def main():
         except BaseException as error:
             failures.append(error)
             raise
+        finally:
+            ended.release()
 
     def stop(number, frame):
         raise KeyboardInterrupt
@@ -322,16 +326,16 @@ def main():
         ]
         for w in workers:
             w.start()
-        try:
-            for w in workers:
-                w.join()
-        except KeyboardInterrupt as stopped:
-            # the workers end with what they run, and the temporary folder goes
-            failures.append(stopped)
-            for group in list(RUNNING):
-                os.killpg(group, signal.SIGKILL)
-            for w in workers:
-                w.join()
+        left = len(workers)
+        while left:
+            try:
+                ended.acquire()
+                left -= 1
+            except KeyboardInterrupt as stopped:
+                # a worker ends with what it runs; then the temporary folder goes
+                failures.append(stopped)
+                for group in list(RUNNING):
+                    os.killpg(group, signal.SIGKILL)
 
     bad = f", {tally['BAD']} BAD" if tally["BAD"] else ""
     print(f"{sum(tally.values())} tried, {tally['refused']} refused, {tally['SURVIVED']} survived{bad}")
@@ -343,4 +347,7 @@ def main():
 
 
 if __name__ == "__main__":
-    sys.exit(main())
+    try:
+        sys.exit(main())
+    except KeyboardInterrupt:
+        fail("stopped")

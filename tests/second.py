@@ -868,11 +868,7 @@ def triangle_calls(n):
         c = some_form(code, at)
         yield f"check {c}"
         for i in (1, 2, 3):
-            yield f"weights {c} {i}"
-            yield f"exact {c} {i}"
-            yield f"t {c} {i}"
-            yield f"name {c} {i}"
-            yield f"cross {c} {i}"
+            yield from (f"{call} {c} {i}" for call in ("weights", "exact", "t", "name", "cross"))
 
 
 def corner_calls(n):

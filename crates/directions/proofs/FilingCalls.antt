@@ -14,25 +14,22 @@ use Rattle.corners.specs.Answers.{countAnswer}
 use Rattle.directions.specs.Answers.{FileAnswer, ListAnswer}
 use Rattle.corners.proofs.Calls.{answering, answering-lent}
 use Rattle.net.proofs.Flips.{each-length}
+use Rattle.filing.specs.Filing.{IsFiled}
 use Rattle.filing.specs.Refusals.{directionRows}
 use Rattle.directions.specs.Refusals.{refuseFile, refuseList}
-use Rattle.filing.specs.Means.Descent.{descent, holders}
-use Rattle.filing.specs.Means.Sides.{sideDets, leastFrom}
+use Rattle.filing.specs.Means.Descent.{holders}
+use Rattle.filing.specs.Means.Sides.{sideDets}
 use Rattle.filing.specs.Means.Lists.{joined, Puts, sideWords, allWords}
 use Rattle.filing.specs.declared.Direction.{Direction}
-use Rattle.filing.specs.declared.Determinants.{Determinants}
 use Rattle.directions.proofs.Refused.{allowed, list-passes}
-use Rattle.filing.proofs.LeastSide.{found-code}
 use Rattle.filing.proofs.AtMostSix.{sumSides, at-most-six}
 use Rattle.filing.proofs.NoVertex.{zeroDirection}
 use Rattle.filing.proofs.AllHolders.{all-holders}
 
 -- ---- file
 
-pub filed-answer : (n : ℕ) (d : Direction) (s : ℕ) (t : Determinants) (v w : ℕ) → refuseFile n d ≡ 0
-    → s ≡ leastFrom d 4 → t ≡ sideDets d s → v ≡ descent n t 0 → w ≡ wordOf s n v → FileAnswer n d (record { refusal = 0; code = codeOf w })
-filed-answer n d s t v w z e f g h =
-    answering z (record { number = refl; is = rw (h, g, f, e) (found-code n d (allowed n d z .low)) })
+pub filed-answer : (n : ℕ) (d : Direction) (w : ℕ) → refuseFile n d ≡ 0 → IsFiled n d (codeOf w) → FileAnswer n d (record { refusal = 0; code = codeOf w })
+filed-answer n d w z h = answering z (record { number = refl; is = h })
 
 -- ---- list
 

@@ -53,12 +53,16 @@ pub fn file(degree: u64, d: Direction) -> CodeAnswer
             code: TriangleCode(0),
         };
     }
-    let h = filing::least::least_side(d, 4);
-    let t = h.dets;
-    let path = filing::descent::descend(degree, t, t.total(), 0);
+    let w = seats::quick_word(degree, d);
+    if w == 0 {
+        return CodeAnswer {
+            refusal: 0,
+            code: TriangleCode(seats::exact_word(degree, d)),
+        };
+    }
     CodeAnswer {
         refusal: 0,
-        code: TriangleCode(words::word_of(h.side, degree, path)),
+        code: TriangleCode(w),
     }
 }
 
@@ -79,7 +83,15 @@ pub fn list(degree: u64, d: Direction, out: &mut [u64]) -> CountAnswer
             count: 0,
         };
     }
-    let m = filing::walks::list_sides(d, degree, 4, 0, out);
+    let w = seats::quick_word(degree, d);
+    if w != 0 {
+        out[0] = w;
+        return CountAnswer {
+            refusal: 0,
+            count: 1,
+        };
+    }
+    let m = seats::list_exactly(degree, d, out);
     CountAnswer {
         refusal: 0,
         count: m as u64,

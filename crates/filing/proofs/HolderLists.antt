@@ -61,7 +61,7 @@ of-four n D v =
 
 -- ---- as words
 
-each-append : (f : ℕ → ℕ) (xs ys : List ℕ) → each f (xs ++ ys) ≡ each f xs ++ each f ys
+pub each-append : (f : ℕ → ℕ) (xs ys : List ℕ) → each f (xs ++ ys) ≡ each f xs ++ each f ys
 each-append f [] ys = refl
 each-append f (x ∷ xs) ys = ap (λ (l : List ℕ). f x ∷ l) (each-append f xs ys)
 

@@ -1,0 +1,127 @@
+// The calls of document 01 exported to C, for `./bench` to count. Each is thin: it hands the numbers on, and answers
+// one number that depends on all numbers of the answer, so that the compiler can leave nothing out. Where a code or a
+// name is answered, this is the code (with the edge's number in its lowest bits) or the name, or the refusal's number.
+use grid::Coordinates;
+use grid::CornerName;
+use grid::Direction;
+use grid::Point;
+use grid::Ticks;
+use grid::TriangleCode;
+
+// ---- words
+
+#[no_mangle]
+pub extern "C" fn bench_check(code: u64) -> u64 {
+    TriangleCode(code).check()
+}
+
+#[no_mangle]
+pub extern "C" fn bench_check_name(name: u64) -> u64 {
+    grid::check_name(CornerName(name))
+}
+
+#[no_mangle]
+pub extern "C" fn bench_parent(code: u64) -> u64 {
+    let r = TriangleCode(code).parent();
+    r.code.0 ^ r.refusal
+}
+
+#[no_mangle]
+pub extern "C" fn bench_child(code: u64, digit: u64) -> u64 {
+    let r = TriangleCode(code).child(digit);
+    r.code.0 ^ r.refusal
+}
+
+// ---- corners and edges
+
+#[no_mangle]
+pub extern "C" fn bench_cross(code: u64, edge: u64) -> u64 {
+    let r = grid::cross(TriangleCode(code), edge);
+    r.code.0 ^ r.edge ^ r.refusal
+}
+
+#[no_mangle]
+pub extern "C" fn bench_name(code: u64, corner: u64) -> u64 {
+    let r = grid::name_of(TriangleCode(code), corner);
+    r.name.0 ^ r.refusal
+}
+
+#[no_mangle]
+pub extern "C" fn bench_back(degree: u64, weights: &[u64]) -> u64 {
+    let r = grid::name_back(degree, weights);
+    r.name.0 ^ r.refusal
+}
+
+#[no_mangle]
+pub extern "C" fn bench_weights(code: u64, corner: u64, out: &mut [u64]) -> u64 {
+    grid::weights_of(TriangleCode(code), corner, out)
+}
+
+#[no_mangle]
+pub extern "C" fn bench_name_weights(name: u64, out: &mut [u64]) -> u64 {
+    grid::weights_of_name(CornerName(name), out)
+}
+
+#[no_mangle]
+pub extern "C" fn bench_ring(name: u64, out: &mut [u64]) -> u64 {
+    let r = grid::ring(CornerName(name), out);
+    r.count ^ r.refusal
+}
+
+// ---- a corner's place
+
+fn mixed_coordinates(at: Coordinates) -> i64 {
+    at.x.u ^ at.x.v ^ at.y.u ^ at.y.v ^ at.z.u ^ at.z.v
+}
+
+fn mixed_ticks(at: Ticks) -> i64 {
+    at.x ^ at.y ^ at.z
+}
+
+fn mixed_point(at: Point) -> f64 {
+    at.x + at.y + at.z
+}
+
+#[no_mangle]
+pub extern "C" fn bench_exact(code: u64, corner: u64) -> i64 {
+    mixed_coordinates(grid::coordinates_of(TriangleCode(code), corner).at)
+}
+
+#[no_mangle]
+pub extern "C" fn bench_name_exact(name: u64) -> i64 {
+    mixed_coordinates(grid::coordinates_of_name(CornerName(name)).at)
+}
+
+#[no_mangle]
+pub extern "C" fn bench_t(code: u64, corner: u64) -> i64 {
+    mixed_ticks(grid::ticks_of(TriangleCode(code), corner).at)
+}
+
+#[no_mangle]
+pub extern "C" fn bench_name_t(name: u64) -> i64 {
+    mixed_ticks(grid::ticks_of_name(CornerName(name)).at)
+}
+
+#[no_mangle]
+pub extern "C" fn bench_drawn(code: u64, corner: u64) -> f64 {
+    mixed_point(grid::drawn_of(TriangleCode(code), corner).at)
+}
+
+#[no_mangle]
+pub extern "C" fn bench_name_drawn(name: u64) -> f64 {
+    mixed_point(grid::drawn_of_name(CornerName(name)).at)
+}
+
+// ---- directions
+
+#[no_mangle]
+pub extern "C" fn bench_file(degree: u64, x: i32, y: i32, z: i32) -> u64 {
+    let r = grid::file(degree, Direction { x, y, z });
+    r.code.0 ^ r.refusal
+}
+
+#[no_mangle]
+pub extern "C" fn bench_list(degree: u64, x: i32, y: i32, z: i32, out: &mut [u64]) -> u64 {
+    let r = grid::list(degree, Direction { x, y, z }, out);
+    r.count ^ r.refusal
+}

@@ -1,0 +1,35 @@
+-- `seats::exact::lean` meets its contract. Assumes nothing.
+use borrow.Author.Needs.{needs}
+use mathlib.Core.Path.{_∙_}
+use native.Mathlib.Omega.{arith}
+use Rattle.golden.specs.Numbers.{_+φ_, negφ}
+use Rattle.seats.proofs.ExactRoles.{lean-is, parts-small}
+use Rattle.seats.proofs.exact.lean.Statement.{statement}
+use Rattle.seats.proofs.exact.lean.Tie as tie
+
+add-of-parts : tie.Need-add-of-parts
+add-of-parts c = search needs
+
+of-parts-requires : tie.Need-of-parts-requires
+of-parts-requires c κs = search needs
+
+of-parts-requires-2 : tie.Need-of-parts-requires-2
+of-parts-requires-2 c κs = search needs
+
+minus-requires : tie.Need-minus-requires
+minus-requires c κs =
+    let p = c .before .before .pre in (
+      parts-small _ _ _ (omega (arith, p)) (omega (arith, p)) (c .before .of-parts .ensures),
+      parts-small _ _ _ (omega arith) (omega (arith, p)) (c .of-parts2 .ensures),
+    )
+
+returns : tie.Need-returns
+returns c =
+    let d = c .before in
+    let a = d .before .before .args in
+    c .minus .ensures
+    ∙ (λ i. d .before .of-parts .ensures i +φ negφ (d .of-parts2 .ensures i))
+    ∙ lean-is (a .a) (a .b) (a .c)
+
+pub lean-spec : {M : Type 1} → statement M
+lean-spec = tie.close (tie.spec add-of-parts of-parts-requires of-parts-requires-2 minus-requires returns)

@@ -1,0 +1,15 @@
+pub mod Choosing
+pub mod ShareLaws
+pub mod LeastSteps
+pub mod Standing
+pub mod ChildStanding
+pub mod LeastPath
+pub mod AllPaths
+pub mod Spreading
+pub mod Turning
+pub mod CornerFloors
+pub mod FairShares
+pub mod FairChildren
+pub mod SinglePaths
+pub mod WalkLists
+pub mod WalkSteps

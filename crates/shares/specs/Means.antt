@@ -1,0 +1,4 @@
+pub mod Shares
+pub mod Paths
+pub mod Bits
+pub mod WalkWords

@@ -1,0 +1,110 @@
+/* Runs one call on many inputs, to be counted or to be compared.
+ *
+ *     driver calls CALL INPUT DEGREE COUNT      prepares COUNT inputs, then calls the function on each; writes nothing
+ *     driver empty CALL INPUT DEGREE COUNT      the same, with an empty function in its place
+ *     driver answers CALL INPUT DEGREE COUNT    writes the answer to each input, one a line
+ *
+ * The runs `calls` and `empty` differ in nothing but the address that the loop calls. What the first has more in
+ * instructions is therefore exactly what the function executes, without its last one, the return. */
+#include "driver.h"
+
+#include <inttypes.h>
+#include <stdio.h>
+#include <stdlib.h>
+#include <string.h>
+
+uint64_t lent[12];
+
+/* The empty function: one instruction, the return. */
+any_function nothing;
+__asm__(".text\n.globl nothing\n.type nothing, @function\nnothing:\n\tret\n");
+
+/* ---- counting */
+
+__attribute__((noinline)) static void call_all(whole_function *function, const struct input *inputs, size_t count) {
+    for (size_t k = 0; k < count; k++) {
+        const uint64_t *a = inputs[k].argument;
+        function(a[0], a[1], a[2], a[3], a[4], a[5]);
+    }
+}
+
+/* ---- answers */
+
+static void write_float(const struct call *call, const uint64_t *a) {
+    double answer = ((float_function *)call->function)(a[0], a[1], a[2], a[3], a[4], a[5]);
+    uint64_t bits;
+    memcpy(&bits, &answer, sizeof bits);
+    printf("0x%016" PRIX64 "\n", bits);
+}
+
+static void write_lent(uint64_t count) {
+    for (uint64_t k = 0; k < count && k < 12; k++) {
+        printf(" 0x%016" PRIX64, lent[k]);
+    }
+    printf("\n");
+}
+
+static void write_answer(const struct call *call, const uint64_t *a) {
+    if (call->answer == FLOAT) {
+        write_float(call, a);
+        return;
+    }
+    uint64_t answer = ((whole_function *)call->function)(a[0], a[1], a[2], a[3], a[4], a[5]);
+    if (call->answer == WORD || call->answer == LENT_WORD) {
+        printf("0x%016" PRIX64 "\n", call->answer == WORD ? answer : lent[0]);
+        return;
+    }
+    printf("%" PRIu64, answer);
+    write_lent(call->answer == CODES ? answer : answer == 0 ? 12 : 0);
+}
+
+/* ---- the program */
+
+static void fail(const char *what, const char *which) {
+    fprintf(stderr, "driver: %s %s\n", what, which);
+    exit(2);
+}
+
+static const struct call *call_named(const char *name) {
+    for (size_t k = 0; k < calls_count; k++) {
+        if (strcmp(calls[k].name, name) == 0) {
+            return &calls[k];
+        }
+    }
+    fail("no call", name);
+    return NULL;
+}
+
+static struct input *prepared(const struct call *call, const char *kind, uint64_t degree, size_t count) {
+    struct input *inputs = calloc(count, sizeof *inputs);
+    if (inputs == NULL) {
+        fail("no memory for inputs of", call->name);
+    }
+    for (size_t k = 0; k < count; k++) {
+        if (!call->prepare(&inputs[k], kind, degree)) {
+            fail("the call has no input", kind);
+        }
+    }
+    return inputs;
+}
+
+int main(int count_of_words, char **words) {
+    if (count_of_words != 6) {
+        fail("write it as", "driver calls|empty|answers CALL INPUT DEGREE COUNT");
+    }
+    const struct call *call = call_named(words[2]);
+    size_t count = strtoul(words[5], NULL, 10);
+    struct input *inputs = prepared(call, words[3], strtoul(words[4], NULL, 10), count);
+    if (strcmp(words[1], "calls") == 0) {
+        call_all((whole_function *)call->function, inputs, count);
+    } else if (strcmp(words[1], "empty") == 0) {
+        call_all((whole_function *)nothing, inputs, count);
+    } else if (strcmp(words[1], "answers") == 0) {
+        for (size_t k = 0; k < count; k++) {
+            write_answer(call, inputs[k].argument);
+        }
+    } else {
+        fail("no such run:", words[1]);
+    }
+    return 0;
+}

@@ -1,0 +1,135 @@
+/* The calls of document 01, as crates/bench exports them, and their inputs. */
+#include "directions.h"
+#include "driver.h"
+
+#include <string.h>
+
+/* The two that inputs are prepared with, and those that are only run. */
+uint64_t bench_name(uint64_t code, uint64_t corner);
+uint64_t bench_weights(uint64_t code, uint64_t corner, uint64_t *out, size_t places);
+any_function bench_check, bench_check_name, bench_parent, bench_child, bench_cross, bench_back, bench_name_weights,
+    bench_ring, bench_exact, bench_name_exact, bench_t, bench_name_t, bench_drawn, bench_name_drawn, bench_file,
+    bench_list;
+
+/* ---- words */
+
+static uint64_t word_of(uint64_t side, uint64_t degree, uint64_t path) {
+    return side << 59 | degree << 54 | path << (54 - 2 * degree);
+}
+
+static uint64_t random_side(void) {
+    return 4 + below(20);
+}
+
+static uint64_t random_code(uint64_t degree) {
+    uint64_t side = random_side();
+    return word_of(side, degree, below((uint64_t)1 << (2 * degree)));
+}
+
+/* A code whose step over this edge leaves the side: no digit is 0 or the edge's number. */
+static uint64_t seam_code(uint64_t degree, uint64_t edge) {
+    uint64_t side = random_side();
+    uint64_t path = 0;
+    for (uint64_t k = 0; k < degree; k++) {
+        path = 4 * path + 1 + (edge + below(2)) % 3;
+    }
+    return word_of(side, degree, path);
+}
+
+static int is_random(const char *kind) {
+    return strcmp(kind, "random") == 0;
+}
+
+/* ---- inputs */
+
+static int give_code(struct input *in, const char *kind, uint64_t degree) {
+    in->argument[0] = random_code(degree);
+    return is_random(kind);
+}
+
+static int give_code_and_digit(struct input *in, const char *kind, uint64_t degree) {
+    in->argument[0] = random_code(degree);
+    in->argument[1] = below(4);
+    return is_random(kind);
+}
+
+/* A code with the number of an edge or a corner. */
+static int give_code_and_number(struct input *in, const char *kind, uint64_t degree) {
+    int over_seam = strcmp(kind, "seam") == 0;
+    uint64_t number = 1 + below(3);
+    in->argument[0] = over_seam ? seam_code(degree, number) : random_code(degree);
+    in->argument[1] = number;
+    return over_seam || is_random(kind);
+}
+
+static int give_name(struct input *in, const char *kind, uint64_t degree) {
+    int known = give_code_and_number(in, kind, degree);
+    in->argument[0] = bench_name(in->argument[0], in->argument[1]);
+    in->argument[1] = 0;
+    return known;
+}
+
+static void give_list(struct input *in, int first, uint64_t *list, size_t places) {
+    in->argument[first] = (uint64_t)list;
+    in->argument[first + 1] = places;
+}
+
+static int give_code_and_list(struct input *in, const char *kind, uint64_t degree) {
+    give_list(in, 2, lent, 12);
+    return give_code_and_number(in, kind, degree);
+}
+
+static int give_name_and_list(struct input *in, const char *kind, uint64_t degree) {
+    int known = give_name(in, kind, degree);
+    give_list(in, 1, lent, 12);
+    return known;
+}
+
+static int give_weights(struct input *in, const char *kind, uint64_t degree) {
+    int known = give_code_and_number(in, kind, degree);
+    bench_weights(in->argument[0], in->argument[1], in->weights, 12);
+    in->argument[0] = degree;
+    give_list(in, 1, in->weights, 12);
+    return known;
+}
+
+static int give_direction(struct input *in, const char *kind, uint64_t degree) {
+    struct direction made;
+    if (!make_direction(kind, &made)) {
+        return 0;
+    }
+    in->argument[0] = degree;
+    for (int k = 0; k < 3; k++) {
+        in->argument[1 + k] = (uint64_t)(int64_t)made.at[k];
+    }
+    return 1;
+}
+
+static int give_direction_and_list(struct input *in, const char *kind, uint64_t degree) {
+    give_list(in, 4, lent, 12);
+    return give_direction(in, kind, degree);
+}
+
+/* ---- the calls */
+
+const struct call calls[] = {
+    {"check", bench_check, WORD, give_code},
+    {"check-name", bench_check_name, WORD, give_name},
+    {"parent", bench_parent, WORD, give_code},
+    {"child", bench_child, WORD, give_code_and_digit},
+    {"cross", bench_cross, WORD, give_code_and_number},
+    {"name", (any_function *)bench_name, WORD, give_code_and_number},
+    {"back", bench_back, WORD, give_weights},
+    {"weights", (any_function *)bench_weights, WEIGHTS, give_code_and_list},
+    {"name-weights", bench_name_weights, WEIGHTS, give_name_and_list},
+    {"exact", bench_exact, WORD, give_code_and_number},
+    {"name-exact", bench_name_exact, WORD, give_name},
+    {"t", bench_t, WORD, give_code_and_number},
+    {"name-t", bench_name_t, WORD, give_name},
+    {"drawn", bench_drawn, FLOAT, give_code_and_number},
+    {"name-drawn", bench_name_drawn, FLOAT, give_name},
+    {"ring", bench_ring, CODES, give_name_and_list},
+    {"file", bench_file, WORD, give_direction},
+    {"list", bench_list, CODES, give_direction_and_list},
+};
+const size_t calls_count = sizeof calls / sizeof calls[0];

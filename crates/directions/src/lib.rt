@@ -1,19 +1,12 @@
 // The calls of document 01 on directions: filing one, and listing all triangles that hold it.
 use corners::CountAnswer;
 use filing::Direction;
+use seats::placing::size;
 use words::CodeAnswer;
 use words::TriangleCode;
 ghost use mathlib.Core.Path.{_≡_};
-ghost use lib.IntN.{natAbs};
 ghost use Rattle.directions.specs.Refusals.{refuseFile};
 ghost use Rattle.directions.specs.Answers.{FileAnswer, ListAnswer};
-
-// |c|.
-fn size(c: i32) -> u64
-    ensures { λ r. ⌜ r ≡ natAbs c ⌝ }
-{
-    golden::magnitude(c as i64)
-}
 
 // Of a degree and a direction: 0, or 1, 8 or 7.
 fn refuse_direction(degree: u64, d: Direction) -> u64

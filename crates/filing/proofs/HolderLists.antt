@@ -2,19 +2,15 @@
 -- and what is put into a lent list part by part stands there one after the other. Assumes nothing.
 use mathlib.Core.Path.{_≡_, refl, sym, ap, _∙_}
 use mathlib.Core.Bool.{Bool, true, false}
-use mathlib.Core.List.{List, [], _∷_, _++_, append-nil, append-assoc}
+use mathlib.Core.List.{List, [], _∷_, _++_}
 use Prim.Native.Nat.{ℕ, zero, suc, _+_, _*_, _-_, _≤_, _<_}
 use native.Mathlib.Omega.{arith}
 use lib.ListN.{length, set, drop, length-append, length-drop, take-append-drop}
-use Rattle.words.specs.Words.{wordOf}
 use Rattle.net.specs.Division.{each}
 use Rattle.net.specs.Refusals.{over}
 use Rattle.filing.specs.Means.Descent.{childDets, holds, holders}
-use Rattle.filing.specs.Means.Lists.{joined, put, Room, Puts, walkWords, childWords, sideWords, allWords}
-use Rattle.filing.specs.Means.Sides.{sideDets}
+use Rattle.filing.specs.Means.Lists.{joined, put, Room, Puts}
 use Rattle.filing.specs.declared.Determinants.{Determinants}
-use Rattle.filing.specs.declared.Direction.{Direction}
-use Rattle.filing.specs.declared.Walk.{Walk}
 use Rattle.filing.proofs.Children.{parent-holds}
 use Rattle.filing.proofs.Tests.{test-holds, holds-test}
 
@@ -47,70 +43,11 @@ pub joined-none : (m k : ℕ) (f : ℕ → List ℕ) → m ≤ k → joined (m -
 unfolding joined
 joined-none m k f h = let e : m - k ≡ 0 = omega arith in rw e refl
 
-of-four : (n : ℕ) (D : Determinants) (v : ℕ) → joined 4 0 (λ j. holders n (childDets j D) (4 * v + j)) ≡ holders (suc n) D v
-unfolding joined holders
-of-four n D v =
-    let e : 4 * v + 0 ≡ 4 * v = omega arith in
-    let a = holders n (childDets 0 D) (4 * v) in
-    let b = holders n (childDets 1 D) (4 * v + 1) in
-    let c = holders n (childDets 2 D) (4 * v + 2) in
-    let d = holders n (childDets 3 D) (4 * v + 3) in
-    (λ i. holders n (childDets 0 D) (e i) ++ (b ++ (c ++ append-nil d i)))
-    ∙ sym (append-assoc a b (c ++ d))
-    ∙ sym (append-assoc (a ++ b) c d)
-
 -- ---- as words
 
 pub each-append : (f : ℕ → ℕ) (xs ys : List ℕ) → each f (xs ++ ys) ≡ each f xs ++ each f ys
 each-append f [] ys = refl
 each-append f (x ∷ xs) ys = ap (λ (l : List ℕ). f x ∷ l) (each-append f xs ys)
-
-each-joined : (f : ℕ → ℕ) (m k : ℕ) (g : ℕ → List ℕ) → each f (joined m k g) ≡ joined m k (λ j. each f (g j))
-unfolding joined
-each-joined f zero k g = refl
-each-joined f (suc m) k g = each-append f (g k) (joined m (suc k) g) ∙ ap (λ (l : List ℕ). each f (g k) ++ l) (each-joined f m (suc k) g)
-
-module _ (w : Walk) (D : Determinants) (v : ℕ) where
-  pub no-words : (n : ℕ) → holds D ≡ false → walkWords w n D v ≡ []
-  unfolding walkWords
-  no-words n e = ap (each (wordOf (w .side) (w .degree))) (no-holders n D v e)
-
-  pub one-word : (n x : ℕ) → n ≡ 0 → holds D ≡ true → x ≡ wordOf (w .side) (w .degree) v → walkWords w n D v ≡ x ∷ []
-  unfolding walkWords
-  one-word n x z e q = rw (z, q) (ap (each (wordOf (w .side) (w .degree))) (one-holder D v e))
-
-  pub of-children : (n : ℕ) → (n ≡ 0 → ⊥) → walkWords w n D v ≡ childWords w (n - 1) D v 0
-  unfolding walkWords childWords
-  of-children n f =
-      let e : n ≡ suc (n - 1) = omega arith in
-      ap (each (wordOf (w .side) (w .degree))) ((λ i. holders (e i) D v) ∙ sym (of-four (n - 1) D v))
-      ∙ each-joined (wordOf (w .side) (w .degree)) 4 0 (λ j. holders (n - 1) (childDets j D) (4 * v + j))
-
-  pub no-children : (n k : ℕ) → k ≡ 4 → childWords w n D v k ≡ []
-  unfolding childWords
-  no-children n k e = joined-none 4 k _ (omega arith)
-
-  pub child-and-rest : (n k : ℕ) → k ≤ 4 → (k ≡ 4 → ⊥) → childWords w n D v k ≡ walkWords w n (childDets k D) (4 * v + k) ++ childWords w n D v (k + 1)
-  unfolding childWords
-  child-and-rest n k l f =
-      let e : suc k ≡ k + 1 = omega arith in
-      joined-more 4 k (λ j. walkWords w n (childDets j D) (4 * v + j)) (omega arith)
-      ∙ (λ i. walkWords w n (childDets k D) (4 * v + k) ++ joined (4 - e i) (e i) (λ j. walkWords w n (childDets j D) (4 * v + j)))
-
-module _ (d : Direction) (n : ℕ) where
-  pub no-sides : (s : ℕ) → s ≡ 24 → allWords d n s ≡ []
-  unfolding allWords
-  no-sides s e = joined-none 24 s (sideWords d n) (omega arith)
-
-  pub side-and-rest : (s : ℕ) → s ≤ 24 → (s ≡ 24 → ⊥) → allWords d n s ≡ sideWords d n s ++ allWords d n (s + 1)
-  unfolding allWords
-  side-and-rest s l f =
-      let e : suc s ≡ s + 1 = omega arith in
-      joined-more 24 s (sideWords d n) (omega arith) ∙ (λ i. sideWords d n s ++ joined (24 - e i) (e i) (sideWords d n))
-
-  pub side-walk : (w : Walk) (t : Determinants) → w .degree ≡ n → t ≡ sideDets d (w .side) → walkWords w n t 0 ≡ sideWords d n (w .side)
-  unfolding walkWords sideWords
-  side-walk w t e f = λ i. each (wordOf (w .side) (e i)) (holders n (f i) 0)
 
 -- ---- in the lent list
 

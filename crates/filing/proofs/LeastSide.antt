@@ -1,44 +1,19 @@
--- The search for the least side, from one side to the next, and the least code below it. Assumes nothing.
-use mathlib.Core.Path.{_≡_, refl}
-use mathlib.Core.Bool.{true, false}
+-- The least side that holds a direction, and the least code below it. Assumes nothing.
+use mathlib.Core.Path.{_≡_}
 use Prim.Native.Nat.{ℕ, zero, suc, _+_, _*_, _-_, _^_, _≤_, _<_}
 use native.Mathlib.Omega.{arith}
 use native.Mathlib.Nat.{pow-suc}
-use Rattle.golden.specs.Numbers.{Below}
 use Rattle.words.specs.Words.{wordOf}
 use Rattle.words.specs.Family.{codeOf}
 use Rattle.net.specs.Sides.{IsSide}
 use Rattle.filing.specs.Filing.{IsFiled}
-use Rattle.filing.specs.Means.Descent.{childDets, total, holds, first, leastChild, descent, Bound}
-use Rattle.filing.specs.Means.Sides.{IsLevel, sideDets, leastFrom}
+use Rattle.filing.specs.Means.Descent.{childDets, holds, first, leastChild, descent}
+use Rattle.filing.specs.Means.Sides.{sideDets, leastFrom}
 use Rattle.filing.specs.declared.Direction.{Direction}
 use Rattle.filing.specs.declared.Determinants.{Determinants}
-use Rattle.filing.proofs.Bounds.{bound-below}
 use Rattle.filing.proofs.Tests.{First, first-is, test-holds, holds-test, digit-small}
 use Rattle.filing.proofs.LeastCode.{descent-filed}
 use Rattle.filing.proofs.Cover.{cover}
-use Rattle.filing.proofs.SideHeights.{sides-small}
-
--- ---- from one side to the next
-
-module _ (d : Direction) (s : ℕ) where
-  pub at-last : s ≡ 23 → s ≡ leastFrom d s
-  unfolding leastFrom first
-  at-last e = rw e refl
-
-  one-more : s ≤ 23 → (s ≡ 23 → ⊥) → 23 - s ≡ suc (22 - s)
-  one-more l f = omega arith
-
-  pub at-first : s ≤ 23 → (s ≡ 23 → ⊥) → holds (sideDets d s) ≡ true → s ≡ leastFrom d s
-  unfolding leastFrom first
-  at-first l f e = rw (one-more l f, e) refl
-
-  pub at-next : s ≤ 23 → (s ≡ 23 → ⊥) → holds (sideDets d s) ≡ false → leastFrom d (s + 1) ≡ leastFrom d s
-  unfolding leastFrom first
-  at-next l f e =
-      let p : s + 1 ≡ suc s = omega arith in
-      let q : 23 - suc s ≡ 22 - s = omega arith in
-      rw (one-more l f, e, p, q) refl
 
 -- ---- the side that is found
 
@@ -67,10 +42,3 @@ descent-low (suc n) D v c h =
     let f : 2 * suc c ≡ suc (suc (2 * c)) = omega arith in
     rw e (descent-low n (childDets (leastChild D) D) (4 * v + leastChild D) (suc c)
     (rw f (omega (arith, h, digit-small D, pow-suc 2 (suc (2 * c)), pow-suc 2 (2 * c)))))
-
-module _ (d : Direction) (h : IsLevel d) (s : ℕ) (i : IsSide s) (t : Determinants) (e : t ≡ sideDets d s) where
-  pub side-bound : Bound 8000000000 (total t) t
-  side-bound = rw e (sides-small d (h .x-level, h .y-level, h .z-level) s i)
-
-  pub side-below : {b : ℕ} → 8000000000 < b → Below b (t .d1) × Below b (t .d2) × Below b (t .d3)
-  side-below {b} l = bound-below 8000000000 b (total t) t l side-bound

@@ -8,15 +8,12 @@ pub mod Sums
 pub mod Recurrence
 pub mod Children
 pub mod Tests
-pub mod Bounds
 pub mod Descents
 pub mod HeldCodes
 pub mod LeastCode
 pub mod SideUnits
 pub mod Cover
-pub mod SideHeights
 pub mod Widths
-pub mod VertexSigns
 pub mod NoVertex
 pub mod TwoSides
 pub mod Counting
@@ -26,7 +23,6 @@ pub mod AtMostSix
 pub mod OneTwoSix
 pub mod LeastSide
 pub mod HolderLists
-pub mod WalkSteps
 pub mod AllHolders
 pub mod Anticlockwise
 pub mod ThroughVertices

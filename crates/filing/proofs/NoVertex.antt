@@ -9,7 +9,8 @@ use lib.IntN.{ℤ, pos, negℤ, _+ℤ_, _*ℤ_, zero-*ℤ}
 use Rattle.golden.proofs.IntegerSolver.{ℤ-ring, re}
 use Rattle.golden.proofs.Magnitudes.{cancelℤ}
 use Rattle.golden.proofs.RingSolver.{reify, done}
-use Rattle.golden.specs.Numbers.{whole, _+φ_, negφ, _*φ_}
+use Rattle.golden.proofs.GoldenRing.{scale}
+use Rattle.golden.specs.Numbers.{golden, whole, _+φ_, negφ, _*φ_}
 use Rattle.golden.specs.declared.Golden.{Golden}
 use Rattle.net.proofs.Table.{Test, Holds, sound, sides, threes, same, _or_}
 use Rattle.net.specs.Sides.{OneToThree, IsSide, cornerVertex}
@@ -18,12 +19,21 @@ use Rattle.filing.specs.declared.Coordinates.{Coordinates}
 use Rattle.filing.specs.declared.Direction.{Direction}
 use Rattle.filing.proofs.GoldenTests.{nonzero, is-nonzero}
 use Rattle.filing.proofs.SideUnits.{plane, value}
-use Rattle.filing.proofs.SideHeights.{rows, parts}
 
 abbrev pub 0φ : Golden
 0φ = whole (pos 0)
 
 -- ---- directions as rows
+
+-- the parts of a direction along any coordinates
+abbrev rows : Direction → (a b c : ℤ) → ℤ
+rows d a b c = d .x *ℤ a +ℤ d .y *ℤ b +ℤ d .z *ℤ c
+
+parts :
+    (d : Direction) (a : Coordinates)
+    → dot (along d) a ≡ golden (rows d (a .x .u) (a .y .u) (a .z .u)) (rows d (a .x .v) (a .y .v) (a .z .v))
+unfolding _+φ_
+parts d a = λ i. scale (d .x) (a .x) i +φ scale (d .y) (a .y) i +φ scale (d .z) (a .z) i
 
 abbrev pub dir : ℤ → ℤ → ℤ → Direction
 dir a b c = record { x = a; y = b; z = c }

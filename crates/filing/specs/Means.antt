@@ -4,4 +4,3 @@ pub mod Places
 pub mod Descent
 pub mod Sides
 pub mod Lists
-pub mod VertexSigns

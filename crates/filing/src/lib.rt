@@ -1,9 +1,5 @@
-// Directions: exact coordinates, drawn coordinates, filing a direction, and all triangles that hold one.
-pub mod descent;
+// Directions: exact coordinates, drawn coordinates, and the determinants by which a triangle holds a direction.
 pub mod drawn;
-mod heights;
-pub mod least;
-pub mod walks;
 pub mod weighing;
 
 use golden::Golden;
@@ -41,17 +37,4 @@ pub struct Determinants {
     pub d1: Golden,
     pub d2: Golden,
     pub d3: Golden,
-}
-
-// A walk through one side: the sum of the determinants is the same in every triangle of it.
-pub struct Walk {
-    pub side: u64,
-    pub degree: u64,
-    pub total: Golden,
-}
-
-// A side that holds a direction, with its determinants.
-pub struct Held {
-    pub side: u64,
-    pub dets: Determinants,
 }

@@ -146,7 +146,12 @@ module _ (d : Direction) where
       let t : bitXor octant 2 ≡ firstX d + 2 * (1 - firstY d) + 4 * firstZ d = turn-y _ hx _ hy _ hz in
       let u : 4 * bitXor octant 2 + 1 ≡ seat (firstX d) (firstX d) (firstZ d) 1 = omega (arith, t, e, hx) in
       record {
-        x = 0; y = firstX d; z = firstY d; x-small = omega arith; y-small = hx; z-small = hy;
+        x = 0;
+        y = firstX d;
+        z = firstY d;
+        x-small = omega arith;
+        y-small = hx;
+        z-small = hy;
         seat-is = u ∙ ap (λ (r : ℕ). seat (firstX d) r (firstZ d) 1) (sym f);
         after = subst (λ (r : ℕ). sideAt (seat (firstX d) r (firstZ d) 1) < sideAt (4 * bitXor octant 2 + 1)) (sym e)
             (rw u (first-y (firstX d) hx (firstZ d) hz));
@@ -157,7 +162,12 @@ module _ (d : Direction) where
       let t : bitXor octant 4 ≡ firstX d + 2 * firstY d + 4 * (1 - firstZ d) = turn-z _ hx _ hy _ hz in
       let u : 4 * bitXor octant 4 + 2 ≡ seat (firstX d) (firstY d) (1 - firstY d) 2 = omega (arith, t, e) in
       record {
-        x = 0; y = 1 - firstX d; z = 1 - firstY d; x-small = omega arith; y-small = cy; z-small = omega arith;
+        x = 0;
+        y = 1 - firstX d;
+        z = 1 - firstY d;
+        x-small = omega arith;
+        y-small = cy;
+        z-small = omega arith;
         seat-is = u ∙ ap (λ (s : ℕ). seat (firstX d) (firstY d) s 2) (sym f);
         after = subst (λ (s : ℕ). sideAt (seat (firstX d) (firstY d) s 2) < sideAt (4 * bitXor octant 4 + 2)) (sym e)
             (rw u (first-z (firstX d) hx (firstY d) hy));
@@ -168,7 +178,12 @@ module _ (d : Direction) where
       let t : bitXor octant 1 ≡ 1 - firstX d + 2 * firstY d + 4 * firstZ d = turn-x _ hx _ hy _ hz in
       let u : 4 * bitXor octant 1 + 3 ≡ seat 1 (firstY d) (firstZ d) 3 = omega (arith, t, e) in
       record {
-        x = 1; y = 1 - firstX d; z = firstY d; x-small = omega arith; y-small = cy; z-small = hy;
+        x = 1;
+        y = 1 - firstX d;
+        z = firstY d;
+        x-small = omega arith;
+        y-small = cy;
+        z-small = hy;
         seat-is = u ∙ ap (λ (q : ℕ). seat q (firstY d) (firstZ d) 3) (sym f);
         after = subst (λ (q : ℕ). sideAt (seat q (firstY d) (firstZ d) 3) < sideAt (4 * bitXor octant 1 + 3)) (sym e)
             (rw u (first-x (firstY d) hy (firstZ d) hz));

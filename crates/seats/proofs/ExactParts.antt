@@ -16,10 +16,9 @@ use Rattle.golden.proofs.GoldenOrder.{nonneg-by, antisym}
 use Rattle.golden.proofs.IntegerOrder.{le-or-lt}
 use Rattle.golden.proofs.Magnitudes.{abs-add, abs-neg, abs-mul, zero-abs}
 use Rattle.filing.specs.Holding.{_-φ_}
-use Rattle.filing.specs.Means.Descent.{Beside}
 use Rattle.shares.specs.Means.Shares.{times, Share}
 use Rattle.shares.proofs.ShareLaws.{times-nonneg, sum-times}
-use Rattle.seats.specs.Means.Roles.{Within}
+use Rattle.seats.specs.Means.Roles.{Beside, Within}
 
 -- ---- how large
 

@@ -12,7 +12,8 @@ use Rattle.golden.proofs.RingSolver.{solve}
 use Rattle.golden.proofs.GoldenRing.{φ-ring, φ-path, of-addφ}
 use Rattle.golden.proofs.Magnitudes.{abs-add, abs-neg}
 use Rattle.filing.specs.Holding.{_-φ_, three}
-use Rattle.filing.specs.Means.Descent.{total, Beside, Bound}
+use Rattle.filing.specs.Means.Descent.{total}
+use Rattle.seats.specs.Means.Roles.{Beside, Bound}
 use Rattle.filing.specs.declared.Determinants.{Determinants}
 use Rattle.shares.specs.Means.Shares.{times}
 use Rattle.seats.specs.Means.Octants.{phi, lean, outer, double, rolesOf}

@@ -55,8 +55,14 @@ module _ (d : Direction) (some : IsSome d) (n : Sizes) (s : AreScaled (natAbs (d
 
   pub measured-3 : Measured (D .d3) (total D) (q .q3) (q .sum)
   measured-3 = record {
-    some = h .n3; number = q .sum - r .r1 - r .r2; near = subst (Near 4 (D .d3)) third-is (h .roles .near3); near-sum = near-sum; divided = v .e3;
-    fits = omega arith; small = small; large = omega (arith, large);
+    some = h .n3;
+    number = q .sum - r .r1 - r .r2;
+    near = subst (Near 4 (D .d3)) third-is (h .roles .near3);
+    near-sum = near-sum;
+    divided = v .e3;
+    fits = omega arith;
+    small = small;
+    large = omega (arith, large);
   }
 
   -- the sum is above 0: the number near to it is

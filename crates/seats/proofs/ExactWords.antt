@@ -109,7 +109,7 @@ module _ (d : Direction) (some : IsSome d) (t : Stand) (h : StandsAt d t) where
   pub all-here : (n : ℕ) → n ≤ 24 → (t .floors .f3 + t .gaps .g3 ≡ 0 → ⊥) → allWords d n 4 ≡ seatWords n here (t .floors) (t .gaps)
   all-here n l f =
       let w : allWords d n 4 ≡ sideWords d n (sideAt here) =
-          rw e (words-here d some k (h .kind-small) 16777216 (omega arith) (t .floors) (t .gaps) (h .stands) n (λ o. f (edge-on o))) in
+      rw e (words-here d some k (h .kind-small) 16777216 (omega arith) (t .floors) (t .gaps) (h .stands) n (λ o. f (edge-on o))) in
       w ∙ words-at n here l here-at
 
   module _ (z : t .floors .f3 + t .gaps .g3 ≡ 0) where
@@ -128,7 +128,7 @@ module _ (d : Direction) (some : IsSome d) (t : Stand) (h : StandsAt d t) where
     pub all-both : (n : ℕ) → n ≤ 24 → allWords d n 4 ≡ seatWords n here (t .floors) (t .gaps) ++ seatWords n there (t .floors) (t .gaps)
     all-both n l =
         let w : allWords d n 4 ≡ sideWords d n (sideAt here) ++ sideWords d n (sideAt there) =
-            rw e (words-both d some k (h .kind-small) 16777216 (omega arith) (t .floors) (t .gaps) (h .stands) n (on-edge z)) in
+        rw e (words-both d some k (h .kind-small) 16777216 (omega arith) (t .floors) (t .gaps) (h .stands) n (on-edge z)) in
         w ∙ λ j. words-at n here l here-at j ++ words-at n there l there-at j
 
   -- there is room for the words of the first side, whether or not there is another

@@ -27,11 +27,11 @@ module _ (d : Direction) (nonzero : d ≡ zeroDirection → ⊥) (s : ℕ) (hs :
   unfolding leastFrom
   least-here before =
       let r : First (λ t. holds (sideDets d t)) 4 23 (first 19 4 (λ t. holds (sideDets d t))) =
-          first-is 19 4 (λ t. holds (sideDets d t)) s (hs .0) (omega (arith, hs .1)) (holds-test (sideDets d s) here) in
+      first-is 19 4 (λ t. holds (sideDets d t)) s (hs .0) (omega (arith, hs .1)) (holds-test (sideDets d s) here) in
       let l : first 19 4 (λ t. holds (sideDets d t)) ≤ s = r .least s (hs .0) (holds-test (sideDets d s) here) in
       let m : s ≤ first 19 4 (λ t. holds (sideDets d t)) =
-          before (first 19 4 (λ t. holds (sideDets d t))) (r .low, omega (arith, r .high))
-          (test-holds (sideDets d (first 19 4 (λ t. holds (sideDets d t)))) (r .passes)) in
+      before (first 19 4 (λ t. holds (sideDets d t))) (r .low, omega (arith, r .high))
+      (test-holds (sideDets d (first 19 4 (λ t. holds (sideDets d t)))) (r .passes)) in
       omega arith
 
   -- where it lies on no edge, no other side holds it

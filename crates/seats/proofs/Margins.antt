@@ -5,14 +5,14 @@ use mathlib.Core.List.{[], _∷_}
 use Prim.Native.Nat.{ℕ, _+_, _-_, _*_, _≤_, _<_}
 use native.Mathlib.Nat.{mul-le-mul-right}
 use native.Mathlib.Omega.{arith}
-use lib.IntN.{pos, natAbs}
+use lib.IntN.{pos}
 use Rattle.golden.specs.Numbers.{whole, _+φ_, negφ, _*φ_}
 use Rattle.golden.specs.Order.{NonNeg}
 use Rattle.golden.specs.declared.Golden.{Golden}
 use Rattle.golden.proofs.Polynomials.{var, lit, _⊕_, _⊝_, _⊗_, ⊖}
 use Rattle.golden.proofs.RingSolver.{solve}
-use Rattle.golden.proofs.GoldenRing.{φ-ring, of-addφ, of-mulφ}
-use Rattle.golden.proofs.GoldenOrder.{nonneg-by, add-nonneg, antisym, total as either}
+use Rattle.golden.proofs.GoldenRing.{φ-ring}
+use Rattle.golden.proofs.GoldenOrder.{nonneg-by, add-nonneg, total as either}
 use Rattle.golden.proofs.GoldenProduct.{whole-nonneg}
 use Rattle.golden.proofs.IntegerOrder.{le-or-lt}
 use Rattle.filing.specs.Holding.{_-φ_}
@@ -24,25 +24,7 @@ use Rattle.seats.specs.declared.dividing.Quotient.{Quotient}
 use Rattle.seats.specs.declared.dividing.Divided.{Divided}
 use Rattle.seats.specs.Means.Near.{Near, AllNear, Division, Divides, Away}
 use Rattle.seats.specs.Means.Roles.{Within, Measured}
-
-abbrev w : ℕ → Golden
-w n = whole (pos n)
-
-sum : (a b : ℕ) → w (a + b) ≡ w a +φ w b
-sum a b = of-addφ (pos a) (pos b)
-
-product : (a b : ℕ) → w (a * b) ≡ w a *φ w b
-product a b = of-mulφ (pos a) (pos b)
-
--- a whole number below another is not above it
-not-over : (a b : ℕ) → a < b → NonNeg (w a -φ w b) → ⊥
-not-over a b l h =
-    let e : b ≡ a + (b - a) = omega arith in
-    let q : w a -φ w b ≡ negφ (w (b - a)) =
-    ap (λ (z : Golden). w a -φ z) (ap w e ∙ sum a (b - a))
-    ∙ solve φ-ring (w a ∷ w (b - a) ∷ []) (var 0 ⊝ (var 0 ⊕ var 1)) (⊖ (var 1)) refl in
-    let z : b - a ≡ 0 = ap natAbs (antisym (w (b - a)) (whole-nonneg (b - a)) (nonneg-by q h) .0) in
-    omega arith
+use Rattle.seats.proofs.WholeNumbers.{w, w-sum as sum, w-product as product, not-over}
 
 -- ---- one determinant and the sum
 

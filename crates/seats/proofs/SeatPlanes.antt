@@ -20,10 +20,8 @@ use Rattle.filing.specs.Means.Sides.{sideDets}
 use Rattle.filing.proofs.GoldenTests.{sameᵛ, ᵛ-same}
 use Rattle.filing.proofs.SideUnits.{plane, value, side-dets}
 use Rattle.shares.specs.Means.Shares.{times}
+use Rattle.seats.proofs.WholeNumbers.{w}
 use Rattle.seats.specs.Means.Octants.{phi, lean, outer, double, roleOf, signAt, sideAt, firstAt, secondAt, thirdAt, seat, seatOf}
-
-abbrev w : ℕ → Golden
-w n = whole (pos n)
 
 -- ---- the planes, in the octant where no coordinate is negative
 

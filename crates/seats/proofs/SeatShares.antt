@@ -86,9 +86,9 @@ module _ (d : Direction) (x y z : ℕ) (hx : x < 2) (hy : y < 2) (hz : z < 2) (k
       let h1 = seat-first d x y z hx hy hz k hk in
       let h2 = seat-second d x y z hx hy hz k hk in
       let e : three (nth (firstAt here) (roleOf k 1 a b c) (roleOf k 2 a b c) (roleOf k 3 a b c))
-          (nth (secondAt here) (roleOf k 1 a b c) (roleOf k 2 a b c) (roleOf k 3 a b c))
-          (nth (thirdAt here) (roleOf k 1 a b c) (roleOf k 2 a b c) (roleOf k 3 a b c)) ≡ sideDets d (sideAt here) =
-          (λ j. three (role-nth k a b c (firstAt here) h1 j) (role-nth k a b c (secondAt here) h2 j) (role-nth k a b c (thirdAt here) seat-third j))
-          ∙ sym (seat-dets d x y z hx hy hz k hk) in
+      (nth (secondAt here) (roleOf k 1 a b c) (roleOf k 2 a b c) (roleOf k 3 a b c))
+      (nth (thirdAt here) (roleOf k 1 a b c) (roleOf k 2 a b c) (roleOf k 3 a b c)) ≡ sideDets d (sideAt here) =
+      (λ j. three (role-nth k a b c (firstAt here) h1 j) (role-nth k a b c (secondAt here) h2 j) (role-nth k a b c (thirdAt here) seat-third j))
+      ∙ sym (seat-dets d x y z hx hy hz k hk) in
       subst (Stands p (floorsAt here F) (gapsAt here G)) e
       (ordered p F G _ _ _ i (firstAt here) h1 (secondAt here) h2 (seat-apart d x y z hx hy hz k hk))

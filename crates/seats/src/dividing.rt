@@ -62,12 +62,7 @@ pub fn divide_three(x1: u64, x2: u64, sum: u64) -> Divided
     let q1 = divide(x1, sum);
     let q2 = divide(x2, sum);
     let q3 = third(q1.whole + q2.whole, q1.rest + q2.rest, sum);
-    Divided {
-        sum,
-        q1,
-        q2,
-        q3,
-    }
+    Divided { sum, q1, q2, q3 }
 }
 
 // Whether a rest is away from both ends.

@@ -22,12 +22,11 @@ ghost use lib.IntN.{pos, _*ℤ_, natAbs};
 ghost use Rattle.golden.specs.Decisions.{Decides};
 ghost use Rattle.golden.specs.Numbers.{golden, whole, Below};
 ghost use Rattle.golden.specs.Order.{NonNeg};
-ghost use Rattle.filing.specs.Means.Descent.{Beside};
 ghost use Rattle.filing.specs.Means.Sides.{IsLevel};
 ghost use Rattle.shares.specs.Means.Shares.{times, Share};
 ghost use Rattle.seats.specs.Means.Near.{NearPhi};
 ghost use Rattle.seats.specs.Means.Octants.{lean, rolesOf, firstX, firstY, firstZ};
-ghost use Rattle.seats.specs.Means.Roles.{AreBeyond, AreHeld, Within, Measured};
+ghost use Rattle.seats.specs.Means.Roles.{AreBeyond, AreHeld, Beside, Within, Measured};
 ghost use Rattle.seats.specs.Means.Finding.{IsSome, StandsAt};
 
 // The octant and the kind of the least side that holds a direction, and its shares there, in the order of the roles.
@@ -181,16 +180,10 @@ fn part_at(x: Golden, s: Golden, g: u64) -> Part
 {
     let over = many(16777216, x).minus(many(g, s));
     if is_zero(over) {
-        return Part {
-            floor: g,
-            gap: 0,
-        };
+        return Part { floor: g, gap: 0 };
     }
     if over.at_least_zero() {
-        return Part {
-            floor: g,
-            gap: 1,
-        };
+        return Part { floor: g, gap: 1 };
     }
     Part {
         floor: g - 1,
@@ -206,10 +199,7 @@ fn part_of(x: Golden, s: Golden, q: Quotient, sum: u64) -> Part
     let f = q.whole;
     let rest = q.rest;
     if is_clear(rest, sum) {
-        return Part {
-            floor: f,
-            gap: 1,
-        };
+        return Part { floor: f, gap: 1 };
     }
     if rest < 536870912 {
         return part_at(x, s, f);
@@ -233,7 +223,14 @@ pub fn stand_of(d: Direction) -> Stand
     ensures { λ r. ⌜ StandsAt d r ⌝ }
 {
     let n = sizes_of(d);
-    let r = by_signs(n.a, times_phi(n.a), n.b, times_phi(n.b), n.c, times_phi(n.c));
+    let r = by_signs(
+        n.a,
+        times_phi(n.a),
+        n.b,
+        times_phi(n.b),
+        n.c,
+        times_phi(n.c),
+    );
     let q = divide_three(r.r1, r.r2, r.r1 + r.r2 + r.r3);
     let t = determinants_of(r.kind, n.a, n.b, n.c);
     let s = t.d1.plus(t.d2).plus(t.d3);

@@ -152,7 +152,14 @@ fn list_side(
     ensures { λ r. ⌜ Puts count (seatWords degree (4 * octant + kind) f g) (now (out .entry)) r (now (out .exit)) ⌝ }
 {
     let k = 4 * octant + kind;
-    shares::walks::list_in(side_at(octant, kind), degree, floors_at(k, f), gaps_at(k, g), count, out)
+    shares::walks::list_in(
+        side_at(octant, kind),
+        degree,
+        floors_at(k, f),
+        gaps_at(k, g),
+        count,
+        out,
+    )
 }
 
 // All words of the degree whose triangles hold a direction, rising.

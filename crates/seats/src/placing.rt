@@ -51,7 +51,7 @@ pub struct Seated {
 // ---- sizes and signs
 
 // |c|.
-fn size(c: i32) -> u64
+pub fn size(c: i32) -> u64
     ensures { λ r. ⌜ r ≡ natAbs c ⌝ }
 {
     golden::magnitude(c as i64)

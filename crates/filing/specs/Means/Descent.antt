@@ -1,9 +1,9 @@
 -- The determinants of a triangle's children from its own, and the descent by the least child that holds. Assumes nothing.
-use Prim.Native.Nat.{ℕ, zero, suc, _+_, _*_, _≤_}
+use Prim.Native.Nat.{ℕ, zero, suc, _+_, _*_}
 use mathlib.Core.Bool.{Bool, true, false, cond, _&&_}
 use mathlib.Core.List.{List, [], _∷_, _++_}
 use lib.Dec.{leb}
-use lib.IntN.{ℤ, pos, negsuc, natAbs}
+use lib.IntN.{ℤ, pos, negsuc}
 use Rattle.golden.specs.Numbers.{_+φ_}
 use Rattle.golden.specs.Order.{wOf}
 use Rattle.golden.specs.declared.Golden.{Golden}
@@ -59,15 +59,3 @@ holders zero D v = cond (holds D) (v ∷ []) []
 holders (suc n) D v =
     holders n (childDets 0 D) (4 * v) ++ holders n (childDets 1 D) (4 * v + 1) ++ holders n (childDets 2 D) (4 * v + 2)
     ++ holders n (childDets 3 D) (4 * v + 3)
-
--- ---- how large the numbers are
-
--- each part of x, with the part of s, is at most b
-pub record Beside (b : ℕ) (s x : Golden) : Type 0 where
-  pub u-beside : natAbs (x .u) + natAbs (s .u) ≤ b
-  pub v-beside : natAbs (x .v) + natAbs (s .v) ≤ b
-
-pub record Bound (b : ℕ) (s : Golden) (D : Determinants) : Type 0 where
-  pub b1 : Beside b s (D .d1)
-  pub b2 : Beside b s (D .d2)
-  pub b3 : Beside b s (D .d3)

@@ -2,23 +2,11 @@
 use Prim.Native.Nat.{ℕ, _-_, _≤_}
 use lib.IntN.{natAbs}
 use mathlib.Core.List.{[]}
-use Rattle.net.specs.Sides.{cornerVertex}
 use Rattle.net.specs.Division.{triangleAt}
-use Rattle.net.specs.Means.Seams.{seamSide, seamKept, flip}
-use Rattle.filing.specs.Coordinates.{direction}
-use Rattle.filing.specs.Holding.{along, dot, determinants}
+use Rattle.filing.specs.Holding.{along, determinants}
 use Rattle.filing.specs.Means.Descent.{holds, first}
-use Rattle.golden.specs.declared.Golden.{Golden}
 use Rattle.filing.specs.declared.Direction.{Direction}
 use Rattle.filing.specs.declared.Determinants.{Determinants}
-
--- how far the direction goes along the vertex v
-abbrev pub height : Direction → (vertex : ℕ) → Golden
-height d v = dot (along d) (direction v)
-
--- the vertex beyond edge k of the side s: the corner of the side across it that lies opposite the shared edge
-unfoldable pub apex : (s k : ℕ) → ℕ
-apex s k = cornerVertex (seamSide s k) (flip (seamKept s k) k)
 
 -- the determinants of the side s
 unfoldable pub sideDets : Direction → (s : ℕ) → Determinants

@@ -64,10 +64,11 @@ word-of-requires : tie.Need-word-of-requires
 word-of-requires c κs =
     let d = c .before in
     let t = d .before .before .before in
-    let s = t .before in
-    (rw (c .side-at .ensures) (omega (arith, here-is (s .args .d) (s .pre .2) (t .stand-of .result) (t .stand-of .ensures) .1)),
-    s .pre .0,
-    exact-low (s .args .d) (s .pre .2) (t .stand-of .result) (t .stand-of .ensures) (s .args .degree) (d .descend .result) (s .pre .0) (path-is d))
+    let s = t .before in (
+      rw (c .side-at .ensures) (omega (arith, here-is (s .args .d) (s .pre .2) (t .stand-of .result) (t .stand-of .ensures) .1)),
+      s .pre .0,
+      exact-low (s .args .d) (s .pre .2) (t .stand-of .result) (t .stand-of .ensures) (s .args .degree) (d .descend .result) (s .pre .0) (path-is d),
+    )
 
 returns : tie.Need-returns
 returns c =

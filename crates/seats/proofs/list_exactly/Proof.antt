@@ -44,9 +44,15 @@ list-side-requires-2 c κs =
     let r = t .stand-of .result in
     let h = t .stand-of .ensures in
     let z = e .if1 .taken in
-    rw (c .before .other-octant .ensures)
-    (s .pre .0, there-below d some r h z, h .kind-small, there-is d some r h z .1, there-ordered d some r h z, (_, there-at d some r h z),
-    room-rest 0 _ _ _ (now (s .args .out)) (all-both d some r h z (s .args .degree) (s .pre .0)) (s .pre .3) (l .list-side .ensures))
+    rw (c .before .other-octant .ensures) (
+      s .pre .0,
+      there-below d some r h z,
+      h .kind-small,
+      there-is d some r h z .1,
+      there-ordered d some r h z,
+      (_, there-at d some r h z),
+      room-rest 0 _ _ _ (now (s .args .out)) (all-both d some r h z (s .args .degree) (s .pre .0)) (s .pre .3) (l .list-side .ensures),
+    )
 
 same-length : tie.Need-same-length
 same-length c = search needs

@@ -2,6 +2,7 @@
 use mathlib.Core.Path.{_≡_}
 use Prim.Native.Nat.{ℕ, suc, _+_, _-_, _*_, _≤_, _<_}
 use mathlib.Core.List.{List}
+use lib.IntN.{natAbs}
 use Rattle.golden.specs.Numbers.{_+φ_, negφ}
 use Rattle.golden.specs.Order.{NonNeg}
 use Rattle.golden.specs.declared.Golden.{Golden}
@@ -10,6 +11,7 @@ use Rattle.net.specs.Division.{each}
 use Rattle.net.specs.Sides.{IsSide, OneToThree, nth}
 use Rattle.filing.specs.Holding.{_-φ_}
 use Rattle.filing.specs.Means.Sides.{sideDets}
+use Rattle.filing.specs.declared.Determinants.{Determinants}
 use Rattle.filing.specs.declared.Direction.{Direction}
 use Rattle.shares.specs.Means.Shares.{times, floors, gaps, scaledBy}
 use Rattle.shares.specs.Means.Paths.{paths}
@@ -82,6 +84,16 @@ pub record Measured (x s : Golden) (q : Quotient) (sum : ℕ) : Type 0 where
   pub fits : number ≤ sum
   pub small : sum < 4503599627370496
   pub large : 2147483648 ≤ sum
+
+-- each part of x, with the part of s, is at most b; and so for three determinants
+pub record Beside (b : ℕ) (s x : Golden) : Type 0 where
+  pub u-beside : natAbs (x .u) + natAbs (s .u) ≤ b
+  pub v-beside : natAbs (x .v) + natAbs (s .v) ≤ b
+
+pub record Bound (b : ℕ) (s : Golden) (D : Determinants) : Type 0 where
+  pub b1 : Beside b s (D .d1)
+  pub b2 : Beside b s (D .d2)
+  pub b3 : Beside b s (D .d3)
 
 -- three of anything in the order of the side's corners
 abbrev pub seatedAt : (k r1 r2 r3 : ℕ) → Seated

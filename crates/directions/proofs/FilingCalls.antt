@@ -28,7 +28,8 @@ use Rattle.filing.proofs.AllHolders.{all-holders}
 
 -- ---- file
 
-pub filed-answer : (n : ℕ) (d : Direction) (w : ℕ) → refuseFile n d ≡ 0 → IsFiled n d (codeOf w) → FileAnswer n d (record { refusal = 0; code = codeOf w })
+pub filed-answer : (n : ℕ) (d : Direction) (w : ℕ) → refuseFile n d ≡ 0 → IsFiled n d (codeOf w)
+    → FileAnswer n d (record { refusal = 0; code = codeOf w })
 filed-answer n d w z h = answering z (record { number = refl; is = h })
 
 -- ---- list
@@ -40,10 +41,12 @@ module _ (n : ℕ) (d : Direction) (out : List ℕ) where
 
   pub list-nine : refuseFile n d ≡ 0 → length out < 6 → 9 ≡ refuseList n d out
   unfolding refuseFile refuseList
-  list-nine z h = refuse-after (degreeRows n ++ directionRows d) (listRows 6 out) tt tt z (here (lt-ltb (length out) 6 h))
+  list-nine z h = refuse-after (degreeRows n ++ directionRows d) (listRows 6 out) tt tt z (here (lt-ltb (length out)
+      6 h))
 
 -- the lists of the sides, one after the other, are as long as they are together
-side-lengths : (m j : ℕ) (f : ℕ → List ℕ) → length (joined m (4 + j) f) + sumSides j (λ s. length (f s)) ≡ sumSides (j + m) (λ s. length (f s))
+side-lengths : (m j : ℕ) (f : ℕ → List ℕ) → length (joined m (4 + j) f) + sumSides j (λ s. length (f s)) ≡ sumSides
+    (j + m) (λ s. length (f s))
 unfolding joined sumSides
 side-lengths zero j f = let e : j + 0 ≡ j = omega arith in rw e (omega arith)
 side-lengths (suc m) j f =
@@ -56,11 +59,13 @@ unfolding sumSides
 sum-same zero f g h = refl
 sum-same (suc m) f g h = omega (arith, sum-same m f g h, h (4 + m))
 
-pub words-count : (n : ℕ) (d : Direction) → length (allWords d n 4) ≡ sumSides 20 (λ s. length (holders n (sideDets d s) 0))
+pub words-count : (n : ℕ) (d : Direction) → length (allWords d n 4) ≡ sumSides 20 (λ s. length (holders n (sideDets d
+    s) 0))
 unfolding allWords sideWords sumSides
 words-count n d =
     let l = side-lengths 20 0 (sideWords d n) in
-    let q = sum-same 20 (λ s. length (sideWords d n s)) (λ s. length (holders n (sideDets d s) 0)) (λ s. each-length (wordOf s n) (holders n (sideDets d s) 0)) in
+    let q = sum-same 20 (λ s. length (sideWords d n s)) (λ s. length (holders n (sideDets d s) 0)) (λ s. each-length
+    (wordOf s n) (holders n (sideDets d s) 0)) in
     omega (arith, l, q)
 
 pub not-zero : (n : ℕ) (d : Direction) → refuseFile n d ≡ 0 → d ≡ zeroDirection → ⊥

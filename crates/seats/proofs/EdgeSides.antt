@@ -1,4 +1,5 @@
--- A direction lies on the edge between two sides where one coordinate is 0, and then the side of the chosen signs comes first. Assumes nothing.
+-- A direction lies on the edge between two sides where one coordinate is 0, and then the side of the chosen signs
+-- comes first. Assumes nothing.
 use mathlib.Core.Path.{_≡_, refl, sym, _∙_, ap, subst}
 use mathlib.Core.Logic.{_⊎_, inl, inr, ⊎-elim}
 use mathlib.Core.List.{[], _∷_, _++_}
@@ -22,7 +23,8 @@ use Rattle.shares.specs.declared.Floors.{Floors}
 use Rattle.shares.specs.declared.Gaps.{Gaps}
 use Rattle.shares.specs.Means.Shares.{Stands}
 use Rattle.shares.proofs.Standing.{stands-holds}
-use Rattle.seats.specs.Means.Octants.{phi, double, roleOf, rolesOf, signAt, seat, seatOf, firstX, firstY, firstZ, otherOctant, sideAt, firstAt, secondAt, thirdAt}
+use Rattle.seats.specs.Means.Octants.{phi, double, roleOf, rolesOf, signAt, seat, seatOf, firstX, firstY}
+use Rattle.seats.specs.Means.Octants.{firstZ, otherOctant, sideAt, firstAt, secondAt, thirdAt}
 use Rattle.seats.specs.Means.Roles.{floorsAt, gapsAt}
 use Rattle.seats.specs.Means.Finding.{IsSome}
 use Rattle.seats.proofs.ExactRoles.{lean-zero, outer-zero, opposite-zero, double-zero}
@@ -55,13 +57,16 @@ module _ (a b c : ℕ) (some : a + b + c ≡ 0 → ⊥) where
 
   pub zero-role : (k j : ℕ) → OneToThree j → roleOf k j a b c ≡ whole (pos 0) → OnPlane k a b c
   zero-role zero = each-of-three (λ j. roleOf 0 j a b c ≡ whole (pos 0) → ⊥)
-      (λ e. none (lean-zero a b c e)) (λ e. let z = lean-zero b c a e in none (z .2, z .0, z .1)) (λ e. let z = lean-zero c a b e in none (z .1, z .2, z .0))
+      (λ e. none (lean-zero a b c e)) (λ e. let z = lean-zero b c a e in
+      none (z .2, z .0, z .1)) (λ e. let z = lean-zero c a b e in none (z .1, z .2, z .0))
   zero-role (suc zero) = each-of-three (λ j. roleOf 1 j a b c ≡ whole (pos 0) → b ≡ 0)
       (λ e. none (outer-zero a b c e)) (λ e. none (opposite-zero a b c e)) (double-zero b)
   zero-role (suc (suc zero)) = each-of-three (λ j. roleOf 2 j a b c ≡ whole (pos 0) → c ≡ 0)
-      (λ e. let z = outer-zero b c a e in none (z .2, z .0, z .1)) (λ e. let z = opposite-zero b c a e in none (z .2, z .0, z .1)) (double-zero c)
+      (λ e. let z = outer-zero b c a e in none (z .2, z .0, z .1)) (λ e. let z = opposite-zero b c a e in
+      none (z .2, z .0, z .1)) (double-zero c)
   zero-role (suc (suc (suc k))) = each-of-three (λ j. roleOf 3 j a b c ≡ whole (pos 0) → a ≡ 0)
-      (λ e. let z = outer-zero c a b e in none (z .1, z .2, z .0)) (λ e. let z = opposite-zero c a b e in none (z .1, z .2, z .0)) (double-zero a)
+      (λ e. let z = outer-zero c a b e in none (z .1, z .2, z .0)) (λ e. let z = opposite-zero c a b e in
+      none (z .1, z .2, z .0)) (double-zero a)
 
 -- there it is 0
 pub plane-role : (k a b c : ℕ) → OnPlane k a b c → roleOf k 3 a b c ≡ whole (pos 0)
@@ -82,10 +87,12 @@ turn-x : (q : ℕ) → q < 2 → (r : ℕ) → r < 2 → (s : ℕ) → s < 2 →
 turn-x = sound (below 2 λ q. below 2 λ r. below 2 λ s. same (bitXor (q + 2 * r + 4 * s) 1) (1 - q + 2 * r + 4 * s)) refl
 
 turn-y : (q : ℕ) → q < 2 → (r : ℕ) → r < 2 → (s : ℕ) → s < 2 → bitXor (q + 2 * r + 4 * s) 2 ≡ q + 2 * (1 - r) + 4 * s
-turn-y = sound (below 2 λ q. below 2 λ r. below 2 λ s. same (bitXor (q + 2 * r + 4 * s) 2) (q + 2 * (1 - r) + 4 * s)) refl
+turn-y = sound (below 2 λ q. below 2 λ r. below 2 λ s. same (bitXor (q + 2 * r + 4 * s) 2) (q + 2 * (1 - r) + 4 * s))
+    refl
 
 turn-z : (q : ℕ) → q < 2 → (r : ℕ) → r < 2 → (s : ℕ) → s < 2 → bitXor (q + 2 * r + 4 * s) 4 ≡ q + 2 * r + 4 * (1 - s)
-turn-z = sound (below 2 λ q. below 2 λ r. below 2 λ s. same (bitXor (q + 2 * r + 4 * s) 4) (q + 2 * r + 4 * (1 - s))) refl
+turn-z = sound (below 2 λ q. below 2 λ r. below 2 λ s. same (bitXor (q + 2 * r + 4 * s) 4) (q + 2 * r + 4 * (1 - s)))
+    refl
 
 pub other-last : (o k : ℕ) → (k ≡ 1 → ⊥) → (k ≡ 2 → ⊥) → bitXor o 1 ≡ otherOctant o k
 other-last o zero f g = refl
@@ -215,7 +222,8 @@ module _ (d : Direction) where
     here-side = seat-side d 0 (1 - firstX d) (firstY d) (omega arith) cy hy k hk
 
     pub there-side : OnPlane k a b c → IsSide (sideAt there)
-    there-side p = let t = second k hk p in rw (t .seat-is) (seat-side d (t .x) (t .y) (t .z) (t .x-small) (t .y-small) (t .z-small) k hk)
+    there-side p = let t = second k hk p in rw (t .seat-is) (seat-side d (t .x) (t .y) (t .z) (t .x-small) (t
+        .y-small) (t .z-small) k hk)
 
     -- two roles of the three have numbers of at most 6 together
     ordered : (x y z : ℕ) → x < 2 → y < 2 → z < 2 → firstAt (seatOf d x y z k) + secondAt (seatOf d x y z k) ≤ 6
@@ -226,16 +234,25 @@ module _ (d : Direction) where
     here-order = ordered 0 (1 - firstX d) (firstY d) (omega arith) cy hy
 
     pub there-order : OnPlane k a b c → firstAt there + secondAt there ≤ 6
-    there-order o = let t = second k hk o in rw (t .seat-is) (ordered (t .x) (t .y) (t .z) (t .x-small) (t .y-small) (t .z-small))
+    there-order o = let t = second k hk o in rw (t .seat-is) (ordered (t .x) (t .y) (t .z) (t .x-small) (t .y-small)
+        (t .z-small))
 
     pub there-small : OnPlane k a b c → otherOctant octant k < 8
     there-small o =
         let t = second k hk o in
         let e = t .seat-is in
-        omega (arith, e, sign-small (d .x) (t .x) (t .x-small), sign-small (d .y) (t .y) (t .y-small), sign-small (d .z) (t .z) (t .z-small))
+        omega (
+          arith,
+          e,
+          sign-small (d .x) (t .x) (t .x-small),
+          sign-small (d .y) (t .y) (t .y-small),
+          sign-small (d
+              .z) (t .z) (t .z-small),
+        )
 
     off-edge : (OnPlane k a b c → ⊥) → (i : ℕ) → OneToThree i → value d (sideAt here) i ≡ whole (pos 0) → ⊥
-    off-edge f i hi e = f (zero-role a b c some k (roleAt here i) role-small (sym (value-role d 0 (1 - firstX d) (firstY d) (omega arith) cy hy k hk i hi) ∙ e))
+    off-edge f i hi e = f (zero-role a b c some k (roleAt here i) role-small (sym (value-role d 0 (1 - firstX d)
+        (firstY d) (omega arith) cy hy k hk i hi) ∙ e))
       where
         role-small : OneToThree (roleAt here i)
         role-small = each-of-three (λ i. OneToThree (roleAt here i))
@@ -263,7 +280,8 @@ module _ (d : Direction) where
       alone f = only-here d nonzero (sideAt here) here-side here-holds (off-edge f)
 
       two : (o : OnPlane k a b c) → (t : ℕ) → IsSide t → SideHolds d t → (sideAt here ≡ t) ⊎ (sideAt there ≡ t)
-      two o = only-two d nonzero (sideAt here) here-side here-holds (sideAt there) (there-side o) (there-holds o) (λ e. omega (arith, second k hk o .after))
+      two o = only-two d nonzero (sideAt here) here-side here-holds (sideAt there) (there-side o) (there-holds o) (λ
+          e. omega (arith, second k hk o .after))
 
       pub here-least : sideAt here ≡ leastFrom d 4
       here-least = least-here d nonzero (sideAt here) here-side here-holds
@@ -275,5 +293,7 @@ module _ (d : Direction) where
       pub words-here : (n : ℕ) → (OnPlane k a b c → ⊥) → allWords d n 4 ≡ sideWords d n (sideAt here)
       words-here n f = one-side d n (sideAt here) here-side (alone f)
 
-      pub words-both : (n : ℕ) → OnPlane k a b c → allWords d n 4 ≡ sideWords d n (sideAt here) ++ sideWords d n (sideAt there)
-      words-both n o = both-sides d n (sideAt here) here-side (sideAt there) (there-side o) (second k hk o .after) (two o)
+      pub words-both : (n : ℕ) → OnPlane k a b c → allWords d n 4 ≡ sideWords d n (sideAt here) ++ sideWords d n
+          (sideAt there)
+      words-both n o = both-sides d n (sideAt here) here-side (sideAt there) (there-side o) (second k hk o .after)
+          (two o)

@@ -30,13 +30,18 @@ use Rattle.seats.proofs.Margins.{near-total}
 use Rattle.seats.proofs.SeatPlanes.{role-times}
 use Rattle.seats.proofs.Seating.{roles-large}
 
-module _ (d : Direction) (some : IsSome d) (n : Sizes) (s : AreScaled (natAbs (d .x)) (natAbs (d .y)) (natAbs (d .z)) n) (r : Roles) (h : AreHeld (n .a) (n .b) (n .c) r) (q : Divided)
+module _ (d : Direction) (some : IsSome d) (n : Sizes) (s : AreScaled (natAbs (d .x)) (natAbs (d .y)) (natAbs (d .z))
+    n) (r : Roles) (h : AreHeld (n .a) (n .b) (n .c) r) (q : Divided)
     (e : q .sum ≡ r .r1 + r .r2 + r .r3) (v : Divides (r .r1) (r .r2) q) where
   abbrev D : Determinants
   D = rolesOf (r .kind) (n .a) (n .b) (n .c)
 
   near-sum : Near 12 (total D) (q .sum)
-  near-sum = rw e (near-total D (r .r1) (r .r2) (r .r3) (record { near1 = h .roles .near1; near2 = h .roles .near2; near3 = h .roles .near3 }))
+  near-sum = rw e (near-total D (r .r1) (r .r2) (r .r3) (record {
+    near1 = h .roles .near1;
+    near2 = h .roles .near2;
+    near3 = h .roles .near3;
+  }))
 
   small : q .sum < 4503599627370496
   small = rw e (h .roles .small)
@@ -48,10 +53,28 @@ module _ (d : Direction) (some : IsSome d) (n : Sizes) (s : AreScaled (natAbs (d
   third-is = omega (arith, e)
 
   pub measured-1 : Measured (D .d1) (total D) (q .q1) (q .sum)
-  measured-1 = record { some = h .n1; number = r .r1; near = h .roles .near1; near-sum = near-sum; divided = v .e1; fits = omega (arith, e); small = small; large = omega (arith, large) }
+  measured-1 = record {
+    some = h .n1;
+    number = r .r1;
+    near = h .roles .near1;
+    near-sum = near-sum;
+    divided = v .e1;
+    fits = omega (arith, e);
+    small = small;
+    large = omega (arith, large);
+  }
 
   pub measured-2 : Measured (D .d2) (total D) (q .q2) (q .sum)
-  measured-2 = record { some = h .n2; number = r .r2; near = h .roles .near2; near-sum = near-sum; divided = v .e2; fits = omega (arith, e); small = small; large = omega (arith, large) }
+  measured-2 = record {
+    some = h .n2;
+    number = r .r2;
+    near = h .roles .near2;
+    near-sum = near-sum;
+    divided = v .e2;
+    fits = omega (arith, e);
+    small = small;
+    large = omega (arith, large);
+  }
 
   pub measured-3 : Measured (D .d3) (total D) (q .q3) (q .sum)
   measured-3 = record {
@@ -69,7 +92,8 @@ module _ (d : Direction) (some : IsSome d) (n : Sizes) (s : AreScaled (natAbs (d
   more : NonNeg (negφ (total D)) → ⊥
   more t =
       let l : q .sum ≤ 12 = w-order 12 (q .sum) (nonneg-by
-      (solve φ-ring (w 524288 ∷ total D ∷ w 12 ∷ w (q .sum) ∷ []) ((var 0 ⊗ var 1 ⊕ var 2 ⊝ var 3) ⊕ var 0 ⊗ ⊖ (var 1)) (var 2 ⊝ var 3) refl)
+      (solve φ-ring (w 524288 ∷ total D ∷ w 12 ∷ w (q .sum) ∷ []) ((var 0 ⊗ var 1 ⊕ var 2 ⊝ var 3) ⊕ var 0 ⊗ ⊖ (var
+      1)) (var 2 ⊝ var 3) refl)
       (add-nonneg _ _ (near-sum .low) (times-nonneg 524288 _ t))) in
       omega (arith, large)
 
@@ -78,7 +102,8 @@ module _ (d : Direction) (some : IsSome d) (n : Sizes) (s : AreScaled (natAbs (d
     where
       role :
           (j : ℕ)
-          → times (suc (s .scale)) (roleOf (r .kind) j (natAbs (d .x)) (natAbs (d .y)) (natAbs (d .z))) ≡ roleOf (r .kind) j (n .a) (n .b) (n .c)
+          → times (suc (s .scale)) (roleOf (r .kind) j (natAbs (d .x)) (natAbs (d .y)) (natAbs (d .z))) ≡ roleOf (r
+          .kind) j (n .a) (n .b) (n .c)
       role j =
           role-times (suc (s .scale)) (natAbs (d .x)) (natAbs (d .y)) (natAbs (d .z)) (r .kind) j
           ∙ λ i. roleOf (r .kind) j (sym (s .a-is) i) (sym (s .b-is) i) (sym (s .c-is) i)
@@ -88,8 +113,17 @@ module _ (d : Direction) (some : IsSome d) (n : Sizes) (s : AreScaled (natAbs (d
       → Share 16777216 f1 g1 (total D) (D .d1)
       → Share 16777216 f2 g2 (total D) (D .d2)
       → Share 16777216 f3 g3 (total D) (D .d3)
-      → Stands 16777216 (floors f1 f2 f3) (gaps g1 g2 g3) (rolesOf (r .kind) (natAbs (d .x)) (natAbs (d .y)) (natAbs (d .z)))
+      → Stands 16777216 (floors f1 f2 f3) (gaps g1 g2 g3) (rolesOf (r .kind) (natAbs (d .x)) (natAbs (d .y)) (natAbs
+      (d .z)))
   stands-exactly f1 f2 f3 g1 g2 g3 s1 s2 s3 =
-      stands-unscaled (s .scale) 16777216 (floors f1 f2 f3) (gaps g1 g2 g3) (rolesOf (r .kind) (natAbs (d .x)) (natAbs (d .y)) (natAbs (d .z)))
+      stands-unscaled (s .scale) 16777216 (floors f1 f2 f3) (gaps g1 g2 g3) (rolesOf (r .kind) (natAbs (d .x))
+      (natAbs (d .y)) (natAbs (d .z)))
       (subst (Stands 16777216 (floors f1 f2 f3) (gaps g1 g2 g3)) roles-scaled
-      (record { some = add-nonneg _ _ (add-nonneg _ _ (h .n1) (h .n2)) (h .n3); more = more; s1 = s1; s2 = s2; s3 = s3 }))
+      (record {
+        some = add-nonneg _ _ (add-nonneg _ _ (h .n1) (h .n2)) (h .n3);
+        more = more;
+        s1 = s1;
+        s2 = s2;
+        s3 =
+            s3;
+      }))

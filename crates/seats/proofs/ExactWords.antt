@@ -28,7 +28,9 @@ use Rattle.seats.specs.declared.exact.Stand.{Stand}
 use Rattle.seats.specs.Means.Octants.{roleOf, otherOctant, sideAt, firstAt, secondAt}
 use Rattle.seats.specs.Means.Roles.{floorsAt, gapsAt, seatWords}
 use Rattle.seats.specs.Means.Finding.{IsSome, StandsAt}
-use Rattle.seats.proofs.EdgeSides.{OnPlane, zero-role, plane-role, octant, octant-small, here-side, here-order, here-stands, here-least, there-side, there-order, there-small, there-stands, words-here, words-both}
+use Rattle.seats.proofs.EdgeSides.{OnPlane, zero-role, plane-role, octant, octant-small, here-side, here-order}
+use Rattle.seats.proofs.EdgeSides.{here-stands, here-least, there-side, there-order, there-small, there-stands}
+use Rattle.seats.proofs.EdgeSides.{words-here, words-both}
 use Rattle.seats.proofs.HeldSides.{equal-or-not}
 use Rattle.seats.proofs.FoundWords.{path-is, path-low}
 
@@ -66,7 +68,8 @@ module _ (d : Direction) (some : IsSome d) (t : Stand) (h : StandsAt d t) where
   pub here-at : Stands 16777216 (floorsAt here (t .floors)) (gapsAt here (t .gaps)) (sideDets d (sideAt here))
   here-at = rw e (here-stands d some k (h .kind-small) 16777216 (omega arith) (t .floors) (t .gaps) (h .stands))
 
-  pub corner-floors : (floorsAt here (t .floors) .f1 ≤ 16777216) × (floorsAt here (t .floors) .f2 ≤ 16777216) × (floorsAt here (t .floors) .f3 ≤ 16777216)
+  pub corner-floors : (floorsAt here (t .floors) .f1 ≤ 16777216) × (floorsAt here (t .floors) .f2 ≤ 16777216)
+      × (floorsAt here (t .floors) .f3 ≤ 16777216)
   corner-floors = stands-floors 16777216 _ _ _ here-at (omega arith)
 
   pub corner-gaps : (gapsAt here (t .gaps) .g1 ≤ 1) × (gapsAt here (t .gaps) .g2 ≤ 1) × (gapsAt here (t .gaps) .g3 ≤ 1)
@@ -74,14 +77,16 @@ module _ (d : Direction) (some : IsSome d) (t : Stand) (h : StandsAt d t) where
 
   -- ---- the least word
 
-  module _ (n v : ℕ) (l : n ≤ 24) (p : v ≡ leastPath n 16777216 (floorsAt here (t .floors)) (gapsAt here (t .gaps)) 0) where
+  module _ (n v : ℕ) (l : n ≤ 24) (p : v ≡ leastPath n 16777216 (floorsAt here (t .floors)) (gapsAt here (t .gaps))
+      0) where
     pub exact-low : v < 2 ^ (2 * n)
     exact-low = path-low n l _ _ _ here-at v p
 
     pub exact-filed : (w : ℕ) → w ≡ wordOf (sideAt here) n v → IsFiled n d (codeOf w)
     exact-filed w f =
         let q : v ≡ descent n (sideDets d (sideAt here)) 0 = path-is n l _ _ _ here-at v p in
-        let s : sideAt here ≡ leastFrom d 4 = rw e (here-least d some k (h .kind-small) 16777216 (omega arith) (t .floors) (t .gaps) (h .stands)) in
+        let s : sideAt here ≡ leastFrom d 4 = rw e (here-least d some k (h .kind-small) 16777216 (omega arith) (t
+        .floors) (t .gaps) (h .stands)) in
         rw (f, q, s) (found-code n d l)
 
   -- ---- all words
@@ -103,13 +108,16 @@ module _ (d : Direction) (some : IsSome d) (t : Stand) (h : StandsAt d t) where
 
   edge-on : Edge → t .floors .f3 + t .gaps .g3 ≡ 0
   edge-on o =
-      let z = zero-share _ _ _ _ _ (h .stands .s3) (h .stands .some) (h .stands .more) (plane-role k (natAbs (d .x)) (natAbs (d .y)) (natAbs (d .z)) o) in
+      let z = zero-share _ _ _ _ _ (h .stands .s3) (h .stands .some) (h .stands .more) (plane-role k (natAbs (d .x))
+      (natAbs (d .y)) (natAbs (d .z)) o) in
       omega (arith, z .0, z .1)
 
-  pub all-here : (n : ℕ) → n ≤ 24 → (t .floors .f3 + t .gaps .g3 ≡ 0 → ⊥) → allWords d n 4 ≡ seatWords n here (t .floors) (t .gaps)
+  pub all-here : (n : ℕ) → n ≤ 24 → (t .floors .f3 + t .gaps .g3 ≡ 0 → ⊥)
+      → allWords d n 4 ≡ seatWords n here (t .floors) (t .gaps)
   all-here n l f =
       let w : allWords d n 4 ≡ sideWords d n (sideAt here) =
-      rw e (words-here d some k (h .kind-small) 16777216 (omega arith) (t .floors) (t .gaps) (h .stands) n (λ o. f (edge-on o))) in
+      rw e (words-here d some k (h .kind-small) 16777216 (omega arith) (t .floors) (t .gaps) (h .stands) n (λ o. f
+      (edge-on o))) in
       w ∙ words-at n here l here-at
 
   module _ (z : t .floors .f3 + t .gaps .g3 ≡ 0) where
@@ -123,18 +131,23 @@ module _ (d : Direction) (some : IsSome d) (t : Stand) (h : StandsAt d t) where
     there-ordered = rw e (there-order d some k (h .kind-small) (on-edge z))
 
     pub there-at : Stands 16777216 (floorsAt there (t .floors)) (gapsAt there (t .gaps)) (sideDets d (sideAt there))
-    there-at = rw e (there-stands d some k (h .kind-small) 16777216 (omega arith) (t .floors) (t .gaps) (h .stands) (on-edge z))
+    there-at = rw e (there-stands d some k (h .kind-small) 16777216 (omega arith) (t .floors) (t .gaps) (h .stands)
+        (on-edge z))
 
-    pub all-both : (n : ℕ) → n ≤ 24 → allWords d n 4 ≡ seatWords n here (t .floors) (t .gaps) ++ seatWords n there (t .floors) (t .gaps)
+    pub all-both : (n : ℕ) → n ≤ 24 → allWords d n 4 ≡ seatWords n here (t .floors) (t .gaps) ++ seatWords n there (t
+        .floors) (t .gaps)
     all-both n l =
         let w : allWords d n 4 ≡ sideWords d n (sideAt here) ++ sideWords d n (sideAt there) =
-        rw e (words-both d some k (h .kind-small) 16777216 (omega arith) (t .floors) (t .gaps) (h .stands) n (on-edge z)) in
+        rw e (words-both d some k (h .kind-small) 16777216 (omega arith) (t .floors) (t .gaps) (h .stands) n (on-edge
+        z)) in
         w ∙ λ j. words-at n here l here-at j ++ words-at n there l there-at j
 
   -- there is room for the words of the first side, whether or not there is another
   pub room-here :
-      (n : ℕ) (out : List ℕ) → n ≤ 24 → Room 0 (allWords d n 4) out → Room 0 (seatWords n here (t .floors) (t .gaps)) out
+      (n : ℕ) (out : List ℕ) → n ≤ 24 → Room 0 (allWords d n 4) out
+      → Room 0 (seatWords n here (t .floors) (t .gaps)) out
   room-here n out l r = ⊎-elim
-      (λ z. room-first 0 (seatWords n here (t .floors) (t .gaps)) (seatWords n there (t .floors) (t .gaps)) (allWords d n 4) out (all-both z n l) r)
+      (λ z. room-first 0 (seatWords n here (t .floors) (t .gaps)) (seatWords n there (t .floors) (t .gaps)) (allWords
+      d n 4) out (all-both z n l) r)
       (λ f. subst (λ (x : List ℕ). Room 0 x out) (all-here n l f) r)
       (equal-or-not (t .floors .f3 + t .gaps .g3) 0)

@@ -1,4 +1,5 @@
--- Where a direction stands strictly inside a side, no other side holds it, and one word of each degree. Assumes nothing.
+-- Where a direction stands strictly inside a side, no other side holds it, and one word of each degree. Assumes
+-- nothing.
 use mathlib.Core.Path.{_≡_, refl, sym, _∙_, ap, subst}
 use mathlib.Core.List.{[], _∷_}
 use Prim.Native.Nat.{ℕ, suc, _+_, _-_, _*_, _^_, _≤_, _<_}
@@ -50,13 +51,15 @@ pub found-in :
     → FoundIn d (record { side = t .side; floors = floors (q .q1 .whole) (q .q2 .whole) (q .q3 .whole) })
 found-in d t q h e v a = record {
   side-is = h .side-is;
-  stands = stands-unscaled (h .scale) 16777216 (floors (q .q1 .whole) (q .q2 .whole) (q .q3 .whole)) strict (sideDets d (t .side))
+  stands = stands-unscaled (h .scale) 16777216 (floors (q .q1 .whole) (q .q2 .whole) (q .q3 .whole)) strict (sideDets
+      d (t .side))
       (strict-stands _ q (t .x1) (t .x2) (rw e (h .near)) (rw e (h .fits)) v (a .0) (a .1) (a .2));
 }
 
 -- ---- the path, at every degree
 
-module _ (n : ℕ) (l : n ≤ 24) (F : Floors) (G : Gaps) (D : Determinants) (i : Stands 16777216 F G D) (v : ℕ) (e : v ≡ leastPath n 16777216 F G 0) where
+module _ (n : ℕ) (l : n ≤ 24) (F : Floors) (G : Gaps) (D : Determinants) (i : Stands 16777216 F G D) (v : ℕ) (e : v ≡
+    leastPath n 16777216 F G 0) where
   pub path-is : v ≡ descent n D 0
   path-is = e ∙ least-24 n F G D 0 l i
 
@@ -77,9 +80,12 @@ module _ (d : Direction) (some : IsSome d) (r : Found) (h : FoundIn d r) where
       let i = h .stands in
       let e = side-dets d s (h .side-is) in
       each-of-three (λ k. value d s k ≡ whole (pos 0) → ⊥)
-      (λ z. let t = zero-share _ _ _ _ _ (i .s1) (i .some) (i .more) (ap (λ (D : Determinants). D .d1) e ∙ z) in omega (arith, t .1))
-      (λ z. let t = zero-share _ _ _ _ _ (i .s2) (i .some) (i .more) (ap (λ (D : Determinants). D .d2) e ∙ z) in omega (arith, t .1))
-      (λ z. let t = zero-share _ _ _ _ _ (i .s3) (i .some) (i .more) (ap (λ (D : Determinants). D .d3) e ∙ z) in omega (arith, t .1))
+      (λ z. let t = zero-share _ _ _ _ _ (i .s1) (i .some) (i .more) (ap (λ (D : Determinants). D .d1) e ∙ z) in
+      omega (arith, t .1))
+      (λ z. let t = zero-share _ _ _ _ _ (i .s2) (i .some) (i .more) (ap (λ (D : Determinants). D .d2) e ∙ z) in
+      omega (arith, t .1))
+      (λ z. let t = zero-share _ _ _ _ _ (i .s3) (i .some) (i .more) (ap (λ (D : Determinants). D .d3) e ∙ z) in
+      omega (arith, t .1))
 
   only : (t : ℕ) → IsSide t → SideHolds d t → s ≡ t
   only = only-here d (nonzero d some) s (h .side-is) here off
@@ -87,7 +93,8 @@ module _ (d : Direction) (some : IsSome d) (r : Found) (h : FoundIn d r) where
   least : s ≡ leastFrom d 4
   least = least-here d (nonzero d some) s (h .side-is) here (λ t ht g. let e = only t ht g in omega arith)
 
-  pub found-word : (n v w : ℕ) → n ≤ 24 → v ≡ leastPath n 16777216 (r .floors) strict 0 → w ≡ wordOf s n v → OneWord n d w
+  pub found-word : (n v w : ℕ) → n ≤ 24 → v ≡ leastPath n 16777216 (r .floors) strict 0 → w ≡ wordOf s n v
+      → OneWord n d w
   unfolding sideWords
   found-word n v w l e f =
       let p : v ≡ descent n (sideDets d s) 0 = path-is n l (r .floors) strict (sideDets d s) (h .stands) v e in
@@ -95,6 +102,7 @@ module _ (d : Direction) (some : IsSome d) (r : Found) (h : FoundIn d r) where
         filed = rw (f, p, least) (found-code n d l);
         alone =
             one-side d n s (h .side-is) only
-            ∙ ap (each (wordOf s n)) (sym (all-24 n (r .floors) strict (sideDets d s) 0 l (h .stands)) ∙ strict-paths n 16777216 (r .floors) 0)
+            ∙ ap (each (wordOf s n)) (sym (all-24 n (r .floors) strict (sideDets d s) 0 l (h .stands))
+            ∙ strict-paths n 16777216 (r .floors) 0)
             ∙ ap (λ (x : ℕ). x ∷ []) (ap (wordOf s n) (sym e) ∙ sym f);
       }

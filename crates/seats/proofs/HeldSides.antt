@@ -35,7 +35,8 @@ module _ (d : Direction) (nonzero : d ≡ zeroDirection → ⊥) (s : ℕ) (hs :
       omega arith
 
   -- where it lies on no edge, no other side holds it
-  pub only-here : ((k : ℕ) → OneToThree k → value d s k ≡ whole (pos 0) → ⊥) → (t : ℕ) → IsSide t → SideHolds d t → s ≡ t
+  pub only-here : ((k : ℕ) → OneToThree k → value d s k ≡ whole (pos 0) → ⊥) → (t : ℕ) → IsSide t → SideHolds d t
+      → s ≡ t
   only-here off t ht h = ⊎-elim (λ e. e)
       (λ f. let b = two-sides d nonzero s hs here t ht h f in absurd (off (b .0) (b .1) (b .3)))
       (equal-or-not s t)

@@ -1,4 +1,5 @@
--- The side of an octant and a kind has the determinants that the table says, in the order that it says. Assumes nothing.
+-- The side of an octant and a kind has the determinants that the table says, in the order that it says. Assumes
+-- nothing.
 use mathlib.Core.Path.{_≡_, refl, sym, _∙_, ap, subst}
 use mathlib.Core.List.{[], _∷_}
 use Prim.Native.Nat.{ℕ, zero, suc, _+_, _-_, _*_, _≤_, _<_}
@@ -21,7 +22,8 @@ use Rattle.filing.proofs.GoldenTests.{sameᵛ, ᵛ-same}
 use Rattle.filing.proofs.SideUnits.{plane, value, side-dets}
 use Rattle.shares.specs.Means.Shares.{times}
 use Rattle.seats.proofs.WholeNumbers.{w}
-use Rattle.seats.specs.Means.Octants.{phi, lean, outer, double, roleOf, signAt, sideAt, firstAt, secondAt, thirdAt, seat, seatOf}
+use Rattle.seats.specs.Means.Octants.{phi, lean, outer, double, roleOf, signAt, sideAt, firstAt, secondAt}
+use Rattle.seats.specs.Means.Octants.{thirdAt, seat, seatOf}
 
 -- ---- the planes, in the octant where no coordinate is negative
 
@@ -39,7 +41,8 @@ abbrev leanPlane : Coordinates
 leanPlane = coordinates (negφ phi) (w 1) (w 1 +φ phi)
 
 abbrev beyondPlane : (role : ℕ) → Coordinates
-beyondPlane i = nth i (coordinates phi (negφ (w 1)) (w 1 +φ phi)) (opposite leanPlane) (coordinates (w 0) (phi +φ phi) (w 0))
+beyondPlane i = nth i (coordinates phi (negφ (w 1)) (w 1 +φ phi)) (opposite leanPlane) (coordinates (w 0) (phi +φ
+    phi) (w 0))
 
 abbrev planeOf : (kind role : ℕ) → Coordinates
 planeOf zero i = nth i leanPlane (turned leanPlane) (turned (turned leanPlane))
@@ -70,7 +73,8 @@ module _ (a b c : ℕ) where
 
   dot-double : double b ≡ dot3 a b c (beyondPlane 3)
   dot-double =
-      solve φ-ring (w a ∷ w b ∷ w c ∷ phi ∷ []) (var 1 ⊗ var 3 ⊕ var 1 ⊗ var 3) (var 0 ⊗ lit 0 ⊕ var 1 ⊗ (var 3 ⊕ var 3) ⊕ var 2 ⊗ lit 0) refl
+      solve φ-ring (w a ∷ w b ∷ w c ∷ phi ∷ []) (var 1 ⊗ var 3 ⊕ var 1 ⊗ var 3) (var 0 ⊗ lit 0 ⊕ var 1 ⊗ (var 3 ⊕ var
+      3) ⊕ var 2 ⊗ lit 0) refl
 
   dot-beyond : (i : ℕ) → nth i (outer a b c) (negφ (lean a b c)) (double b) ≡ dot3 a b c (beyondPlane i)
   dot-beyond zero = dot-double
@@ -97,7 +101,8 @@ dot-times m a b c v =
     solve φ-ring (w m ∷ w a ∷ w b ∷ w c ∷ v .x ∷ v .y ∷ v .z ∷ [])
     (var 0 ⊗ (var 1 ⊗ var 4 ⊕ var 2 ⊗ var 5 ⊕ var 3 ⊗ var 6))
     ((var 0 ⊗ var 1) ⊗ var 4 ⊕ (var 0 ⊗ var 2) ⊗ var 5 ⊕ (var 0 ⊗ var 3) ⊗ var 6) refl
-    ∙ λ i. sym (of-mulφ (pos m) (pos a)) i *φ v .x +φ sym (of-mulφ (pos m) (pos b)) i *φ v .y +φ sym (of-mulφ (pos m) (pos c)) i *φ v .z
+    ∙ λ i. sym (of-mulφ (pos m) (pos a)) i *φ v .x +φ sym (of-mulφ (pos m) (pos b)) i *φ v .y +φ sym (of-mulφ (pos m)
+    (pos c)) i *φ v .z
 
 pub role-times : (m a b c k i : ℕ) → times m (roleOf k i a b c) ≡ roleOf k i (m * a) (m * b) (m * c)
 role-times m a b c k i =
@@ -135,15 +140,20 @@ planes-are : (q : ℕ) → q < 2 → (r : ℕ) → r < 2 → (s : ℕ) → s < 2
 unfolding sideAt firstAt secondAt cornerVertex _+φ_ negφ _*φ_
 planes-are q hq r hr s hs k hk i hi =
     ᵛ-same (plane (sideAt (seat q r s k)) i) (signedBy q r s (planeOf k (roleAt (seat q r s k) i)))
-    (sound (below 2 λ q. below 2 λ r. below 2 λ s. below 4 λ k. threes λ i. sameᵛ (plane (sideAt (seat q r s k)) i) (signedBy q r s (planeOf k (roleAt (seat q r s k) i)))) refl q hq r hr s hs k hk i hi)
+    (sound (below 2 λ q. below 2 λ r. below 2 λ s. below 4 λ k. threes λ i. sameᵛ (plane (sideAt (seat q r s k)) i)
+    (signedBy q r s (planeOf k (roleAt (seat q r s k) i)))) refl q hq r hr s hs k hk i hi)
 
 abbrev IsSeat : (j : ℕ) → Type 0
 IsSeat j =
-    (4 ≤ sideAt j) × ((sideAt j < 24) × ((1 ≤ firstAt j) × ((firstAt j ≤ 3) × ((1 ≤ secondAt j) × ((secondAt j ≤ 3) × ((firstAt j ≡ secondAt j → ⊥)))))))
+    (4 ≤ sideAt j) × ((sideAt j < 24) × ((1 ≤ firstAt j) × ((firstAt j ≤ 3) × ((1 ≤ secondAt j) × ((secondAt j ≤ 3)
+    × ((firstAt j ≡ secondAt j → ⊥)))))))
 
 seats-are : (q : ℕ) → q < 2 → (r : ℕ) → r < 2 → (s : ℕ) → s < 2 → (k : ℕ) → k < 4 → IsSeat (seat q r s k)
 unfolding sideAt firstAt secondAt
-seats-are = sound (below 2 λ q. below 2 λ r. below 2 λ s. below 4 λ k. most 4 (sideAt (seat q r s k)) and (less (sideAt (seat q r s k)) 24 and (most 1 (firstAt (seat q r s k)) and (most (firstAt (seat q r s k)) 3 and (most 1 (secondAt (seat q r s k)) and (most (secondAt (seat q r s k)) 3 and no (same (firstAt (seat q r s k)) (secondAt (seat q r s k))))))))) refl
+seats-are = sound (below 2 λ q. below 2 λ r. below 2 λ s. below 4 λ k. most 4 (sideAt (seat q r s k)) and (less
+    (sideAt (seat q r s k)) 24 and (most 1 (firstAt (seat q r s k)) and (most (firstAt (seat q r s k)) 3 and (most 1
+    (secondAt (seat q r s k)) and (most (secondAt (seat q r s k)) 3 and no (same (firstAt (seat q r s k)) (secondAt
+    (seat q r s k))))))))) refl
 
 -- ---- a direction in a seat that its signs allow
 
@@ -175,7 +185,8 @@ module _ (d : Direction) (x y z : ℕ) (hx : x < 2) (hy : y < 2) (hz : z < 2) (k
   pub seat-apart : firstAt here ≡ secondAt here → ⊥
   seat-apart = facts .1 .1 .1 .1 .1 .1
 
-  pub value-role : (i : ℕ) → OneToThree i → value d (sideAt here) i ≡ roleOf k (roleAt here i) (natAbs (d .x)) (natAbs (d .y)) (natAbs (d .z))
+  pub value-role : (i : ℕ) → OneToThree i → value d (sideAt here) i ≡ roleOf k (roleAt here i) (natAbs (d .x))
+      (natAbs (d .y)) (natAbs (d .z))
   value-role i hi =
       let p = planeOf k (roleAt here i) in
       ap (λ (v : Coordinates). dot (along d) v) (planes-are _ sx _ sy _ sz k hk i hi)
@@ -190,4 +201,5 @@ module _ (d : Direction) (x y z : ℕ) (hx : x < 2) (hy : y < 2) (hz : z < 2) (k
       (roleOf k (thirdAt here) (natAbs (d .x)) (natAbs (d .y)) (natAbs (d .z)))
   seat-dets =
       side-dets d (sideAt here) seat-side
-      ∙ λ j. three (value-role 1 (omega arith, omega arith) j) (value-role 2 (omega arith, omega arith) j) (value-role 3 (omega arith, omega arith) j)
+      ∙ λ j. three (value-role 1 (omega arith, omega arith) j) (value-role 2 (omega arith, omega arith) j)
+      (value-role 3 (omega arith, omega arith) j)

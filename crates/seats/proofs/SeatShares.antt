@@ -33,36 +33,59 @@ module _ (p : ℕ) (F : Floors) (G : Gaps) (x y z : Golden) (i : Stands p F G (t
       (gaps (nth j (G .g1) (G .g2) (G .g3)) (nth k (G .g1) (G .g2) (G .g3)) (nth l (G .g1) (G .g2) (G .g3)))
       (three (nth j x y z) (nth k x y z) (nth l x y z))
 
-  share-of : (j : ℕ) → OneToThree j → Share p (nth j (F .f1) (F .f2) (F .f3)) (nth j (G .g1) (G .g2) (G .g3)) (x +φ y +φ z) (nth j x y z)
+  share-of : (j : ℕ) → OneToThree j → Share p (nth j (F .f1) (F .f2) (F .f3)) (nth j (G .g1) (G .g2) (G .g3)) (x +φ y
+      +φ z) (nth j x y z)
   share-of =
-      each-of-three (λ j. Share p (nth j (F .f1) (F .f2) (F .f3)) (nth j (G .g1) (G .g2) (G .g3)) (x +φ y +φ z) (nth j x y z)) (i .s1) (i .s2) (i .s3)
+      each-of-three (λ j. Share p (nth j (F .f1) (F .f2) (F .f3)) (nth j (G .g1) (G .g2) (G .g3)) (x +φ y +φ z) (nth
+      j x y z)) (i .s1) (i .s2) (i .s3)
 
-  in-order : (j k l : ℕ) → OneToThree j → OneToThree k → OneToThree l → x +φ y +φ z ≡ nth j x y z +φ nth k x y z +φ nth l x y z → Ordered j k l
+  in-order : (j k l : ℕ) → OneToThree j → OneToThree k → OneToThree l
+      → x +φ y +φ z ≡ nth j x y z +φ nth k x y z +φ nth l x y z → Ordered j k l
   in-order j k l hj hk hl e = record {
     some = subst NonNeg e (i .some);
     more = subst (λ (s : Golden). NonNeg (negφ s) → ⊥) e (i .more);
-    s1 = subst (λ (s : Golden). Share p (nth j (F .f1) (F .f2) (F .f3)) (nth j (G .g1) (G .g2) (G .g3)) s (nth j x y z)) e (share-of j hj);
-    s2 = subst (λ (s : Golden). Share p (nth k (F .f1) (F .f2) (F .f3)) (nth k (G .g1) (G .g2) (G .g3)) s (nth k x y z)) e (share-of k hk);
-    s3 = subst (λ (s : Golden). Share p (nth l (F .f1) (F .f2) (F .f3)) (nth l (G .g1) (G .g2) (G .g3)) s (nth l x y z)) e (share-of l hl);
+    s1 = subst (λ (s : Golden). Share p (nth j (F .f1) (F .f2) (F .f3)) (nth j (G .g1) (G .g2) (G .g3)) s (nth j x y
+        z)) e (share-of j hj);
+    s2 = subst (λ (s : Golden). Share p (nth k (F .f1) (F .f2) (F .f3)) (nth k (G .g1) (G .g2) (G .g3)) s (nth k x y
+        z)) e (share-of k hk);
+    s3 = subst (λ (s : Golden). Share p (nth l (F .f1) (F .f2) (F .f3)) (nth l (G .g1) (G .g2) (G .g3)) s (nth l x y
+        z)) e (share-of l hl);
   }
 
   -- the three in any order have the same sum
-  sums : (j : ℕ) → OneToThree j → (k : ℕ) → OneToThree k → (j ≡ k → ⊥) → x +φ y +φ z ≡ nth j x y z +φ nth k x y z +φ nth (6 - j - k) x y z
-  sums = each-of-three (λ j. (k : ℕ) → OneToThree k → (j ≡ k → ⊥) → x +φ y +φ z ≡ nth j x y z +φ nth k x y z +φ nth (6 - j - k) x y z)
+  sums : (j : ℕ) → OneToThree j → (k : ℕ) → OneToThree k → (j ≡ k → ⊥)
+      → x +φ y +φ z ≡ nth j x y z +φ nth k x y z +φ nth (6 - j - k) x y z
+  sums = each-of-three (λ j. (k : ℕ) → OneToThree k → (j ≡ k → ⊥)
+      → x +φ y +φ z ≡ nth j x y z +φ nth k x y z +φ nth (6 - j - k) x y z)
       (each-of-three (λ k. (1 ≡ k → ⊥) → x +φ y +φ z ≡ x +φ nth k x y z +φ nth (5 - k) x y z)
-      (λ f. absurd (f refl)) (λ f. refl) (λ f. solve φ-ring (x ∷ y ∷ z ∷ []) (var 0 ⊕ var 1 ⊕ var 2) (var 0 ⊕ var 2 ⊕ var 1) refl))
+      (λ f. absurd (f refl)) (λ f. refl) (λ f. solve φ-ring (x ∷ y ∷ z ∷ []) (var 0 ⊕ var 1 ⊕ var 2) (var 0 ⊕ var 2 ⊕
+      var 1) refl))
       (each-of-three (λ k. (2 ≡ k → ⊥) → x +φ y +φ z ≡ y +φ nth k x y z +φ nth (4 - k) x y z)
-      (λ f. solve φ-ring (x ∷ y ∷ z ∷ []) (var 0 ⊕ var 1 ⊕ var 2) (var 1 ⊕ var 0 ⊕ var 2) refl) (λ f. absurd (f refl)) (λ f. solve φ-ring (x ∷ y ∷ z ∷ []) (var 0 ⊕ var 1 ⊕ var 2) (var 1 ⊕ var 2 ⊕ var 0) refl))
+      (λ f. solve φ-ring (x ∷ y ∷ z ∷ []) (var 0 ⊕ var 1 ⊕ var 2) (var 1 ⊕ var 0 ⊕ var 2) refl) (λ f. absurd (f
+      refl)) (λ f. solve φ-ring (x ∷ y ∷ z ∷ []) (var 0 ⊕ var 1 ⊕ var 2) (var 1 ⊕ var 2 ⊕ var 0) refl))
       (each-of-three (λ k. (3 ≡ k → ⊥) → x +φ y +φ z ≡ z +φ nth k x y z +φ nth (3 - k) x y z)
-      (λ f. solve φ-ring (x ∷ y ∷ z ∷ []) (var 0 ⊕ var 1 ⊕ var 2) (var 2 ⊕ var 0 ⊕ var 1) refl) (λ f. solve φ-ring (x ∷ y ∷ z ∷ []) (var 0 ⊕ var 1 ⊕ var 2) (var 2 ⊕ var 1 ⊕ var 0) refl) (λ f. absurd (f refl)))
+      (λ f. solve φ-ring (x ∷ y ∷ z ∷ []) (var 0 ⊕ var 1 ⊕ var 2) (var 2 ⊕ var 0 ⊕ var 1) refl) (λ f. solve φ-ring (x
+      ∷ y ∷ z ∷ []) (var 0 ⊕ var 1 ⊕ var 2) (var 2 ⊕ var 1 ⊕ var 0) refl) (λ f. absurd (f refl)))
 
   pub ordered : (j : ℕ) → OneToThree j → (k : ℕ) → OneToThree k → (j ≡ k → ⊥) → Ordered j k (6 - j - k)
-  ordered j hj k hk f = in-order j k (6 - j - k) hj hk (omega (arith, hj .0, hj .1, hk .0, hk .1, f), omega (arith, hj .0, hj .1, hk .0, hk .1, f)) (sums j hj k hk f)
+  ordered j hj k hk f = in-order j k (6 - j - k) hj hk (
+    omega (arith, hj .0, hj .1, hk .0, hk .1, f),
+    omega (
+      arith,
+      hj .0,
+      hj .1,
+      hk .0,
+      hk .1,
+      f,
+    ),
+  ) (sums j hj k hk f)
 
 -- ---- in a seat
 
-role-nth : (k a b c j : ℕ) → OneToThree j → nth j (roleOf k 1 a b c) (roleOf k 2 a b c) (roleOf k 3 a b c) ≡ roleOf k j a b c
-role-nth k a b c = each-of-three (λ j. nth j (roleOf k 1 a b c) (roleOf k 2 a b c) (roleOf k 3 a b c) ≡ roleOf k j a b c) refl refl refl
+role-nth : (k a b c j : ℕ) → OneToThree j → nth j (roleOf k 1 a b c) (roleOf k 2 a b c) (roleOf k 3 a b c) ≡ roleOf k
+    j a b c
+role-nth k a b c = each-of-three (λ j. nth j (roleOf k 1 a b c) (roleOf k 2 a b c) (roleOf k 3 a b c) ≡ roleOf k j a
+    b c) refl refl refl
 
 module _ (d : Direction) (x y z : ℕ) (hx : x < 2) (hy : y < 2) (hz : z < 2) (k : ℕ) (hk : k < 4) where
   abbrev here : ℕ
@@ -88,7 +111,8 @@ module _ (d : Direction) (x y z : ℕ) (hx : x < 2) (hy : y < 2) (hz : z < 2) (k
       let e : three (nth (firstAt here) (roleOf k 1 a b c) (roleOf k 2 a b c) (roleOf k 3 a b c))
       (nth (secondAt here) (roleOf k 1 a b c) (roleOf k 2 a b c) (roleOf k 3 a b c))
       (nth (thirdAt here) (roleOf k 1 a b c) (roleOf k 2 a b c) (roleOf k 3 a b c)) ≡ sideDets d (sideAt here) =
-      (λ j. three (role-nth k a b c (firstAt here) h1 j) (role-nth k a b c (secondAt here) h2 j) (role-nth k a b c (thirdAt here) seat-third j))
+      (λ j. three (role-nth k a b c (firstAt here) h1 j) (role-nth k a b c (secondAt here) h2 j) (role-nth k a b c
+      (thirdAt here) seat-third j))
       ∙ sym (seat-dets d x y z hx hy hz k hk) in
       subst (Stands p (floorsAt here F) (gapsAt here G)) e
       (ordered p F G _ _ _ i (firstAt here) h1 (secondAt here) h2 (seat-apart d x y z hx hy hz k hk))

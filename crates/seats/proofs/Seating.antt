@@ -1,4 +1,5 @@
--- A direction in the seat of its signs: numbers near to the roles are near to the determinants of the side. Assumes nothing.
+-- A direction in the seat of its signs: numbers near to the roles are near to the determinants of the side. Assumes
+-- nothing.
 use mathlib.Core.Path.{_≡_, refl, sym, _∙_, ap, subst}
 use Prim.Native.Nat.{ℕ, suc, _+_, _-_, _*_, _≤_, _<_}
 use native.Mathlib.Omega.{arith}
@@ -20,13 +21,19 @@ use Rattle.seats.proofs.SeatPlanes.{role-times, seat-side, seat-first, 
 use Rattle.seats.proofs.SeatShares.{seat-third}
 
 -- three numbers in another order have the same sum
-same-sum : (x y z i : ℕ) → OneToThree i → (j : ℕ) → OneToThree j → (i ≡ j → ⊥) → nth i x y z + nth j x y z + nth (6 - i - j) x y z ≡ x + y + z
-same-sum x y z = each-of-three (λ i. (j : ℕ) → OneToThree j → (i ≡ j → ⊥) → nth i x y z + nth j x y z + nth (6 - i - j) x y z ≡ x + y + z)
-    (each-of-three (λ j. (1 ≡ j → ⊥) → x + nth j x y z + nth (5 - j) x y z ≡ x + y + z) (λ f. absurd (f refl)) (λ f. omega arith) (λ f. omega arith))
-    (each-of-three (λ j. (2 ≡ j → ⊥) → y + nth j x y z + nth (4 - j) x y z ≡ x + y + z) (λ f. omega arith) (λ f. absurd (f refl)) (λ f. omega arith))
-    (each-of-three (λ j. (3 ≡ j → ⊥) → z + nth j x y z + nth (3 - j) x y z ≡ x + y + z) (λ f. omega arith) (λ f. omega arith) (λ f. absurd (f refl)))
+same-sum : (x y z i : ℕ) → OneToThree i → (j : ℕ) → OneToThree j → (i ≡ j → ⊥)
+    → nth i x y z + nth j x y z + nth (6 - i - j) x y z ≡ x + y + z
+same-sum x y z = each-of-three (λ i. (j : ℕ) → OneToThree j → (i ≡ j → ⊥)
+    → nth i x y z + nth j x y z + nth (6 - i - j) x y z ≡ x + y + z)
+    (each-of-three (λ j. (1 ≡ j → ⊥) → x + nth j x y z + nth (5 - j) x y z ≡ x + y + z) (λ f. absurd (f refl)) (λ f.
+    omega arith) (λ f. omega arith))
+    (each-of-three (λ j. (2 ≡ j → ⊥) → y + nth j x y z + nth (4 - j) x y z ≡ x + y + z) (λ f. omega arith) (λ f.
+    absurd (f refl)) (λ f. omega arith))
+    (each-of-three (λ j. (3 ≡ j → ⊥) → z + nth j x y z + nth (3 - j) x y z ≡ x + y + z) (λ f. omega arith) (λ f.
+    omega arith) (λ f. absurd (f refl)))
 
-module _ (d : Direction) (some : IsSome d) (n : Sizes) (s : AreScaled (natAbs (d .x)) (natAbs (d .y)) (natAbs (d .z)) n) (r : Roles) (h : AreRoles (n .a) (n .b) (n .c) r) where
+module _ (d : Direction) (some : IsSome d) (n : Sizes) (s : AreScaled (natAbs (d .x)) (natAbs (d .y)) (natAbs (d .z))
+    n) (r : Roles) (h : AreRoles (n .a) (n .b) (n .c) r) where
   abbrev k : ℕ
   k = r .kind
 
@@ -43,15 +50,19 @@ module _ (d : Direction) (some : IsSome d) (n : Sizes) (s : AreScaled (natAbs (d
   i2 = seat-second d 0 0 0 (omega arith) (omega arith) (omega arith) k (h .kind-small)
 
   sum-is : at (firstAt here) + at (secondAt here) + at (thirdAt here) ≡ r .r1 + r .r2 + r .r3
-  sum-is = same-sum (r .r1) (r .r2) (r .r3) (firstAt here) i1 (secondAt here) i2 (seat-apart d 0 0 0 (omega arith) (omega arith) (omega arith) k (h .kind-small))
+  sum-is = same-sum (r .r1) (r .r2) (r .r3) (firstAt here) i1 (secondAt here) i2 (seat-apart d 0 0 0 (omega arith)
+      (omega arith) (omega arith) k (h .kind-small))
 
-  near-at : (j : ℕ) → OneToThree j → Near 4 (times (suc (s .scale)) (roleOf k j (natAbs (d .x)) (natAbs (d .y)) (natAbs (d .z)))) (at j)
+  near-at : (j : ℕ) → OneToThree j → Near 4 (times (suc (s .scale)) (roleOf k j (natAbs (d .x)) (natAbs (d .y))
+      (natAbs (d .z)))) (at j)
   near-at j hj =
-      subst (λ (x : Golden). Near 4 x (at j)) (sym (role-times (suc (s .scale)) (natAbs (d .x)) (natAbs (d .y)) (natAbs (d .z)) k j
+      subst (λ (x : Golden). Near 4 x (at j)) (sym (role-times (suc (s .scale)) (natAbs (d .x)) (natAbs (d .y))
+      (natAbs (d .z)) k j
       ∙ λ i. roleOf k j (sym (s .a-is) i) (sym (s .b-is) i) (sym (s .c-is) i)))
       (each-of-three (λ j. Near 4 (roleOf k j (n .a) (n .b) (n .c)) (at j)) (h .near1) (h .near2) (h .near3) j hj)
 
-  all-near : AllNear (scaledBy (suc (s .scale)) (sideDets d (sideAt here))) (at (firstAt here)) (at (secondAt here)) (at (thirdAt here))
+  all-near : AllNear (scaledBy (suc (s .scale)) (sideDets d (sideAt here))) (at (firstAt here)) (at (secondAt here))
+      (at (thirdAt here))
   all-near = rw (seat-dets d 0 0 0 (omega arith) (omega arith) (omega arith) k (h .kind-small)) record {
     near1 = near-at (firstAt here) i1;
     near2 = near-at (secondAt here) i2;
@@ -63,12 +74,16 @@ module _ (d : Direction) (some : IsSome d) (n : Sizes) (s : AreScaled (natAbs (d
 
   pub seated : IsSeated d (seatedAt here (r .r1) (r .r2) (r .r3))
   seated =
-      let e : at (thirdAt here) ≡ r .r1 + r .r2 + r .r3 - at (firstAt here) - at (secondAt here) = omega (arith, sum-is) in
+      let e : at (thirdAt here) ≡ r .r1 + r .r2 + r .r3 - at (firstAt here) - at (secondAt here) = omega (
+        arith,
+        sum-is,
+      ) in
       record {
         scale = s .scale;
         side-is = seat-side d 0 0 0 (omega arith) (omega arith) (omega arith) k (h .kind-small);
         fits = omega (arith, sum-is);
-        near = subst (λ (x : ℕ). AllNear (scaledBy (suc (s .scale)) (sideDets d (sideAt here))) (at (firstAt here)) (at (secondAt here)) x) e all-near;
+        near = subst (λ (x : ℕ). AllNear (scaledBy (suc (s .scale)) (sideDets d (sideAt here))) (at (firstAt here))
+            (at (secondAt here)) x) e all-near;
         small = h .small;
         some = omega (arith, roles-large);
       }

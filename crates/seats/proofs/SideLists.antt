@@ -22,7 +22,8 @@ use Rattle.shares.proofs.LeastPath.{not-held}
 none-joined : (m k : ℕ) (f : ℕ → List ℕ) → ((j : ℕ) → k ≤ j → j < k + m → f j ≡ []) → joined m k f ≡ []
 unfolding joined
 none-joined zero k f n = refl
-none-joined (suc m) k f n = rw (n k (omega arith) (omega arith)) (none-joined m (suc k) f (λ j a b. n j (omega arith) (omega arith)))
+none-joined (suc m) k f n = rw (n k (omega arith) (omega arith)) (none-joined m (suc k) f (λ j a b. n j (omega arith)
+    (omega arith)))
 
 -- all are empty before s
 joined-from :
@@ -49,21 +50,29 @@ module _ (d : Direction) (n s : ℕ) (hs : IsSide s) where
   unfolding sideWords
   empty-side t f = ap (each (wordOf t n)) (no-holders n (sideDets d t) 0 (not-held (sideDets d t) f))
 
-  rest-empty : (t : ℕ) → 4 ≤ t → t < 24 → ((u : ℕ) → IsSide u → t < u → SideHolds d u → ⊥) → joined (4 + 20 - suc t) (suc t) (sideWords d n) ≡ []
-  rest-empty t l h f = none-joined (4 + 20 - suc t) (suc t) (sideWords d n) (λ u a b. empty-side u (f u (omega arith, omega arith) (omega arith)))
+  rest-empty : (t : ℕ) → 4 ≤ t → t < 24 → ((u : ℕ) → IsSide u → t < u → SideHolds d u → ⊥)
+      → joined (4 + 20 - suc t) (suc t) (sideWords d n) ≡ []
+  rest-empty t l h f = none-joined (4 + 20 - suc t) (suc t) (sideWords d n) (λ u a b. empty-side u (f u (
+    omega arith,
+    omega arith,
+  ) (omega arith)))
 
   pub one-side : ((u : ℕ) → IsSide u → SideHolds d u → s ≡ u) → allWords d n 4 ≡ sideWords d n s
   unfolding allWords
   one-side only =
-      joined-from 20 4 (sideWords d n) s (hs .0) (omega (arith, hs .1)) (λ u a b. empty-side u (λ h. let e = only u (a, omega (arith, hs .1)) h in omega arith))
-      ∙ ap (λ (x : List ℕ). sideWords d n s ++ x) (rest-empty s (hs .0) (hs .1) (λ u hu l h. let e = only u hu h in omega arith))
+      joined-from 20 4 (sideWords d n) s (hs .0) (omega (arith, hs .1)) (λ u a b. empty-side u (λ h. let e = only u
+      (a, omega (arith, hs .1)) h in omega arith))
+      ∙ ap (λ (x : List ℕ). sideWords d n s ++ x) (rest-empty s (hs .0) (hs .1) (λ u hu l h. let e = only u hu h in
+      omega arith))
       ∙ append-nil (sideWords d n s)
 
   pub both-sides :
-      (t : ℕ) → IsSide t → s < t → ((u : ℕ) → IsSide u → SideHolds d u → (s ≡ u) ⊎ (t ≡ u)) → allWords d n 4 ≡ sideWords d n s ++ sideWords d n t
+      (t : ℕ) → IsSide t → s < t → ((u : ℕ) → IsSide u → SideHolds d u → (s ≡ u) ⊎ (t ≡ u))
+      → allWords d n 4 ≡ sideWords d n s ++ sideWords d n t
   unfolding allWords
   both-sides t ht l only =
-      let no : (u : ℕ) → IsSide u → (s ≡ u → ⊥) → (t ≡ u → ⊥) → SideHolds d u → ⊥ = λ u hu f g h. ⊎-elim f g (only u hu h) in
+      let no : (u : ℕ) → IsSide u → (s ≡ u → ⊥) → (t ≡ u → ⊥) → SideHolds d u
+      → ⊥ = λ u hu f g h. ⊎-elim f g (only u hu h) in
       let q : suc s + (4 + 20 - suc s) - suc t ≡ 4 + 20 - suc t = omega (arith, ht .1) in
       joined-from 20 4 (sideWords d n) s (hs .0) (omega (arith, hs .1))
       (λ u a b. empty-side u (no u (a, omega (arith, hs .1)) (λ e. omega arith) (λ e. omega arith)))
@@ -71,5 +80,6 @@ module _ (d : Direction) (n s : ℕ) (hs : IsSide s) where
       (joined-from (4 + 20 - suc s) (suc s) (sideWords d n) t (omega arith) (omega (arith, ht .1))
       (λ u a b. empty-side u (no u (omega (arith, hs .0), omega (arith, ht .1)) (λ e. omega arith) (λ e. omega arith)))
       ∙ ap (λ (l : ℕ). sideWords d n t ++ joined l (suc t) (sideWords d n)) q
-      ∙ ap (λ (x : List ℕ). sideWords d n t ++ x) (rest-empty t (ht .0) (ht .1) (λ u hu m. no u hu (λ e. omega arith) (λ e. omega arith)))
+      ∙ ap (λ (x : List ℕ). sideWords d n t ++ x) (rest-empty t (ht .0) (ht .1) (λ u hu m. no u hu (λ e. omega arith)
+      (λ e. omega arith)))
       ∙ append-nil (sideWords d n t))

@@ -4,6 +4,9 @@ ghost use mathlib.Core.Bool.{true};
 ghost use Prim.Native.Nat.{_+_, _*_, _<_, _≤_};
 ghost use Rattle.seats.specs.Means.Near.{Away, Divides};
 
+// The margin: more than all errors of near numbers together.
+pub const MARGIN: u64 = 536870912;
+
 // How many parts, and what is left.
 pub struct Quotient {
     pub whole: u64,
@@ -70,10 +73,10 @@ pub fn is_clear(rest: u64, s: u64) -> bool
     requires { ⌜ (rest ≤ s) × (s < 4503599627370496) ⌝ }
     ensures { λ r. ⌜ (r ≡ true → Away s rest) ⌝ }
 {
-    if rest < 536870912 {
+    if rest < MARGIN {
         return false;
     }
-    rest + 536870912 <= s
+    rest + MARGIN <= s
 }
 
 pub fn all_clear(a: u64, b: u64, c: u64, s: u64) -> bool

@@ -1,5 +1,7 @@
-// Where a direction stands, exactly, also on an edge or a corner or next to one: the side by the signs of determinants, and each share by near numbers
+// Where a direction stands, exactly, also on an edge or a corner or next to one: the side by the signs of
+// determinants, and each share by near numbers
 // where these decide it, and by the determinant itself where they do not.
+use crate::dividing::MARGIN;
 use crate::dividing::Quotient;
 use crate::dividing::divide_three;
 use crate::dividing::is_clear;
@@ -113,7 +115,10 @@ fn cut(x: u64, y: u64) -> u64
 }
 
 fn cut_beyond(kind: u64, a: u64, ta: u64, b: u64, tb: u64, c: u64, tc: u64) -> Roles
-    requires { ⌜ (a ≤ 1000000000) × (b ≤ 1000000000) × (c ≤ 1000000000) × NearPhi a ta × NearPhi b tb × NearPhi c tc × (NonNeg (lean a b c) → ⊥) ⌝ }
+    requires { ⌜
+        (a ≤ 1000000000) × (b ≤ 1000000000) × (c ≤ 1000000000) × NearPhi a ta × NearPhi b tb × NearPhi c tc
+        × (NonNeg (lean a b c) → ⊥)
+        ⌝ }
     ensures { λ r. ⌜ (r .kind ≡ kind) × AreBeyond a b c r ⌝ }
 {
     Roles {
@@ -201,13 +206,14 @@ fn part_of(x: Golden, s: Golden, q: Quotient, sum: u64) -> Part
     if is_clear(rest, sum) {
         return Part { floor: f, gap: 1 };
     }
-    if rest < 536870912 {
+    if rest < MARGIN {
         return part_at(x, s, f);
     }
     part_at(x, s, f + 1)
 }
 
-// The octant of the least side that holds a direction: of the two signs that a coordinate 0 may have, the one whose side comes first.
+// The octant of the least side that holds a direction: of the two signs that a coordinate 0 may have, the one whose
+// side comes first.
 fn first_octant(d: Direction) -> u64
     ensures { λ r. ⌜ r ≡ firstX d + 2 * firstY d + 4 * firstZ d ⌝ }
 {

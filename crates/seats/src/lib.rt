@@ -1,4 +1,5 @@
-// The triangles that hold a direction: the quick way, by whole numbers near to its determinants, where it stands clearly inside a triangle of degree 24; and the
+// The triangles that hold a direction: the quick way, by whole numbers near to its determinants, where it stands
+// clearly inside a triangle of degree 24; and the
 // exact way, wherever it stands.
 pub mod dividing;
 pub mod exact;
@@ -130,7 +131,8 @@ fn other_octant(octant: u64, kind: u64) -> u64
     }
 }
 
-// The words of the degree in one side whose triangles hold a direction, in the places from `count` on, and the count after them.
+// The words of the degree in one side whose triangles hold a direction, in the places from `count` on, and the count
+// after them.
 fn list_side(
     degree: u64,
     octant: u64,

@@ -10,7 +10,8 @@ ghost use Rattle.seats.specs.Means.Octants.{signAt, rowOf, sideAt, first
 ghost use Rattle.seats.specs.Means.Roles.{AreScaled, AreBeyond, AreRoles, IsSeated, seatedAt};
 ghost use Rattle.seats.specs.Means.Finding.{IsSome};
 
-// By octant, with five bits for each: the middle side, and those beyond its edges 1, 2 and 3. (A constant array would be written out anew at
+// By octant, with five bits for each: the middle side, and those beyond its edges 1, 2 and 3. (A constant array would
+// be written out anew at
 // each reading.)
 const MIDDLE: u64 = 625433286152;
 
@@ -20,7 +21,8 @@ const BEYOND_2: u64 = 779987180940;
 
 const BEYOND_3: u64 = 492254663300;
 
-// By octant and kind, with two bits for each: which of the three roles stands at the side's corner 1, and at its corner 2.
+// By octant and kind, with two bits for each: which of the three roles stands at the side's corner 1, and at its
+// corner 2.
 const FIRST: u64 = 8753229350460422521;
 
 const SECOND: u64 = 16690016339199190942;
@@ -57,9 +59,13 @@ pub fn size(c: i32) -> u64
     golden::magnitude(c as i64)
 }
 
-// How many times as large sizes are taken that have these bits: the errors of near numbers are then a small part of them.
+// How many times as large sizes are taken that have these bits: the errors of near numbers are then a small part of
+// them.
 fn scale_of(bits: u64) -> u64
-    ensures { λ r. ⌜ (0 < r) × (r ≤ 32768) × ((x : Prim.Native.Nat.ℕ) → x ≤ bits → x ≤ 1000000000 → r * x ≤ 1000000000) × (0 < bits → 32768 ≤ r * bits) ⌝ }
+    ensures { λ r. ⌜
+        (0 < r) × (r ≤ 32768) × ((x : Prim.Native.Nat.ℕ) → x ≤ bits → x ≤ 1000000000 → r * x ≤ 1000000000)
+        × (0 < bits → 32768 ≤ r * bits)
+        ⌝ }
 {
     if bits <= 16383 {
         return 32768;
@@ -131,7 +137,10 @@ pub fn leaning(b: u64, c: u64, tc: u64) -> u64
 
 // Beyond the edge where the number p is below ta.
 fn beyond(kind: u64, a: u64, ta: u64, b: u64, tb: u64, c: u64, tc: u64, p: u64) -> Roles
-    requires { ⌜ (a ≤ 1000000000) × (b ≤ 1000000000) × (c ≤ 1000000000) × NearPhi a ta × NearPhi b tb × NearPhi c tc × (p ≡ 524288 * (b + c) + tc) × (p < ta) ⌝ }
+    requires { ⌜
+        (a ≤ 1000000000) × (b ≤ 1000000000) × (c ≤ 1000000000) × NearPhi a ta × NearPhi b tb × NearPhi c tc
+        × (p ≡ 524288 * (b + c) + tc) × (p < ta)
+        ⌝ }
     ensures { λ r. ⌜ (r .kind ≡ kind) × AreBeyond a b c r ⌝ }
 {
     Roles {

@@ -21,10 +21,12 @@ module _ (h : ℕ) (F : Floors) (G : Gaps) (P : ℕ → Floors → Type 0) where
       (h < F .f1 + G .g1 → P 1 (floors (F .f1 - h) (F .f2) (F .f3)))
       → (F .f1 + G .g1 ≤ h → h < F .f2 + G .g2 → P 2 (floors (F .f1) (F .f2 - h) (F .f3)))
       → (F .f1 + G .g1 ≤ h → F .f2 + G .g2 ≤ h → h < F .f3 + G .g3 → P 3 (floors (F .f1) (F .f2) (F .f3 - h)))
-      → (F .f1 + G .g1 ≤ h → F .f2 + G .g2 ≤ h → F .f3 + G .g3 ≤ h → P 0 (floors (h - (F .f1 + G .g1)) (h - (F .f2 + G .g2)) (h - (F .f3 + G .g3))))
+      → (F .f1 + G .g1 ≤ h → F .f2 + G .g2 ≤ h → F .f3 + G .g3 ≤ h
+      → P 0 (floors (h - (F .f1 + G .g1)) (h - (F .f2 + G .g2)) (h - (F .f3 + G .g3))))
       → P (leastDigit h F G) (inChild h (leastDigit h F G) F G)
   unfolding leastDigit inChild
-  choose one two three none = go (leb (suc h) (F .f1 + G .g1)) (leb (suc h) (F .f2 + G .g2)) (leb (suc h) (F .f3 + G .g3)) refl refl refl
+  choose one two three none = go (leb (suc h) (F .f1 + G .g1)) (leb (suc h) (F .f2 + G .g2)) (leb (suc h) (F .f3 + G
+      .g3)) refl refl refl
     where
       go :
           (p q r : Bool)
@@ -46,4 +48,5 @@ pub choose-strict :
     → (F .f1 < h → F .f2 < h → F .f3 < h → P 0 (floors (h - (F .f1 + 1)) (h - (F .f2 + 1)) (h - (F .f3 + 1))))
     → P (leastDigit h F strict) (inChild h (leastDigit h F strict) F strict)
 choose-strict h F P one two three none =
-    choose h F strict P (λ a. one (omega arith)) (λ a b. two (omega arith) (omega arith)) (λ a b c. three (omega arith) (omega arith) (omega arith)) (λ a b c. none (omega arith) (omega arith) (omega arith))
+    choose h F strict P (λ a. one (omega arith)) (λ a b. two (omega arith) (omega arith)) (λ a b c. three (omega
+    arith) (omega arith) (omega arith)) (λ a b c. none (omega arith) (omega arith) (omega arith))

@@ -1,4 +1,5 @@
--- The refusals, the one word where the quick way is clear, and otherwise the least word of the exact way (FilingCalls). Assumes nothing.
+-- The refusals, the one word where the quick way is clear, and otherwise the least word of the exact way
+-- (FilingCalls). Assumes nothing.
 use borrow.Author.Needs.{needs}
 use mathlib.Core.Path.{_≡_, sym, _∙_}
 use Rattle.corners.proofs.Calls.{refusing}
@@ -34,4 +35,5 @@ returns-3 : tie.Need-returns-3
 returns-3 c = filed-answer _ _ _ (passes (c .before .before)) (c .before .quick-word .ensures (c .if2 .left) .filed)
 
 pub file-spec : {M : Type 1} → statement M
-file-spec = tie.close (tie.spec refuse-direction-requires returns quick-word-requires exact-word-requires returns-2 returns-3)
+file-spec = tie.close (tie.spec refuse-direction-requires returns quick-word-requires exact-word-requires returns-2
+    returns-3)

@@ -1,4 +1,5 @@
--- The refusals in turn, the one word where the quick way is clear, and otherwise the exact way (FilingCalls). Assumes nothing.
+-- The refusals in turn, the one word where the quick way is clear, and otherwise the exact way (FilingCalls). Assumes
+-- nothing.
 use borrow.Author.Needs.{needs}
 use mathlib.Core.Path.{_≡_, sym, _∙_}
 use native.Mathlib.Omega.{arith}
@@ -15,14 +16,17 @@ refuse-direction-requires : tie.Need-refuse-direction-requires
 refuse-direction-requires c κs = search needs
 
 returns : tie.Need-returns
-returns c = let a = c .before .before .before .args in refusing-lent (list-first (a .degree) (a .d) (now (a .out)) (c .before .refuse-direction .ensures) (c .if1 .taken)) (c .if1 .taken)
+returns c = let a = c .before .before .before .args in
+    refusing-lent (list-first (a .degree) (a .d) (now (a .out)) (c .before .refuse-direction .ensures) (c .if1
+    .taken)) (c .if1 .taken)
 
 -- the degree and the direction pass
 passes : (c : tie.Else1) → refuseFile (c .before .before .before .args .degree) (c .before .before .before .args .d) ≡ 0
 passes c = sym (c .before .refuse-direction .ensures) ∙ c .if1 .left
 
 returns-2 : tie.Need-returns-2
-returns-2 c = let a = c .before .before .before .before .args in refusing-lent (list-nine (a .degree) (a .d) (now (a .out)) (passes (c .before)) (c .if2 .taken)) (λ e. omega arith)
+returns-2 c = let a = c .before .before .before .before .args in
+    refusing-lent (list-nine (a .degree) (a .d) (now (a .out)) (passes (c .before)) (c .if2 .taken)) (λ e. omega arith)
 
 quick-word-requires : tie.Need-quick-word-requires
 quick-word-requires c κs = let a = allowed _ _ (passes (c .before)) in (a .low, a .level, a .some)
@@ -37,8 +41,13 @@ returns-3 : tie.Need-returns-3
 returns-3 c =
     let a = c .before .before .before .before .before .before .args in
     let e = c .before .quick-word .ensures (c .if3 .taken) .alone in
-    listed-answer (a .degree) (a .d) (now (a .out)) 1 _ (passes (c .before .before .before)) (c .before .before .if2 .left)
-    (puts-one 0 (c .before .quick-word .result) _ (now (a .out)) e (rw e (omega (arith, c .before .before .if2 .left))) .1)
+    listed-answer (a .degree) (a .d) (now (a .out)) 1 _ (passes (c .before .before .before)) (c .before .before .if2
+    .left)
+    (puts-one 0 (c .before .quick-word .result) _ (now (a .out)) e (rw e (omega (
+      arith,
+      c .before .before .if2
+          .left,
+    ))) .1)
 
 list-exactly-requires : tie.Need-list-exactly-requires
 list-exactly-requires c κs =
@@ -54,7 +63,9 @@ returns-4 : tie.Need-returns-4
 returns-4 c =
     let l = c .before .before in
     let a = c .before .before .before .before .before .before .before .before .before .before .args in
-    listed-answer (a .degree) (a .d) (now (a .out)) (l .list-exactly .result) _ (passes (c .before .before .before .before .before .before .before)) (c .before .before .before .before .before .before .if2 .left) (l .list-exactly .ensures)
+    listed-answer (a .degree) (a .d) (now (a .out)) (l .list-exactly .result) _ (passes (c .before .before .before
+    .before .before .before .before)) (c .before .before .before .before .before .before .if2 .left) (l
+    .list-exactly .ensures)
 
 pub list-spec : {M : Type 1} → statement M
 list-spec =

@@ -1,4 +1,5 @@
--- The descent from where the direction stands, in the order of the side's corners, and its word (ExactWords). Assumes nothing.
+-- The descent from where the direction stands, in the order of the side's corners, and its word (ExactWords). Assumes
+-- nothing.
 use borrow.Author.Needs.{needs}
 use mathlib.Core.Path.{_≡_, _∙_, ap}
 use Prim.Native.Nat.{ℕ, _+_, _*_, _-_}
@@ -7,7 +8,8 @@ use lib.Pow.{pow-pos}
 use Rattle.words.specs.Words.{wordOf}
 use Rattle.shares.specs.Means.Paths.{leastPath}
 use Rattle.seats.specs.Means.Roles.{floorsAt, gapsAt}
-use Rattle.seats.proofs.ExactWords.{octant-below, here-below, here-is, here-ordered, corner-floors, corner-gaps, exact-low, exact-filed}
+use Rattle.seats.proofs.ExactWords.{octant-below, here-below, here-is, here-ordered, corner-floors}
+use Rattle.seats.proofs.ExactWords.{corner-gaps, exact-low, exact-filed}
 use Rattle.seats.proofs.exact_word.Statement.{statement}
 use Rattle.seats.proofs.exact_word.Tie as tie
 
@@ -27,15 +29,21 @@ add-k c =
 floors-at-requires : tie.Need-floors-at-requires
 floors-at-requires c κs =
     let s = c .before in
-    let h = c .stand-of .ensures in
-    (here-below (s .args .d) (s .pre .2) (c .stand-of .result) h, here-ordered (s .args .d) (s .pre .2) (c .stand-of .result) h)
+    let h = c .stand-of .ensures in (
+      here-below (s .args .d) (s .pre .2) (c .stand-of .result) h,
+      here-ordered (s .args .d) (s .pre .2) (c .stand-of
+          .result) h,
+    )
 
 gaps-at-requires : tie.Need-gaps-at-requires
 gaps-at-requires c κs =
     let t = c .before in
     let s = t .before in
-    let h = t .stand-of .ensures in
-    (here-below (s .args .d) (s .pre .2) (t .stand-of .result) h, here-ordered (s .args .d) (s .pre .2) (t .stand-of .result) h)
+    let h = t .stand-of .ensures in (
+      here-below (s .args .d) (s .pre .2) (t .stand-of .result) h,
+      here-ordered (s .args .d) (s .pre .2) (t .stand-of
+          .result) h,
+    )
 
 descend-requires : tie.Need-descend-requires
 descend-requires c κs =
@@ -49,15 +57,20 @@ descend-requires c κs =
 side-at-requires : tie.Need-side-at-requires
 side-at-requires c κs =
     let t = c .before .before .before in
-    let s = t .before in
-    (octant-below (s .args .d) (s .pre .2) (t .stand-of .result) (t .stand-of .ensures), t .stand-of .ensures .kind-small)
+    let s = t .before in (
+      octant-below (s .args .d) (s .pre .2) (t .stand-of .result) (t .stand-of .ensures),
+      t .stand-of .ensures
+          .kind-small,
+    )
 
 path-is :
     (c : tie.After-descend)
     → c .descend .result
     ≡ leastPath (c .before .before .before .before .args .degree) 16777216
-    (floorsAt (4 * c .before .before .before .stand-of .result .octant + c .before .before .before .stand-of .result .kind) (c .before .before .before .stand-of .result .floors))
-    (gapsAt (4 * c .before .before .before .stand-of .result .octant + c .before .before .before .stand-of .result .kind) (c .before .before .before .stand-of .result .gaps)) 0
+    (floorsAt (4 * c .before .before .before .stand-of .result .octant + c .before .before .before .stand-of .result
+    .kind) (c .before .before .before .stand-of .result .floors))
+    (gapsAt (4 * c .before .before .before .stand-of .result .octant + c .before .before .before .stand-of .result
+    .kind) (c .before .before .before .stand-of .result .gaps)) 0
 path-is c = rw (c .before .before .floors-at .ensures, c .before .gaps-at .ensures) at (c .descend .ensures)
 
 word-of-requires : tie.Need-word-of-requires
@@ -65,9 +78,14 @@ word-of-requires c κs =
     let d = c .before in
     let t = d .before .before .before in
     let s = t .before in (
-      rw (c .side-at .ensures) (omega (arith, here-is (s .args .d) (s .pre .2) (t .stand-of .result) (t .stand-of .ensures) .1)),
+      rw (c .side-at .ensures) (omega (
+        arith,
+        here-is (s .args .d) (s .pre .2) (t .stand-of .result) (t .stand-of
+            .ensures) .1,
+      )),
       s .pre .0,
-      exact-low (s .args .d) (s .pre .2) (t .stand-of .result) (t .stand-of .ensures) (s .args .degree) (d .descend .result) (s .pre .0) (path-is d),
+      exact-low (s .args .d) (s .pre .2) (t .stand-of .result) (t .stand-of .ensures) (s .args .degree) (d .descend
+          .result) (s .pre .0) (path-is d),
     )
 
 returns : tie.Need-returns
@@ -76,7 +94,8 @@ returns c =
     let d = a .before in
     let t = d .before .before .before in
     let s = t .before in
-    exact-filed (s .args .d) (s .pre .2) (t .stand-of .result) (t .stand-of .ensures) (s .args .degree) (d .descend .result) (s .pre .0) (path-is d) (c .word-of .result)
+    exact-filed (s .args .d) (s .pre .2) (t .stand-of .result) (t .stand-of .ensures) (s .args .degree) (d .descend
+    .result) (s .pre .0) (path-is d) (c .word-of .result)
     (c .word-of .ensures ∙ ap (λ (z : ℕ). wordOf z (s .args .degree) (d .descend .result)) (a .side-at .ensures))
 
 pub exact-word-spec : {M : Type 1} → statement M

@@ -28,8 +28,10 @@ returns-2 c =
     λ f.
     let v = c .before .before in
     let t = v .before in
-    found-in (t .before .args .d) (t .sit .result) (v .divide-three .result) (t .sit .ensures) (v .divide-three .ensures .0)
+    found-in (t .before .args .d) (t .sit .result) (v .divide-three .result) (t .sit .ensures) (v .divide-three
+    .ensures .0)
     (v .divide-three .ensures .1) (c .before .all-clear .ensures (not-false _ (c .if1 .left)))
 
 pub find-spec : {M : Type 1} → statement M
-find-spec = tie.close (tie.spec sit-requires divide-three-requires all-clear-requires nowhere-requires returns returns-2)
+find-spec = tie.close (tie.spec sit-requires divide-three-requires all-clear-requires nowhere-requires returns
+    returns-2)

@@ -29,7 +29,14 @@ returns : tie.Need-returns
 returns c =
     let j = c .before .before .before in
     let i = j .before in
-    rw (c .of-three3 .ensures, c .before .of-three2 .ensures, c .before .before .of-three .ensures, i .first-at .ensures, j .second-at .ensures) refl
+    rw (
+      c .of-three3 .ensures,
+      c .before .of-three2 .ensures,
+      c .before .before .of-three .ensures,
+      i .first-at
+          .ensures,
+      j .second-at .ensures,
+    ) refl
 
 pub gaps-at-spec : {M : Type 1} → statement M
 gaps-at-spec =

@@ -1,11 +1,14 @@
--- The words of the least side, and where the direction lies on its edge those of the other (ExactWords). Assumes nothing.
+-- The words of the least side, and where the direction lies on its edge those of the other (ExactWords). Assumes
+-- nothing.
 use borrow.Author.Needs.{needs}
 use mathlib.Core.Path.{_≡_}
 use Prim.Native.Nat.{_+_}
 use native.Mathlib.Omega.{arith}
 use denote.Ref.{now}
 use Rattle.filing.proofs.HolderLists.{room-rest, puts-both}
-use Rattle.seats.proofs.ExactWords.{octant-below, here-is, here-ordered, here-at, role-floors, role-gaps, there-below, there-is, there-ordered, there-at, all-here, all-both, room-here}
+use Rattle.seats.proofs.ExactWords.{octant-below, here-is, here-ordered, here-at, role-floors, role-gaps}
+use Rattle.seats.proofs.ExactWords.{there-below, there-is, there-ordered, there-at, all-here, all-both}
+use Rattle.seats.proofs.ExactWords.{room-here}
 use Rattle.seats.proofs.list_exactly.Statement.{statement}
 use Rattle.seats.proofs.list_exactly.Tie as tie
 
@@ -19,8 +22,19 @@ list-side-requires c κs =
     let d = s .args .d in
     let some = s .pre .2 in
     let r = t .stand-of .result in
-    let h = t .stand-of .ensures in
-    (s .pre .0, octant-below d some r h, h .kind-small, here-is d some r h .1, here-ordered d some r h, (_, here-at d some r h), room-here d some r h (s .args .degree) (now (s .args .out)) (s .pre .0) (s .pre .3))
+    let h = t .stand-of .ensures in (
+      s .pre .0,
+      octant-below d some r h,
+      h .kind-small,
+      here-is d some r h .1,
+      here-ordered d some r h,
+      (
+        _,
+        here-at d
+            some r h,
+      ),
+      room-here d some r h (s .args .degree) (now (s .args .out)) (s .pre .0) (s .pre .3),
+    )
 
 add-if1 : tie.Need-add-if1
 add-if1 c =
@@ -28,7 +42,14 @@ add-if1 c =
     let s = t .before .before in
     let r = t .stand-of .result in
     let h = t .stand-of .ensures in
-    record { fits = omega (arith, role-floors (s .args .d) (s .pre .2) r h .2, role-gaps (s .args .d) (s .pre .2) r h .2) }
+    record {
+      fits = omega (
+        arith,
+        role-floors (s .args .d) (s .pre .2) r h .2,
+        role-gaps (s .args .d) (s .pre .2) r h
+            .2,
+      );
+    }
 
 other-octant-requires : tie.Need-other-octant-requires
 other-octant-requires c κs = search needs
@@ -51,7 +72,8 @@ list-side-requires-2 c κs =
       there-is d some r h z .1,
       there-ordered d some r h z,
       (_, there-at d some r h z),
-      room-rest 0 _ _ _ (now (s .args .out)) (all-both d some r h z (s .args .degree) (s .pre .0)) (s .pre .3) (l .list-side .ensures),
+      room-rest 0 _ _ _ (now (s .args .out)) (all-both d some r h z (s .args .degree) (s .pre .0)) (s .pre .3) (l
+          .list-side .ensures),
     )
 
 same-length : tie.Need-same-length
@@ -69,7 +91,8 @@ returns c =
     let some = s .pre .2 in
     let r = t .stand-of .result in
     let h = t .stand-of .ensures in
-    puts-both 0 _ _ _ (now (s .args .out)) (all-both d some r h (e .if1 .taken) (s .args .degree) (s .pre .0)) (s .pre .3) (l .list-side .ensures)
+    puts-both 0 _ _ _ (now (s .args .out)) (all-both d some r h (e .if1 .taken) (s .args .degree) (s .pre .0)) (s
+    .pre .3) (l .list-side .ensures)
     (rw (o .other-octant .ensures) at (q .list-side2 .ensures))
 
 same-length-2 : tie.Need-same-length-2
@@ -80,7 +103,8 @@ returns-2 c =
     let l = c .before .before .before .before .before in
     let t = l .before .before .before .before in
     let s = t .before .before in
-    rw (all-here (s .args .d) (s .pre .2) (t .stand-of .result) (t .stand-of .ensures) (s .args .degree) (s .pre .0) (c .if1 .left)) (l .list-side .ensures)
+    rw (all-here (s .args .d) (s .pre .2) (t .stand-of .result) (t .stand-of .ensures) (s .args .degree) (s .pre .0)
+    (c .if1 .left)) (l .list-side .ensures)
 
 pub list-exactly-spec : {M : Type 1} → statement M
 list-exactly-spec =

@@ -25,8 +25,15 @@ list-in-requires : tie.Need-list-in-requires
 list-in-requires c κs =
     let p = c .before .before .before .before .before .pre in
     let i = p .5 .1 in
-    rw (c .before .before .before .side-at .ensures, c .before .before .floors-at .ensures, c .before .gaps-at .ensures)
-    (p .3, p .0, stands-floors 16777216 _ _ _ i (omega arith), stands-gaps 16777216 _ _ _ i, fair-stands 16777216 _ _ _ i, p .6)
+    rw (c .before .before .before .side-at .ensures, c .before .before .floors-at .ensures, c .before .gaps-at .ensures) (
+      p .3,
+      p .0,
+      stands-floors 16777216 _ _ _ i (omega arith),
+      stands-gaps 16777216 _ _ _ i,
+      fair-stands 16777216 _ _
+          _ i,
+      p .6,
+    )
 
 same-length : tie.Need-same-length
 same-length c = search needs
@@ -40,4 +47,5 @@ returns c =
 
 pub list-side-spec : {M : Type 1} → statement M
 list-side-spec =
-    tie.close (tie.spec mul-k add-k side-at-requires floors-at-requires gaps-at-requires list-in-requires same-length returns)
+    tie.close (tie.spec mul-k add-k side-at-requires floors-at-requires gaps-at-requires list-in-requires same-length
+    returns)

@@ -31,7 +31,8 @@ returns-2 c =
     λ f.
     let e = c .before .before in
     let s = e .before .before in
-    found-word (s .args .d) (s .pre .2) (e .before .find .result) (found e) (s .args .degree) (c .before .path .result) (c .word-of .result) (s .pre .0) (c .before .path .ensures)
+    found-word (s .args .d) (s .pre .2) (e .before .find .result) (found e) (s .args .degree) (c .before .path
+    .result) (c .word-of .result) (s .pre .0) (c .before .path .ensures)
     (c .word-of .ensures)
 
 pub quick-word-spec : {M : Type 1} → statement M

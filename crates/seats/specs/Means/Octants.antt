@@ -1,4 +1,5 @@
--- The sides by the signs and sizes of a direction's coordinates, and its determinants there. What the code is proved by, and no promise. Assumes nothing.
+-- The sides by the signs and sizes of a direction's coordinates, and its determinants there. What the code is proved
+-- by, and no promise. Assumes nothing.
 use Prim.Native.Nat.{ℕ, zero, suc, _+_, _-_, _*_}
 use mathlib.Core.List.{List, [], _∷_}
 use lib.ListN.{getD}
@@ -63,7 +64,8 @@ firstY d = signAt (d .y) (1 - firstX d)
 abbrev pub firstZ : Direction → ℕ
 firstZ d = signAt (d .z) (firstY d)
 
--- where the direction lies on the edge between two sides: the octant of the other, which has the other sign for the coordinate 0
+-- where the direction lies on the edge between two sides: the octant of the other, which has the other sign for the
+-- coordinate 0
 abbrev pub otherOctant : (octant kind : ℕ) → ℕ
 otherOctant o zero = bitXor o 1
 otherOctant o (suc zero) = bitXor o 2
@@ -74,15 +76,18 @@ otherOctant o (suc (suc (suc k))) = bitXor o 1
 
 abbrev pub sideList : List ℕ
 sideList =
-    8 ∷ 9 ∷ 12 ∷ 4 ∷ 16 ∷ 17 ∷ 12 ∷ 20 ∷ 5 ∷ 7 ∷ 23 ∷ 4 ∷ 21 ∷ 19 ∷ 23 ∷ 20 ∷ 11 ∷ 9 ∷ 13 ∷ 10 ∷ 15 ∷ 17 ∷ 13 ∷ 14 ∷ 6 ∷ 7 ∷ 22 ∷ 10 ∷ 18 ∷ 19 ∷ 22 ∷ 14 ∷ []
+    8 ∷ 9 ∷ 12 ∷ 4 ∷ 16 ∷ 17 ∷ 12 ∷ 20 ∷ 5 ∷ 7 ∷ 23 ∷ 4 ∷ 21 ∷ 19 ∷ 23 ∷ 20 ∷ 11 ∷ 9 ∷ 13 ∷ 10 ∷ 15 ∷ 17 ∷ 13 ∷ 14 ∷
+    6 ∷ 7 ∷ 22 ∷ 10 ∷ 18 ∷ 19 ∷ 22 ∷ 14 ∷ []
 
 abbrev pub firstList : List ℕ
 firstList =
-    1 ∷ 2 ∷ 3 ∷ 1 ∷ 1 ∷ 2 ∷ 3 ∷ 1 ∷ 3 ∷ 1 ∷ 3 ∷ 2 ∷ 3 ∷ 1 ∷ 3 ∷ 2 ∷ 3 ∷ 1 ∷ 3 ∷ 2 ∷ 3 ∷ 1 ∷ 3 ∷ 2 ∷ 1 ∷ 2 ∷ 3 ∷ 1 ∷ 1 ∷ 2 ∷ 3 ∷ 1 ∷ []
+    1 ∷ 2 ∷ 3 ∷ 1 ∷ 1 ∷ 2 ∷ 3 ∷ 1 ∷ 3 ∷ 1 ∷ 3 ∷ 2 ∷ 3 ∷ 1 ∷ 3 ∷ 2 ∷ 3 ∷ 1 ∷ 3 ∷ 2 ∷ 3 ∷ 1 ∷ 3 ∷ 2 ∷ 1 ∷ 2 ∷ 3 ∷ 1 ∷ 1
+    ∷ 2 ∷ 3 ∷ 1 ∷ []
 
 abbrev pub secondList : List ℕ
 secondList =
-    2 ∷ 3 ∷ 1 ∷ 2 ∷ 3 ∷ 1 ∷ 2 ∷ 3 ∷ 2 ∷ 3 ∷ 2 ∷ 1 ∷ 1 ∷ 2 ∷ 1 ∷ 3 ∷ 2 ∷ 3 ∷ 2 ∷ 1 ∷ 1 ∷ 2 ∷ 1 ∷ 3 ∷ 2 ∷ 3 ∷ 1 ∷ 2 ∷ 3 ∷ 1 ∷ 2 ∷ 3 ∷ []
+    2 ∷ 3 ∷ 1 ∷ 2 ∷ 3 ∷ 1 ∷ 2 ∷ 3 ∷ 2 ∷ 3 ∷ 2 ∷ 1 ∷ 1 ∷ 2 ∷ 1 ∷ 3 ∷ 2 ∷ 3 ∷ 2 ∷ 1 ∷ 1 ∷ 2 ∷ 1 ∷ 3 ∷ 2 ∷ 3 ∷ 1 ∷ 2 ∷ 3
+    ∷ 1 ∷ 2 ∷ 3 ∷ []
 
 unfoldable pub sideAt : ℕ → ℕ
 sideAt k = getD sideList k 0

@@ -1,4 +1,5 @@
--- Numbers near to the determinants of a side, role by role. What the code is proved by, and no promise. Assumes nothing.
+-- Numbers near to the determinants of a side, role by role. What the code is proved by, and no promise. Assumes
+-- nothing.
 use mathlib.Core.Path.{_≡_}
 use Prim.Native.Nat.{ℕ, suc, _+_, _-_, _*_, _≤_, _<_}
 use mathlib.Core.List.{List}
@@ -24,7 +25,8 @@ use Rattle.seats.specs.declared.placing.Sizes.{Sizes}
 use Rattle.seats.specs.Means.Near.{Near, AllNear, Division}
 use Rattle.seats.specs.Means.Octants.{lean, outer, double, roleOf, sideAt, firstAt, secondAt, thirdAt}
 
--- a direction's sizes, all of them some times as large: the determinants are then that many times as large, and their shares in the sum the same
+-- a direction's sizes, all of them some times as large: the determinants are then that many times as large, and their
+-- shares in the sum the same
 pub record AreScaled (a b c : ℕ) (n : Sizes) : Type 0 where
   pub scale : ℕ
   pub a-is : n .a ≡ suc scale * a
@@ -100,10 +102,12 @@ abbrev pub seatedAt : (k r1 r2 r3 : ℕ) → Seated
 seatedAt k x y z = record { side = sideAt k; x1 = nth (firstAt k) x y z; x2 = nth (secondAt k) x y z; sum = x + y + z }
 
 abbrev pub floorsAt : (k : ℕ) → Floors → Floors
-floorsAt k F = floors (nth (firstAt k) (F .f1) (F .f2) (F .f3)) (nth (secondAt k) (F .f1) (F .f2) (F .f3)) (nth (thirdAt k) (F .f1) (F .f2) (F .f3))
+floorsAt k F = floors (nth (firstAt k) (F .f1) (F .f2) (F .f3)) (nth (secondAt k) (F .f1) (F .f2) (F .f3)) (nth
+    (thirdAt k) (F .f1) (F .f2) (F .f3))
 
 abbrev pub gapsAt : (k : ℕ) → Gaps → Gaps
-gapsAt k G = gaps (nth (firstAt k) (G .g1) (G .g2) (G .g3)) (nth (secondAt k) (G .g1) (G .g2) (G .g3)) (nth (thirdAt k) (G .g1) (G .g2) (G .g3))
+gapsAt k G = gaps (nth (firstAt k) (G .g1) (G .g2) (G .g3)) (nth (secondAt k) (G .g1) (G .g2) (G .g3)) (nth (thirdAt
+    k) (G .g1) (G .g2) (G .g3))
 
 -- the words of degree n, in the side of a seat, that floors and gaps in the order of the roles come to
 abbrev pub seatWords : (n k : ℕ) → Floors → Gaps → List ℕ

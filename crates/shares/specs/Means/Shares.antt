@@ -1,4 +1,5 @@
--- Where a direction stands in a triangle: each determinant as a share of their sum, in whole parts. What the code is proved by, and no promise.
+-- Where a direction stands in a triangle: each determinant as a share of their sum, in whole parts. What the code is
+-- proved by, and no promise.
 -- Assumes nothing.
 use Prim.Native.Nat.{ℕ, suc}
 use mathlib.Core.Path.{_≡_}

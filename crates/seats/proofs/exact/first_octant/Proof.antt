@@ -1,4 +1,5 @@
--- The octant by the three signs, each read back from its field, and the sign of 0 chosen by the sign before it. Assumes nothing.
+-- The octant by the three signs, each read back from its field, and the sign of 0 chosen by the sign before it.
+-- Assumes nothing.
 use borrow.Author.Needs.{needs}
 use mathlib.Core.Path.{_≡_, ap, _∙_}
 use Prim.Native.Nat.{ℕ, _+_, _-_, _*_}
@@ -28,20 +29,30 @@ octant-of-requires c κs = search needs
 x-sign : (c : tie.After-sign-of) → c .sign-of .result ≡ firstX (c .before .before .args .d)
 x-sign c =
     c .sign-of .ensures .0
-    ∙ ap (λ (z : ℤ). signAt z 0) (toZ-ofZ w32 (c .before .before .args .d .x) (record { sfits = c .before .struct-told .given .0 .1 }))
+    ∙ ap (λ (z : ℤ). signAt z 0) (toZ-ofZ w32 (c .before .before .args .d .x) (record {
+      sfits = c .before
+          .struct-told .given .0 .1;
+    }))
 
 y-sign : (c : tie.After-sign-of2) → c .sign-of2 .result ≡ firstY (c .before .before .before .before .args .d)
 y-sign c =
     c .sign-of2 .ensures .0
     ∙ ap (λ (z : ℤ). signAt z (1 - c .before .before .sign-of .result))
-    (toZ-ofZ w32 (c .before .before .before .before .args .d .y) (record { sfits = c .before .struct-told2 .given .1 .0 .1 }))
+    (toZ-ofZ w32 (c .before .before .before .before .args .d .y) (record {
+      sfits = c .before .struct-told2 .given .1
+          .0 .1;
+    }))
     ∙ ap (λ (x : ℕ). signAt (c .before .before .before .before .args .d .y) (1 - x)) (x-sign (c .before .before))
 
-z-sign : (c : tie.After-sign-of3) → c .sign-of3 .result ≡ firstZ (c .before .before .before .before .before .before .args .d)
+z-sign : (c : tie.After-sign-of3) → c .sign-of3 .result ≡ firstZ (c .before .before .before .before .before .before
+    .args .d)
 z-sign c =
     c .sign-of3 .ensures .0
     ∙ ap (λ (z : ℤ). signAt z (c .before .before .sign-of2 .result))
-    (toZ-ofZ w32 (c .before .before .before .before .before .before .args .d .z) (record { sfits = c .before .struct-told3 .given .1 .1 .0 .1 }))
+    (toZ-ofZ w32 (c .before .before .before .before .before .before .args .d .z) (record {
+      sfits = c .before
+          .struct-told3 .given .1 .1 .0 .1;
+    }))
     ∙ ap (signAt (c .before .before .before .before .before .before .args .d .z)) (y-sign (c .before .before))
 
 returns : tie.Need-returns

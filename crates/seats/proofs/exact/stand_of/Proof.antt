@@ -30,8 +30,15 @@ times-phi-requires-3 c κs = c .before .before .sizes-of .ensures .c-small
 
 by-signs-requires : tie.Need-by-signs-requires
 by-signs-requires c κs =
-    let s = c .before .before .before .sizes-of .ensures in
-    (s .a-small, s .b-small, s .c-small, c .before .before .times-phi .ensures, c .before .times-phi2 .ensures, c .times-phi3 .ensures)
+    let s = c .before .before .before .sizes-of .ensures in (
+      s .a-small,
+      s .b-small,
+      s .c-small,
+      c .before .before .times-phi .ensures,
+      c .before .times-phi2 .ensures,
+      c
+          .times-phi3 .ensures,
+    )
 
 add-divide-three : tie.Need-add-divide-three
 add-divide-three c = let r = c .before .by-signs .ensures .roles in record { fits = omega (arith, r .small) }
@@ -43,7 +50,8 @@ divide-three-requires : tie.Need-divide-three-requires
 divide-three-requires c κs =
     let b = c .before .before in
     let s = b .before .before .before .before in
-    let l = roles-large (s .before .args .d) (s .before .pre .1) (s .sizes-of .result) (s .sizes-of .ensures) (b .by-signs .result) (b .by-signs .ensures .roles) in
+    let l = roles-large (s .before .args .d) (s .before .pre .1) (s .sizes-of .result) (s .sizes-of .ensures) (b
+    .by-signs .result) (b .by-signs .ensures .roles) in
     (omega arith, omega (arith, l), b .by-signs .ensures .roles .small)
 
 determinants-of-requires : tie.Need-determinants-of-requires
@@ -58,7 +66,8 @@ small c =
     let b = c .before .before .before .before in
     let s = b .before .before .before .before .sizes-of in
     rw (c .determinants-of .ensures)
-    (roles-small (b .by-signs .result .kind) (s .result .a) (s .result .b) (s .result .c) (s .ensures .a-small) (s .ensures .b-small) (s .ensures .c-small))
+    (roles-small (b .by-signs .result .kind) (s .result .a) (s .result .b) (s .result .c) (s .ensures .a-small) (s
+    .ensures .b-small) (s .ensures .c-small))
 
 plus-requires : tie.Need-plus-requires
 plus-requires c κs = let w = small-wide _ (small c) in (w .0, w .1)
@@ -67,15 +76,19 @@ plus-requires-2 : tie.Need-plus-requires-2
 plus-requires-2 c κs = (two-wide _ (small (c .before)) _ (c .plus .ensures), small-wide _ (small (c .before)) .2)
 
 sum-is : (c : tie.After-plus2) → c .plus2 .result ≡ total (c .before .before .determinants-of .result)
-sum-is c = c .plus2 .ensures ∙ ap (λ (x : Golden). x +φ c .before .before .determinants-of .result .d3) (c .before .plus .ensures)
+sum-is c = c .plus2 .ensures ∙ ap (λ (x : Golden). x +φ c .before .before .determinants-of .result .d3) (c .before
+    .plus .ensures)
 
 -- ---- the shares
 
 measured :
     (c : tie.After-plus2)
-    → Measured (c .before .before .determinants-of .result .d1) (c .plus2 .result) (c .before .before .before .divide-three .result .q1) (c .before .before .before .divide-three .result .sum)
-    × Measured (c .before .before .determinants-of .result .d2) (c .plus2 .result) (c .before .before .before .divide-three .result .q2) (c .before .before .before .divide-three .result .sum)
-    × Measured (c .before .before .determinants-of .result .d3) (c .plus2 .result) (c .before .before .before .divide-three .result .q3) (c .before .before .before .divide-three .result .sum)
+    → Measured (c .before .before .determinants-of .result .d1) (c .plus2 .result) (c .before .before .before
+    .divide-three .result .q1) (c .before .before .before .divide-three .result .sum)
+    × Measured (c .before .before .determinants-of .result .d2) (c .plus2 .result) (c .before .before .before
+    .divide-three .result .q2) (c .before .before .before .divide-three .result .sum)
+    × Measured (c .before .before .determinants-of .result .d3) (c .plus2 .result) (c .before .before .before
+    .divide-three .result .q3) (c .before .before .before .divide-three .result .sum)
 measured c =
     let t = c .before .before in
     let v = t .before in
@@ -84,19 +97,30 @@ measured c =
     let d = s .before .args .d in
     let some = s .before .pre .1 in
     let q = v .divide-three .result in
-    let m1 = measured-1 d some (s .sizes-of .result) (s .sizes-of .ensures) (b .by-signs .result) (b .by-signs .ensures) q (v .divide-three .ensures .0) (v .divide-three .ensures .1) in
-    let m2 = measured-2 d some (s .sizes-of .result) (s .sizes-of .ensures) (b .by-signs .result) (b .by-signs .ensures) q (v .divide-three .ensures .0) (v .divide-three .ensures .1) in
-    let m3 = measured-3 d some (s .sizes-of .result) (s .sizes-of .ensures) (b .by-signs .result) (b .by-signs .ensures) q (v .divide-three .ensures .0) (v .divide-three .ensures .1) in
+    let m1 = measured-1 d some (s .sizes-of .result) (s .sizes-of .ensures) (b .by-signs .result) (b .by-signs
+    .ensures) q (v .divide-three .ensures .0) (v .divide-three .ensures .1) in
+    let m2 = measured-2 d some (s .sizes-of .result) (s .sizes-of .ensures) (b .by-signs .result) (b .by-signs
+    .ensures) q (v .divide-three .ensures .0) (v .divide-three .ensures .1) in
+    let m3 = measured-3 d some (s .sizes-of .result) (s .sizes-of .ensures) (b .by-signs .result) (b .by-signs
+    .ensures) q (v .divide-three .ensures .0) (v .divide-three .ensures .1) in
     rw (sum-is c, t .determinants-of .ensures) (m1, m2, m3)
 
 part-of-requires : tie.Need-part-of-requires
 part-of-requires c κs = (small-bound _ (small (c .before .before)) _ (sum-is c) .b1, measured c .0)
 
 part-of-requires-2 : tie.Need-part-of-requires-2
-part-of-requires-2 c κs = (small-bound _ (small (c .before .before .before)) _ (sum-is (c .before)) .b2, measured (c .before) .1)
+part-of-requires-2 c κs = (
+  small-bound _ (small (c .before .before .before)) _ (sum-is (c .before)) .b2,
+  measured (c
+      .before) .1,
+)
 
 part-of-requires-3 : tie.Need-part-of-requires-3
-part-of-requires-3 c κs = (small-bound _ (small (c .before .before .before .before)) _ (sum-is (c .before .before)) .b3, measured (c .before .before) .2)
+part-of-requires-3 c κs = (
+  small-bound _ (small (c .before .before .before .before)) _ (sum-is (c .before .before))
+      .b3,
+  measured (c .before .before) .2,
+)
 
 first-octant-requires : tie.Need-first-octant-requires
 first-octant-requires c κs = search needs
@@ -116,9 +140,11 @@ returns c =
     record {
       octant-is = c .first-octant .ensures;
       kind-small = b .by-signs .ensures .roles .kind-small;
-      stands = stands-exactly (s .before .args .d) (s .before .pre .1) (s .sizes-of .result) (s .sizes-of .ensures) (b .by-signs .result) (b .by-signs .ensures)
+      stands = stands-exactly (s .before .args .d) (s .before .pre .1) (s .sizes-of .result) (s .sizes-of .ensures)
+          (b .by-signs .result) (b .by-signs .ensures)
           (v .divide-three .result) (v .divide-three .ensures .0) (v .divide-three .ensures .1) _ _ _ _ _ _
-          (rw (e, f) at (p1 .part-of .ensures)) (rw (e, f) at (p2 .part-of2 .ensures)) (rw (e, f) at (p3 .part-of3 .ensures));
+          (rw (e, f) at (p1 .part-of .ensures)) (rw (e, f) at (p2 .part-of2 .ensures)) (rw (e, f) at (p3 .part-of3
+          .ensures));
     }
 
 pub stand-of-spec : {M : Type 1} → statement M

@@ -24,18 +24,28 @@ octant-of-requires c κs = search needs
 x-sign : (c : tie.After-sign-of) → c .sign-of .result ≡ signAt (c .before .before .args .d .x) 0
 x-sign c =
     c .sign-of .ensures .0
-    ∙ ap (λ (z : ℤ). signAt z 0) (toZ-ofZ w32 (c .before .before .args .d .x) (record { sfits = c .before .struct-told .given .0 .1 }))
+    ∙ ap (λ (z : ℤ). signAt z 0) (toZ-ofZ w32 (c .before .before .args .d .x) (record {
+      sfits = c .before
+          .struct-told .given .0 .1;
+    }))
 
 y-sign : (c : tie.After-sign-of2) → c .sign-of2 .result ≡ signAt (c .before .before .before .before .args .d .y) 0
 y-sign c =
     c .sign-of2 .ensures .0
-    ∙ ap (λ (z : ℤ). signAt z 0) (toZ-ofZ w32 (c .before .before .before .before .args .d .y) (record { sfits = c .before .struct-told2 .given .1 .0 .1 }))
+    ∙ ap (λ (z : ℤ). signAt z 0) (toZ-ofZ w32 (c .before .before .before .before .args .d .y) (record {
+      sfits = c
+          .before .struct-told2 .given .1 .0 .1;
+    }))
 
-z-sign : (c : tie.After-sign-of3) → c .sign-of3 .result ≡ signAt (c .before .before .before .before .before .before .args .d .z) 0
+z-sign : (c : tie.After-sign-of3) → c .sign-of3 .result ≡ signAt (c .before .before .before .before .before .before
+    .args .d .z) 0
 z-sign c =
     c .sign-of3 .ensures .0
     ∙ ap (λ (z : ℤ). signAt z 0)
-    (toZ-ofZ w32 (c .before .before .before .before .before .before .args .d .z) (record { sfits = c .before .struct-told3 .given .1 .1 .0 .1 }))
+    (toZ-ofZ w32 (c .before .before .before .before .before .before .args .d .z) (record {
+      sfits = c .before
+          .struct-told3 .given .1 .1 .0 .1;
+    }))
 
 returns : tie.Need-returns
 returns c =
@@ -45,4 +55,5 @@ returns c =
     (c .octant-of .ensures .0 ∙ (λ i. x-sign x i + 2 * y-sign y i + 4 * z-sign z i), c .octant-of .ensures .1)
 
 pub plain-octant-spec : {M : Type 1} → statement M
-plain-octant-spec = tie.close (tie.spec sign-of-requires sign-of-requires-2 sign-of-requires-3 octant-of-requires returns)
+plain-octant-spec = tie.close (tie.spec sign-of-requires sign-of-requires-2 sign-of-requires-3 octant-of-requires
+    returns)

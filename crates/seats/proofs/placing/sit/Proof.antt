@@ -23,7 +23,8 @@ returns c =
     let b = o .before in
     let s = b .before in
     rw (c .in-order .ensures, o .plain-octant .ensures .0)
-    (seated (s .before .args .d) (s .before .pre .1) (s .sizes-of .result) (s .sizes-of .ensures) (b .by-sizes .result) (b .by-sizes .ensures))
+    (seated (s .before .args .d) (s .before .pre .1) (s .sizes-of .result) (s .sizes-of .ensures) (b .by-sizes
+    .result) (b .by-sizes .ensures))
 
 pub sit-spec : {M : Type 1} → statement M
 sit-spec = tie.close (tie.spec sizes-of-requires by-sizes-requires plain-octant-requires in-order-requires returns)

@@ -61,7 +61,7 @@ def check_edits():
         wrong.append(f"PROMISES.md has no row for the must-fail edit {edit}")
 
 
-for name in ("README.md", "docs/PROMISES.md", "docs/DECISIONS.md", "docs/ARCHITECTURE.md"):
+for name in ("README.md", "docs/PROMISES.md", "docs/DECISIONS.md", "docs/ARCHITECTURE.md", "docs/FILING.md"):
     check_doc(name)
 check_edits()
 for line in wrong:

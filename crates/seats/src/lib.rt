@@ -20,7 +20,7 @@ ghost use Rattle.filing.specs.Filing.{IsFiled};
 ghost use Rattle.filing.specs.Means.Lists.{Room, Puts, allWords};
 ghost use Rattle.filing.specs.Means.Sides.{IsLevel};
 ghost use Rattle.seats.specs.Means.Octants.{otherOctant, sideAt, firstAt, secondAt};
-ghost use Rattle.seats.specs.Means.Roles.{floorsAt, gapsAt, seatWords};
+ghost use Rattle.seats.specs.Means.Roles.{tripleAt, floorsAt, gapsAt, seatWords};
 ghost use Rattle.seats.specs.Means.Finding.{IsSome, AreShares, FoundIn, OneWord};
 
 // The side that holds a direction, and the floors there; or the side 0.
@@ -78,30 +78,24 @@ pub fn quick_word(degree: u64, d: Direction) -> u64
 
 // ---- the exact way
 
-// Floors in the order of the corners of a seat's side; and gaps.
-fn floors_at(k: u64, f: Floors) -> Floors
-    requires { ⌜ (k < 32) × (firstAt k + secondAt k ≤ 6) ⌝ }
-    ensures { λ r. ⌜ r ≡ floorsAt k f ⌝ }
-{
-    let i = first_at(k);
-    let j = second_at(k);
-    Floors {
-        f1: of_three(i, f.f1, f.f2, f.f3),
-        f2: of_three(j, f.f1, f.f2, f.f3),
-        f3: of_three(6 - i - j, f.f1, f.f2, f.f3),
-    }
+// Three numbers, one for each corner of a side.
+pub struct Triple {
+    pub c1: u64,
+    pub c2: u64,
+    pub c3: u64,
 }
 
-fn gaps_at(k: u64, g: Gaps) -> Gaps
+// Those of the three roles, in the order of the corners of a seat's side.
+fn at_corners(k: u64, x: u64, y: u64, z: u64) -> Triple
     requires { ⌜ (k < 32) × (firstAt k + secondAt k ≤ 6) ⌝ }
-    ensures { λ r. ⌜ r ≡ gapsAt k g ⌝ }
+    ensures { λ r. ⌜ r ≡ tripleAt k x y z ⌝ }
 {
     let i = first_at(k);
     let j = second_at(k);
-    Gaps {
-        g1: of_three(i, g.g1, g.g2, g.g3),
-        g2: of_three(j, g.g1, g.g2, g.g3),
-        g3: of_three(6 - i - j, g.g1, g.g2, g.g3),
+    Triple {
+        c1: of_three(i, x, y, z),
+        c2: of_three(j, x, y, z),
+        c3: of_three(6 - i - j, x, y, z),
     }
 }
 
@@ -114,9 +108,11 @@ pub fn exact_word(degree: u64, d: Direction) -> u64
     let octant = t.octant;
     let kind = t.kind;
     let k = 4 * octant + kind;
-    let f = floors_at(k, t.floors);
-    let g = gaps_at(k, t.gaps);
-    let path = shares::descent::descend(degree, 16777216, f.f1, f.f2, f.f3, g.g1, g.g2, g.g3, 0);
+    let floors = t.floors;
+    let gaps = t.gaps;
+    let f = at_corners(k, floors.f1, floors.f2, floors.f3);
+    let g = at_corners(k, gaps.g1, gaps.g2, gaps.g3);
+    let path = shares::descent::descend(degree, 16777216, f.c1, f.c2, f.c3, g.c1, g.c2, g.c3, 0);
     words::word_of(side_at(octant, kind), degree, path)
 }
 
@@ -154,14 +150,19 @@ fn list_side(
     ensures { λ r. ⌜ Puts count (seatWords degree (4 * octant + kind) f g) (now (out .entry)) r (now (out .exit)) ⌝ }
 {
     let k = 4 * octant + kind;
-    shares::walks::list_in(
-        side_at(octant, kind),
-        degree,
-        floors_at(k, f),
-        gaps_at(k, g),
-        count,
-        out,
-    )
+    let a = at_corners(k, f.f1, f.f2, f.f3);
+    let b = at_corners(k, g.g1, g.g2, g.g3);
+    let floors = Floors {
+        f1: a.c1,
+        f2: a.c2,
+        f3: a.c3,
+    };
+    let gaps = Gaps {
+        g1: b.c1,
+        g2: b.c2,
+        g3: b.c3,
+    };
+    shares::walks::list_in(side_at(octant, kind), degree, floors, gaps, count, out)
 }
 
 // All words of the degree whose triangles hold a direction, rising.

@@ -10,15 +10,12 @@ use Rattle.shares.specs.Means.WalkWords.{floorAt}
 
 module _ (k : ℕ) (F : Floors) where
   pub floor-1 : k ≡ 1 → F .f1 ≡ floorAt k F
-  unfolding floorAt
   floor-1 e = rw e refl
 
   pub floor-2 : k ≡ 2 → F .f2 ≡ floorAt k F
-  unfolding floorAt
   floor-2 e = rw e refl
 
   pub floor-3 : k ≡ 3 → F .f3 ≡ floorAt k F
-  unfolding floorAt
   floor-3 e = rw e refl
 
 module _ (h k : ℕ) (F : Floors) (G : Gaps) where

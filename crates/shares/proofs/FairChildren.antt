@@ -14,7 +14,7 @@ Few G = (G .g1 ≤ 1) × (G .g2 ≤ 1) × (G .g3 ≤ 1)
 -- an edge has 2h parts, and one of the child h
 module _ (h : ℕ) (F : Floors) (G : Gaps) (i : Fair (h + h) F G) where
   pub fair-corner : (k : ℕ) → 1 ≤ k → h ≤ floorAt k F → Fair h (inChild h k F G) G
-  unfolding inChild floorAt
+  unfolding inChild
   fair-corner zero l a = absurd (omega arith)
   fair-corner (suc zero) l a = record { most = omega (arith, i .most); least = omega (arith, i .least) }
   fair-corner (suc (suc zero)) l a = record { most = omega (arith, i .most); least = omega (arith, i .least) }

@@ -11,5 +11,6 @@ pub mod CornerFloors
 pub mod FairShares
 pub mod FairChildren
 pub mod SinglePaths
+pub mod CornerPaths
 pub mod WalkLists
 pub mod WalkSteps

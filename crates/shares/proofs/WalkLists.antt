@@ -72,7 +72,6 @@ module _ (w : Walk) (F : Floors) (v : ℕ) where
       ∙ (λ i. walkWords w n h (sym e i) (4 * v + k) ++ besideWords w n h F v (k + 1))
 
   none-beside : (n h : ℕ) → (F .f1 < h) × (F .f2 < h) × (F .f3 < h) → besideWords w n h F v 1 ≡ []
-  unfolding floorAt
   none-beside n h l =
       corner-passed n h 1 (omega arith) (λ e. absurd (omega arith)) (l .0)
       ∙ corner-passed n h 2 (omega arith) (λ e. absurd (omega arith)) (l .1)
@@ -118,7 +117,7 @@ module _ (w : Walk) (F : Floors) (v : ℕ) where
       ++ cond (leb h (F .f3)) (child-paths n h 3) []
 
   of-corners : (n h : ℕ) → each word (corners n h) ≡ besideWords w n h F v 1
-  unfolding besideWords cornerWords walkWords floorAt joined
+  unfolding besideWords cornerWords walkWords joined
   of-corners n h =
       let a = cond (leb h (F .f1)) (child-paths n h 1) [] in
       let b = cond (leb h (F .f2)) (child-paths n h 2) [] in

@@ -3,8 +3,9 @@
 // more there is one.
 use crate::Floors;
 use crate::Gaps;
-use crate::descent::descend;
+use crate::descent::descend_straight;
 use crate::descent::least_child;
+use net::seams::of_three;
 ghost use mathlib.Core.Bool.{true, false};
 ghost use mathlib.Core.Path.{_≡_};
 ghost use Prim.Native.Nat.{suc, _+_, _≤_, _<_};
@@ -71,18 +72,6 @@ fn alone(digit: u64, h: u64, f1: u64, f2: u64, f3: u64) -> bool
     f3 < h
 }
 
-// The floor at the corner k.
-fn floor_at(k: u64, f1: u64, f2: u64, f3: u64) -> u64
-    requires { ⌜ (1 ≤ k) × (k ≤ 3) ⌝ }
-    ensures { λ r. ⌜ r ≡ floorAt k (floors f1 f2 f3) ⌝ }
-{
-    match k {
-        1 => f1,
-        2 => f2,
-        _ => f3,
-    }
-}
-
 // The floors in the child at the corner k, where its share is half; they do not depend on the gaps.
 fn in_corner(h: u64, k: u64, f1: u64, f2: u64, f3: u64) -> Floors
     requires { ⌜ (1 ≤ k) × (k ≤ 3) × (h ≤ floorAt k (floors f1 f2 f3)) ⌝ }
@@ -116,7 +105,7 @@ fn list_below(
         return count + 1;
     }
     if is_single(p, f1, f2, f3, w.g1, w.g2, w.g3) {
-        let u = descend(n, p, f1, f2, f3, w.g1, w.g2, w.g3, v);
+        let u = descend_straight(n, p, f1, f2, f3, w.g1, w.g2, w.g3, v);
         out[count] = words::word_of(w.side, w.degree, u);
         return count + 1;
     }
@@ -174,7 +163,7 @@ fn list_beside(
     if k == 4 {
         return count;
     }
-    if floor_at(k, f1, f2, f3) < h {
+    if of_three(k, f1, f2, f3) < h {
         return list_beside(w, n, h, f1, f2, f3, v, k + 1, count, out);
     }
     let c = in_corner(h, k, f1, f2, f3);

@@ -7,6 +7,7 @@ use native.Mathlib.Omega.{arith}
 use lib.Pow.{pow-pos}
 use Rattle.words.specs.Words.{wordOf}
 use Rattle.shares.specs.Means.Paths.{leastPath}
+use Rattle.seats.specs.declared.exact.Stand.{Stand}
 use Rattle.seats.specs.Means.Roles.{floorsAt, gapsAt}
 use Rattle.seats.proofs.ExactWords.{octant-below, here-below, here-is, here-ordered, corner-floors}
 use Rattle.seats.proofs.ExactWords.{corner-gaps, exact-low, exact-filed}
@@ -18,84 +19,81 @@ stand-of-requires c κs = search needs
 
 mul-k : tie.Need-mul-k
 mul-k c =
-    let h = c .stand-of .ensures in
-    record { fits = omega (arith, octant-below (c .before .args .d) (c .before .pre .2) (c .stand-of .result) h) }
+    let s = c .before in
+    record { fits = omega (arith, octant-below (s .args .d) (s .pre .2) (c .stand-of .result) (c .stand-of .ensures)) }
 
 add-k : tie.Need-add-k
 add-k c =
-    let h = c .stand-of .ensures in
-    record { fits = omega (arith, here-below (c .before .args .d) (c .before .pre .2) (c .stand-of .result) h) }
-
-floors-at-requires : tie.Need-floors-at-requires
-floors-at-requires c κs =
     let s = c .before in
-    let h = c .stand-of .ensures in (
-      here-below (s .args .d) (s .pre .2) (c .stand-of .result) h,
-      here-ordered (s .args .d) (s .pre .2) (c .stand-of
-          .result) h,
-    )
+    record { fits = omega (arith, here-below (s .args .d) (s .pre .2) (c .stand-of .result) (c .stand-of .ensures)) }
 
-gaps-at-requires : tie.Need-gaps-at-requires
-gaps-at-requires c κs =
-    let t = c .before in
+at-corners-requires : tie.Need-at-corners-requires
+at-corners-requires c κs =
+    let t = c .before .before in
     let s = t .before in
     let h = t .stand-of .ensures in (
       here-below (s .args .d) (s .pre .2) (t .stand-of .result) h,
-      here-ordered (s .args .d) (s .pre .2) (t .stand-of
-          .result) h,
+      here-ordered (s .args .d) (s .pre .2) (t .stand-of .result) h,
+    )
+
+at-corners-requires-2 : tie.Need-at-corners-requires-2
+at-corners-requires-2 c κs =
+    let t = c .before .before .before in
+    let s = t .before in
+    let h = t .stand-of .ensures in (
+      here-below (s .args .d) (s .pre .2) (t .stand-of .result) h,
+      here-ordered (s .args .d) (s .pre .2) (t .stand-of .result) h,
     )
 
 descend-requires : tie.Need-descend-requires
 descend-requires c κs =
-    let t = c .before .before in
+    let t = c .before .before .before .before in
     let s = t .before in
     let f = corner-floors (s .args .d) (s .pre .2) (t .stand-of .result) (t .stand-of .ensures) in
     let g = corner-gaps (s .args .d) (s .pre .2) (t .stand-of .result) (t .stand-of .ensures) in
-    rw (c .before .floors-at .ensures, c .gaps-at .ensures)
+    rw (c .before .at-corners .ensures, c .at-corners2 .ensures)
     (s .pre .0, omega arith, f .0, f .1, f .2, g .0, g .1, g .2, pow-pos (2 * (24 - s .args .degree)))
 
 side-at-requires : tie.Need-side-at-requires
 side-at-requires c κs =
-    let t = c .before .before .before in
+    let t = c .before .before .before .before .before in
     let s = t .before in (
       octant-below (s .args .d) (s .pre .2) (t .stand-of .result) (t .stand-of .ensures),
-      t .stand-of .ensures
-          .kind-small,
+      t .stand-of .ensures .kind-small,
     )
+
+-- the path that the floors and gaps come to
+abbrev PathOf : (n : ℕ) → Stand → ℕ
+PathOf n t =
+    leastPath n 16777216 (floorsAt (4 * t .octant + t .kind) (t .floors)) (gapsAt (4 * t .octant + t .kind) (t .gaps)) 0
 
 path-is :
     (c : tie.After-descend)
     → c .descend .result
-    ≡ leastPath (c .before .before .before .before .args .degree) 16777216
-    (floorsAt (4 * c .before .before .before .stand-of .result .octant + c .before .before .before .stand-of .result
-    .kind) (c .before .before .before .stand-of .result .floors))
-    (gapsAt (4 * c .before .before .before .stand-of .result .octant + c .before .before .before .stand-of .result
-    .kind) (c .before .before .before .stand-of .result .gaps)) 0
-path-is c = rw (c .before .before .floors-at .ensures, c .before .gaps-at .ensures) at (c .descend .ensures)
+    ≡ PathOf (c .before .before .before .before .before .before .args .degree) (c .before .before .before .before
+    .before .stand-of .result)
+path-is c = rw (c .before .before .at-corners .ensures, c .before .at-corners2 .ensures) at (c .descend .ensures)
 
 word-of-requires : tie.Need-word-of-requires
 word-of-requires c κs =
     let d = c .before in
-    let t = d .before .before .before in
-    let s = t .before in (
-      rw (c .side-at .ensures) (omega (
-        arith,
-        here-is (s .args .d) (s .pre .2) (t .stand-of .result) (t .stand-of
-            .ensures) .1,
-      )),
+    let t = d .before .before .before .before .before in
+    let s = t .before in
+    let r = t .stand-of .result in
+    let h = t .stand-of .ensures in (
+      rw (c .side-at .ensures) (omega (arith, here-is (s .args .d) (s .pre .2) r h .1)),
       s .pre .0,
-      exact-low (s .args .d) (s .pre .2) (t .stand-of .result) (t .stand-of .ensures) (s .args .degree) (d .descend
-          .result) (s .pre .0) (path-is d),
+      exact-low (s .args .d) (s .pre .2) r h (s .args .degree) (d .descend .result) (s .pre .0) (path-is d),
     )
 
 returns : tie.Need-returns
 returns c =
     let a = c .before in
     let d = a .before in
-    let t = d .before .before .before in
+    let t = d .before .before .before .before .before in
     let s = t .before in
-    exact-filed (s .args .d) (s .pre .2) (t .stand-of .result) (t .stand-of .ensures) (s .args .degree) (d .descend
-    .result) (s .pre .0) (path-is d) (c .word-of .result)
+    exact-filed (s .args .d) (s .pre .2) (t .stand-of .result) (t .stand-of .ensures) (s .args .degree)
+    (d .descend .result) (s .pre .0) (path-is d) (c .word-of .result)
     (c .word-of .ensures ∙ ap (λ (z : ℕ). wordOf z (s .args .degree) (d .descend .result)) (a .side-at .ensures))
 
 pub exact-word-spec : {M : Type 1} → statement M
@@ -105,8 +103,8 @@ exact-word-spec =
     stand-of-requires
     mul-k
     add-k
-    floors-at-requires
-    gaps-at-requires
+    at-corners-requires
+    at-corners-requires-2
     descend-requires
     side-at-requires
     word-of-requires

@@ -19,6 +19,7 @@ use Rattle.shares.specs.Means.Paths.{paths}
 use Rattle.shares.specs.declared.Floors.{Floors}
 use Rattle.shares.specs.declared.Gaps.{Gaps}
 use Rattle.seats.specs.declared.dividing.Quotient.{Quotient}
+use Rattle.seats.specs.declared.Triple.{Triple}
 use Rattle.seats.specs.declared.placing.Roles.{Roles}
 use Rattle.seats.specs.declared.placing.Seated.{Seated}
 use Rattle.seats.specs.declared.placing.Sizes.{Sizes}
@@ -101,13 +102,14 @@ pub record Bound (b : ℕ) (s : Golden) (D : Determinants) : Type 0 where
 abbrev pub seatedAt : (k r1 r2 r3 : ℕ) → Seated
 seatedAt k x y z = record { side = sideAt k; x1 = nth (firstAt k) x y z; x2 = nth (secondAt k) x y z; sum = x + y + z }
 
+abbrev pub tripleAt : (k x y z : ℕ) → Triple
+tripleAt k x y z = record { c1 = nth (firstAt k) x y z; c2 = nth (secondAt k) x y z; c3 = nth (thirdAt k) x y z }
+
 abbrev pub floorsAt : (k : ℕ) → Floors → Floors
-floorsAt k F = floors (nth (firstAt k) (F .f1) (F .f2) (F .f3)) (nth (secondAt k) (F .f1) (F .f2) (F .f3)) (nth
-    (thirdAt k) (F .f1) (F .f2) (F .f3))
+floorsAt k F = let t = tripleAt k (F .f1) (F .f2) (F .f3) in floors (t .c1) (t .c2) (t .c3)
 
 abbrev pub gapsAt : (k : ℕ) → Gaps → Gaps
-gapsAt k G = gaps (nth (firstAt k) (G .g1) (G .g2) (G .g3)) (nth (secondAt k) (G .g1) (G .g2) (G .g3)) (nth (thirdAt
-    k) (G .g1) (G .g2) (G .g3))
+gapsAt k G = let t = tripleAt k (G .g1) (G .g2) (G .g3) in gaps (t .c1) (t .c2) (t .c3)
 
 -- the words of degree n, in the side of a seat, that floors and gaps in the order of the roles come to
 abbrev pub seatWords : (n k : ℕ) → Floors → Gaps → List ℕ

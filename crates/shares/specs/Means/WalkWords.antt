@@ -1,12 +1,13 @@
 -- The words that a walk through a side lists, and where the walk stands. What the code is proved by, and no promise.
 -- Assumes nothing.
-use Prim.Native.Nat.{ℕ, zero, suc, _+_, _-_, _*_, _^_, _≤_, _<_}
+use Prim.Native.Nat.{ℕ, _+_, _-_, _*_, _^_, _≤_, _<_}
 use mathlib.Core.Path.{_≡_}
 use mathlib.Core.Bool.{cond}
 use mathlib.Core.List.{List, []}
 use lib.Dec.{leb}
 use Rattle.words.specs.Words.{wordOf}
 use Rattle.net.specs.Division.{each}
+use Rattle.net.specs.Sides.{nth}
 use Rattle.filing.specs.Means.Lists.{joined}
 use Rattle.shares.specs.declared.Floors.{Floors}
 use Rattle.shares.specs.declared.Gaps.{Gaps}
@@ -15,11 +16,8 @@ use Rattle.shares.specs.Means.Shares.{gaps}
 use Rattle.shares.specs.Means.Paths.{inChild, paths}
 
 -- the floor at the corner k
-unfoldable pub floorAt : (k : ℕ) → Floors → ℕ
-floorAt zero F = 0
-floorAt (suc zero) F = F .f1
-floorAt (suc (suc zero)) F = F .f2
-floorAt (suc (suc (suc k))) F = F .f3
+abbrev pub floorAt : (k : ℕ) → Floors → ℕ
+floorAt k F = nth k (F .f1) (F .f2) (F .f3)
 
 abbrev pub gapsOf : Walk → Gaps
 gapsOf w = gaps (w .g1) (w .g2) (w .g3)

@@ -39,11 +39,11 @@ use Rattle.shares.proofs.walks.+list_below+list_beside.Lts-list_below a
 use Rattle.shares.proofs.walks.list_beside.Reads as list-beside
 use Rattle.shares.proofs.walks.list_beside.Kinds as list-beside-kinds
 use Rattle.shares.proofs.walks.+list_below+list_beside.Lts-list_beside as list-beside-lts
-use Rattle.shares.proofs.descent.descend.Reads as descend-reads
+use Rattle.shares.proofs.descent.descend_straight.Reads as descend-straight-reads
 use Rattle.shares.proofs.descent.least_child.Reads as least-child-reads
 use Rattle.shares.proofs.walks.is_single.Reads as is-single-reads
 use Rattle.shares.proofs.walks.alone.Reads as alone-reads
-use Rattle.shares.proofs.walks.floor_at.Reads as floor-at-reads
+use Rattle.net.proofs.seams.of_three.Reads as of-three-reads
 use Rattle.shares.proofs.walks.in_corner.Reads as in-corner-reads
 use Rattle.words.proofs.word_of.Reads as word-of-reads
 use Rattle.shares.proofs.walks.+list_below+list_beside.{statement}
@@ -77,8 +77,8 @@ below-calls t = (
   word-of-reads.Learnt,
   is-single-reads.Asked,
   is-single-reads.Learnt,
-  descend-reads.Asked,
-  descend-reads.Learnt,
+  descend-straight-reads.Asked,
+  descend-straight-reads.Learnt,
   least-child-reads.Asked,
   least-child-reads.Learnt,
   alone-reads.Asked,
@@ -91,8 +91,8 @@ below-calls t = (
 
 abbrev beside-calls : ℕ → list-beside-lts.Claims
 beside-calls t = (
-  floor-at-reads.Asked,
-  floor-at-reads.Learnt,
+  of-three-reads.Asked,
+  of-three-reads.Learnt,
   list-beside-below t,
   list-beside.Post,
   in-corner-reads.Asked,
@@ -146,16 +146,14 @@ list-below-is-single-requires :
     (t : ℕ) → list-below-lts.Need-is-single-requires (below-calls t) (list-below-at t) list-below.Post
 list-below-is-single-requires t c κs = tt
 
-list-below-descend-requires :
-    (t : ℕ) → list-below-lts.Need-descend-requires (below-calls t) (list-below-at t) list-below.Post
-list-below-descend-requires t c κs =
+list-below-descend-straight-requires :
+    (t : ℕ) → list-below-lts.Need-descend-straight-requires (below-calls t) (list-below-at t) list-below.Post
+list-below-descend-straight-requires t c κs =
     let s = c .before .before .before .before in
     let a = s .args in
     let i = s .pre .1 .0 in
     let l = walk-path (a .w) (a .n) (a .p) (floors (a .f1) (a .f2) (a .f3)) (a .v) i in
-    let f = i .shares in
-    let g = i .few in
-    (omega (arith, i .above, i .low), i .most, f .0, f .1, f .2, g .0, g .1, g .2, l)
+    (omega (arith, i .above, i .low), i .most, i .shares, i .few, l, (i .rest, i .parts), i .fair)
 
 list-below-word-of-requires-2 :
     (t : ℕ) → list-below-lts.Need-word-of-requires-2 (below-calls t) (list-below-at t) list-below.Post
@@ -163,7 +161,7 @@ list-below-word-of-requires-2 t c κs =
     let s = c .before .before .before .before .before in
     let a = s .args in
     let F = floors (a .f1) (a .f2) (a .f3) in
-    walk-least (a .w) (a .n) (a .p) F (a .v) (s .pre .1 .0) (c .descend .result) (c .descend .ensures)
+    walk-least (a .w) (a .n) (a .p) F (a .v) (s .pre .1 .0) (c .descend-straight .result) (c .descend-straight .ensures)
 
 list-below-mul-out-2 : (t : ℕ) → list-below-lts.Need-mul-out-2 (below-calls t) (list-below-at t) list-below.Post
 list-below-mul-out-2 t c = search needs
@@ -182,10 +180,10 @@ words-one t c =
     let s = b .before .before .before .before in
     let a = s .args in
     let F = floors (a .f1) (a .f2) (a .f3) in
-    one-word (a .w) F (a .v) (a .n) (a .p) (d .descend .result) (c .word-of2 .result)
+    one-word (a .w) F (a .v) (a .n) (a .p) (d .descend-straight .result) (c .word-of2 .result)
     (s .pre .1 .0)
     (b .before .is-single .ensures (b .if2 .taken))
-    (d .descend .ensures)
+    (d .descend-straight .ensures)
     (c .word-of2 .ensures)
 
 list-below-slice-write-out-2 :
@@ -398,12 +396,9 @@ list-beside-returns t c =
     let e = no-corners (a .w) (floors (a .f1) (a .f2) (a .f3)) (a .v) (a .n) (a .h) (a .k) (c .if1 .taken) in
     puts-none (a .count) _ (now (a .out)) e
 
-list-beside-floor-at-requires :
-    (t : ℕ) → list-beside-lts.Need-floor-at-requires (beside-calls t) (list-beside-at t) list-beside.Post
-list-beside-floor-at-requires t c κs =
-    let p = c .before .before .pre .1 in
-    let f = c .if1 .left in
-    (p .1, omega (arith, p .2, f))
+list-beside-of-three-requires :
+    (t : ℕ) → list-beside-lts.Need-of-three-requires (beside-calls t) (list-beside-at t) list-beside.Post
+list-beside-of-three-requires t c κs = search needs
 
 list-beside-add-list-beside :
     (t : ℕ) → list-beside-lts.Need-add-list-beside (beside-calls t) (list-beside-at t) list-beside.Post
@@ -411,7 +406,7 @@ list-beside-add-list-beside t c = let k = c .before .before .before .before .pre
 
 -- those of its children from k on, and from the next on
 abbrev Floor : ℕ → Type 0
-Floor t = list-beside-lts.After-floor-at (beside-calls t) (list-beside-at t) list-beside.Post
+Floor t = list-beside-lts.After-of-three (beside-calls t) (list-beside-at t) list-beside.Post
 
 abbrev floors-of : (t : ℕ) → Floor t → Floors
 floors-of t c = let a = c .before .before .before .args in floors (a .f1) (a .f2) (a .f3)
@@ -429,7 +424,7 @@ words-passed t c =
     corner-passed (a .w) (floors-of t (c .before)) (a .v) (a .n) (a .h) (a .k)
     (s .pre .1 .2)
     (c .before .before .if1 .left)
-    (rw (c .before .floor-at .ensures) at (c .if2 .taken))
+    (rw (c .before .of-three .ensures) at (c .if2 .taken))
 
 list-beside-list-beside-requires :
     (t : ℕ) → list-beside-lts.Need-list-beside-requires (beside-calls t) (list-beside-at t) list-beside.Post
@@ -455,7 +450,7 @@ list-beside-in-corner-requires :
 list-beside-in-corner-requires t c κs =
     let p = c .before .before .before .before .pre .1 in
     let f = c .before .before .if1 .left in
-    (p .1, omega (arith, p .2, f), rw (c .before .floor-at .ensures) at (c .if2 .left))
+    (p .1, omega (arith, p .2, f), rw (c .before .of-three .ensures) at (c .if2 .left))
 
 list-beside-mul-list-below :
     (t : ℕ) → list-beside-lts.Need-mul-list-below (beside-calls t) (list-beside-at t) list-beside.Post
@@ -493,7 +488,7 @@ words-here t c =
     corner-and-rest (a .w) (floors-of t d) (a .v) (a .n) (a .h) (a .k) (c .in-corner .result)
     (s .pre .1 .2)
     (d .before .if1 .left)
-    (rw (d .floor-at .ensures) at (c .before .if2 .left))
+    (rw (d .of-three .ensures) at (c .before .if2 .left))
     (c .in-corner .ensures (gapsOf (a .w)))
 
 list-beside-list-below-requires :
@@ -506,7 +501,7 @@ list-beside-list-below-requires t c κs =
     let f = d .before .if1 .left in
     let K = c .before .in-corner .result in
     let e = c .before .in-corner .ensures (gapsOf (a .w)) in
-    let half = rw (d .floor-at .ensures) at (c .before .before .if2 .left) in
+    let half = rw (d .of-three .ensures) at (c .before .before .if2 .left) in
     let last : a .k ≤ 3 = omega (arith, p .2, f) in
     let walk = walk-to-corner (a .w) (a .n) (a .h) (floors-of t d) K (a .v) (a .k) (p .0) (p .1) last half e in
     let xs = corner-words t (c .before) in
@@ -565,7 +560,7 @@ pub +list-below+list-beside-spec : {M : Type 1} → statement M
     (list-below-same-length t)
     (list-below-returns t)
     (list-below-is-single-requires t)
-    (list-below-descend-requires t)
+    (list-below-descend-straight-requires t)
     (list-below-word-of-requires-2 t)
     (list-below-mul-out-2 t)
     (list-below-slice-write-out-2 t)
@@ -590,7 +585,7 @@ pub +list-below+list-beside-spec : {M : Type 1} → statement M
     (list-beside-at t)
     list-beside.Post
     (list-beside-returns t)
-    (list-beside-floor-at-requires t)
+    (list-beside-of-three-requires t)
     (list-beside-add-list-beside t)
     (list-beside-list-beside-requires t)
     (list-beside-same-length t)

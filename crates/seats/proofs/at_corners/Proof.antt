@@ -1,8 +1,8 @@
 -- Each is the one of the three that the table names. Assumes nothing.
 use borrow.Author.Needs.{needs}
 use mathlib.Core.Path.{_≡_, refl}
-use Rattle.seats.proofs.floors_at.Statement.{statement}
-use Rattle.seats.proofs.floors_at.Tie as tie
+use Rattle.seats.proofs.at_corners.Statement.{statement}
+use Rattle.seats.proofs.at_corners.Tie as tie
 
 first-at-requires : tie.Need-first-at-requires
 first-at-requires c κs = search needs
@@ -38,8 +38,8 @@ returns c =
       j .second-at .ensures,
     ) refl
 
-pub floors-at-spec : {M : Type 1} → statement M
-floors-at-spec =
+pub at-corners-spec : {M : Type 1} → statement M
+at-corners-spec =
     tie.close
     (tie.spec
     first-at-requires

@@ -1,6 +1,6 @@
 // Where a direction stands, exactly, also on an edge or a corner or next to one: the side by the signs of
-// determinants, and each share by near numbers
-// where these decide it, and by the determinant itself where they do not.
+// determinants, and each share by near numbers where these decide it, and by the determinant itself where they do
+// not.
 use crate::dividing::MARGIN;
 use crate::dividing::Quotient;
 use crate::dividing::divide_three;

@@ -1,6 +1,5 @@
 // The triangles that hold a direction: the quick way, by whole numbers near to its determinants, where it stands
-// clearly inside a triangle of degree 24; and the
-// exact way, wherever it stands.
+// clearly inside a triangle of degree 24; and the exact way, wherever it stands.
 pub mod dividing;
 pub mod exact;
 pub mod placing;

@@ -11,8 +11,7 @@ ghost use Rattle.seats.specs.Means.Roles.{AreScaled, AreBeyond, AreRoles
 ghost use Rattle.seats.specs.Means.Finding.{IsSome};
 
 // By octant, with five bits for each: the middle side, and those beyond its edges 1, 2 and 3. (A constant array would
-// be written out anew at
-// each reading.)
+// be written out anew at each reading.)
 const MIDDLE: u64 = 625433286152;
 
 const BEYOND_1: u64 = 660931714601;

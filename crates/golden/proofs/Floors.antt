@@ -1,5 +1,5 @@
--- The greatest whole number not above u + vφ: there is no other, and how the fraction 5702887/3524578 comes within 2 of it.
--- Assumes nothing.
+-- The greatest whole number not above u + vφ: there is no other, and how a fraction comes within 2 of it, and mostly
+-- within 1. Assumes nothing.
 use mathlib.Core.Path.{_≡_, refl, sym, _∙_, ap, subst}
 use mathlib.Core.Logic.{⊎-elim}
 use mathlib.Core.List.{[], _∷_}
@@ -22,6 +22,13 @@ use Rattle.golden.proofs.GoldenRing.{φ-path, φ-ring, scale, of-addφ}
 use Rattle.golden.proofs.GoldenOrder.{nonneg-by, add-nonneg, antisym, nonNeg, is-nonneg, not-nonneg, nonneg-or-not}
 use Rattle.golden.proofs.GoldenProduct.{whole-nonneg, *φ-nonneg}
 use Rattle.golden.proofs.Quotients.{divide-nonneg}
+
+-- The fraction of Fibonacci's next below φ.
+abbrev pub top : ℕ
+top = 1836311903
+
+abbrev pub bottom : ℕ
+bottom = 1134903170
 
 -- ---- the greatest
 
@@ -50,14 +57,18 @@ floor-test x t yes-t no-next = greatest-of x (is-nonneg (x +φ negφ (whole t)) 
 pub floor-one : {x : Golden} {s t : ℤ} → IsFloor x s → IsFloor x t → s ≡ t
 floor-one a b = le-antisym (b .greatest _ (a .notAbove)) (a .greatest _ (b .notAbove))
 
--- ---- close below: φ is a little above 5702887/3524578
+-- ---- close below: φ is a little above top/bottom
 
--- 3524578φ - 5702887 is at least 0, and 2^42 times it is at most 3524578
+-- r is not above x, and r + k is
+abbrev pub Close : ℕ → Golden → ℤ → Type 0
+Close k x r = NotAbove r x × (NotAbove (r +ℤ pos k) x → ⊥)
+
+-- bottom·φ - top is at least 0, and 2^42 times it is at most 2048
 abbrev excess : Golden
-excess = golden (negsuc 5702886) (pos 3524578)
+excess = golden (negsuc (top - 1)) (pos bottom)
 
 abbrev spare : Golden
-spare = golden (pos (3524578 + 2 ^ 42 * 5702887)) (negsuc (2 ^ 42 * 3524578 - 1))
+spare = golden (pos (2048 + 2 ^ 42 * top)) (negsuc (2 ^ 42 * bottom - 1))
 
 excess-nonneg : NonNeg excess
 excess-nonneg = is-nonneg excess tt
@@ -72,63 +83,88 @@ less {u} s d v e = φ-path
     (ap (λ (x : ℤ). x +ℤ negℤ s) e ∙ solve ℤ-ring (s ∷ d ∷ []) (var 0 ⊕ var 1 ⊝ var 0) (var 1) refl)
     (solve ℤ-ring (v ∷ []) (var 0 ⊝ lit 0) (var 0) refl)
 
--- q is m·5702887/3524578 rounded down
-module _ (m q : ℕ) (m≤ : m ≤ 2 ^ 42) (is : q ≡ m * 5702887 / 3524578) where
+-- q is m·top/bottom rounded down, and what is left stays 2048 below k·bottom: always where k is 2
+module _ (m q k : ℕ) (m≤ : m ≤ 2 ^ 42) (is : q ≡ m * top / bottom) (room : m * top % bottom + 2048 ≤ k * bottom) where
   abbrev rest : ℕ
-  rest = m * 5702887 % 3524578
+  rest = m * top % bottom
 
-  -- 3524578(mφ - q) = m(3524578φ - 5702887) + rest
-  q-below : whole (pos 3524578) *φ golden (negℤ (pos q)) (pos m) ≡ whole (pos m) *φ excess +φ whole (pos rest)
+  abbrev left : ℕ
+  left = k * bottom - (rest + 2048)
+
+  -- bottom(mφ - q) = m(bottom·φ - top) + rest
+  q-below : whole (pos bottom) *φ golden (negℤ (pos q)) (pos m) ≡ whole (pos m) *φ excess +φ whole (pos rest)
   unfolding _+φ_
-  q-below = scale (pos 3524578) (golden (negℤ (pos q)) (pos m)) ∙ φ-path us vs ∙ ap (λ (x : Golden). x +φ whole (pos rest)) (sym (scale (pos m) excess))
+  q-below =
+      scale (pos bottom) (golden (negℤ (pos q)) (pos m))
+      ∙ φ-path us vs
+      ∙ ap (λ (x : Golden). x +φ whole (pos rest)) (sym (scale (pos m) excess))
     where
-      us : pos 3524578 *ℤ negℤ (pos q) ≡ pos m *ℤ negsuc 5702886 +ℤ pos rest
+      us : pos bottom *ℤ negℤ (pos q) ≡ pos m *ℤ negsuc (top - 1) +ℤ pos rest
       us = simp difs (omega (arith, is))
 
-      vs : pos 3524578 *ℤ pos m ≡ pos m *ℤ pos 3524578 +ℤ pos 0
+      vs : pos bottom *ℤ pos m ≡ pos m *ℤ pos bottom +ℤ pos 0
       vs = simp difs (omega arith)
 
-  pub not-below : NonNeg (golden (negℤ (pos q)) (pos m))
-  not-below = divide-nonneg 3524577 _ (nonneg-by (sym q-below) (add-nonneg _ _ (*φ-nonneg _ _ (whole-nonneg m) excess-nonneg) (whole-nonneg rest)))
+  not-below : NonNeg (golden (negℤ (pos q)) (pos m))
+  not-below =
+      let sum = add-nonneg _ _ (*φ-nonneg _ _ (whole-nonneg m) excess-nonneg) (whole-nonneg rest) in
+      divide-nonneg (bottom - 1) _ (nonneg-by (sym q-below) sum)
 
-  -- 3524578(q + 2 - mφ) = (3524578 - rest) + (3524578 - 2^42·excess) + (2^42 - m)·excess
-  q-close : whole (pos 3524578) *φ golden (pos (q + 2)) (negℤ (pos m)) ≡ (whole (pos (3524578 - rest)) +φ spare) +φ whole (pos (2 ^ 42 - m)) *φ excess
+  -- bottom(q + k - mφ) = left + (2048 - 2^42·excess) + (2^42 - m)·excess
+  q-close :
+      whole (pos bottom) *φ golden (pos (q + k)) (negℤ (pos m))
+      ≡ (whole (pos left) +φ spare) +φ whole (pos (2 ^ 42 - m)) *φ excess
   unfolding _+φ_
-  q-close = scale (pos 3524578) (golden (pos (q + 2)) (negℤ (pos m))) ∙ φ-path us (vs (spare .v) refl) ∙ ap (λ (x : Golden). (whole (pos (3524578 - rest)) +φ spare) +φ x) (sym (scale (pos (2 ^ 42 - m)) excess))
+  q-close =
+      scale (pos bottom) (golden (pos (q + k)) (negℤ (pos m)))
+      ∙ φ-path us (vs (spare .v) refl)
+      ∙ ap (λ (x : Golden). (whole (pos left) +φ spare) +φ x) (sym (scale (pos (2 ^ 42 - m)) excess))
     where
-      us : pos 3524578 *ℤ pos (q + 2) ≡ (pos (3524578 - rest) +ℤ pos (3524578 + 2 ^ 42 * 5702887)) +ℤ pos (2 ^ 42 - m) *ℤ negsuc 5702886
+      us :
+          pos bottom *ℤ pos (q + k)
+          ≡ (pos left +ℤ pos (2048 + 2 ^ 42 * top)) +ℤ pos (2 ^ 42 - m) *ℤ negsuc (top - 1)
       us = simp difs (omega (arith, is))
 
-      vs : (l : ℤ) → l ≡ negℤ (pos (2 ^ 42 * 3524578)) → pos 3524578 *ℤ negℤ (pos m) ≡ (pos 0 +ℤ l) +ℤ pos (2 ^ 42 - m) *ℤ pos 3524578
+      vs :
+          (l : ℤ)
+          → l ≡ negℤ (pos (2 ^ 42 * bottom))
+          → pos bottom *ℤ negℤ (pos m) ≡ (pos 0 +ℤ l) +ℤ pos (2 ^ 42 - m) *ℤ pos bottom
       vs l h = split l λ p n x. simp (x, difs) (omega (arith, simp (x, difs) at h))
 
-  not-close : NonNeg (golden (pos (q + 2)) (negℤ (pos m)))
-  not-close = divide-nonneg 3524577 _ (nonneg-by (sym q-close) (add-nonneg _ _ (add-nonneg _ _ (whole-nonneg (3524578 - rest)) spare-nonneg) (*φ-nonneg _ _ (whole-nonneg (2 ^ 42 - m)) excess-nonneg)))
+  not-close : NonNeg (golden (pos (q + k)) (negℤ (pos m)))
+  not-close =
+      let least = add-nonneg _ _ (whole-nonneg left) spare-nonneg in
+      let sum = add-nonneg _ _ least (*φ-nonneg _ _ (whole-nonneg (2 ^ 42 - m)) excess-nonneg) in
+      divide-nonneg (bottom - 1) _ (nonneg-by (sym q-close) sum)
 
-  no : {k : ℕ} → pos k ≡ pos 0 → k ≡ 0
+  no : {n : ℕ} → pos n ≡ pos 0 → n ≡ 0
   no e = ap natAbs e
 
-  -- u + q is not above u + mφ, and u + q + 2 is
-  pub close-pos : (u : ℤ) → NotAbove (u +ℤ pos q) (golden u (pos m)) × (NotAbove (u +ℤ pos q +ℤ pos 2) (golden u (pos m)) → ⊥)
+  -- u + q is not above u + mφ, and u + q + k is
+  pub close-pos : (u : ℤ) → Close k (golden u (pos m)) (u +ℤ pos q)
   unfolding negφ
   close-pos u =
-      let near : u ≡ u +ℤ pos q +ℤ negℤ (pos q) = split u λ p n x. simp (x, difs) (omega arith) in
-      let far : u ≡ u +ℤ pos q +ℤ pos 2 +ℤ negℤ (pos (q + 2)) = split u λ p n x. simp (x, difs) (omega arith) in (
-        nonneg-by (sym (less (u +ℤ pos q) (negℤ (pos q)) (pos m) near)) not-below,
+      let low = u +ℤ pos q in
+      let near : u ≡ low +ℤ negℤ (pos q) = split u λ p n x. simp (x, difs) (omega arith) in
+      let far : u ≡ low +ℤ pos k +ℤ negℤ (pos (q + k)) = split u λ p n x. simp (x, difs) (omega arith) in (
+        nonneg-by (sym (less low (negℤ (pos q)) (pos m) near)) not-below,
         λ h.
-            let z : q + 2 ≡ 0 = no (antisym _ not-close (nonneg-by (less (u +ℤ pos q +ℤ pos 2) (negℤ (pos (q + 2))) (pos m) far ∙ φ-path refl (sym (negℤ-negℤ (pos m)))) h) .0) in
+            let over = less (low +ℤ pos k) (negℤ (pos (q + k))) (pos m) far ∙ φ-path refl (sym (negℤ-negℤ (pos m))) in
+            let z : q + k ≡ 0 = no (antisym _ not-close (nonneg-by over h) .0) in
             omega arith,
       )
 
-  -- u - q - 2 is not above u - mφ, and u - q is
-  pub close-neg : (u : ℤ) → 0 < m → NotAbove (u +ℤ negℤ (pos (q + 2))) (golden u (negℤ (pos m))) × (NotAbove (u +ℤ negℤ (pos (q + 2)) +ℤ pos 2) (golden u (negℤ (pos m))) → ⊥)
+  -- u - q - k is not above u - mφ, and u - q is
+  pub close-neg : (u : ℤ) → 0 < m → Close k (golden u (negℤ (pos m))) (u +ℤ negℤ (pos (q + k)))
   unfolding negφ
   close-neg u l =
-      let near : u ≡ u +ℤ negℤ (pos (q + 2)) +ℤ pos (q + 2) = split u λ p n x. simp (x, difs) (omega arith) in
-      let far : u ≡ u +ℤ negℤ (pos (q + 2)) +ℤ pos 2 +ℤ pos q = split u λ p n x. simp (x, difs) (omega arith) in (
-        nonneg-by (sym (less (u +ℤ negℤ (pos (q + 2))) (pos (q + 2)) (negℤ (pos m)) near)) not-close,
+      let low = u +ℤ negℤ (pos (q + k)) in
+      let near : u ≡ low +ℤ pos (q + k) = split u λ p n x. simp (x, difs) (omega arith) in
+      let far : u ≡ low +ℤ pos k +ℤ pos q = split u λ p n x. simp (x, difs) (omega arith) in (
+        nonneg-by (sym (less low (pos (q + k)) (negℤ (pos m)) near)) not-close,
         λ h.
-            let z : m ≡ 0 = no (antisym (golden (negℤ (pos q)) (pos m)) not-below (nonneg-by (less (u +ℤ negℤ (pos (q + 2)) +ℤ pos 2) (pos q) (negℤ (pos m)) far ∙ φ-path (sym (negℤ-negℤ (pos q))) refl) h) .1) in
+            let over = less (low +ℤ pos k) (pos q) (negℤ (pos m)) far ∙ φ-path (sym (negℤ-negℤ (pos q))) refl in
+            let z : m ≡ 0 = no (antisym (golden (negℤ (pos q)) (pos m)) not-below (nonneg-by over h) .1) in
             omega arith,
       )
 
@@ -136,12 +172,20 @@ module _ (m q : ℕ) (m≤ : m ≤ 2 ^ 42) (is : q ≡ m * 5702887 / 3524578) wh
 pub floor-some : (x : Golden) → Below (2 ^ 42 + 1) x → (t : ℤ) × IsFloor x t
 floor-some x b = ⊎-elim up down (le-or-ltℤ (pos 0) (x .v))
   where
-    one-of : (low : ℤ) {y : Golden} → y ≡ x → NotAbove low y × (NotAbove (low +ℤ pos 2) y → ⊥) → (t : ℤ) × IsFloor x t
-    one-of low {y} p h = subst (λ (z : Golden). (t : ℤ) × IsFloor z t) p
-        (⊎-elim (λ n. (low +ℤ pos 1, greatest-next y low n (h .1))) (λ n. (low, greatest-of y (h .0) n)) (nonneg-or-not (y +φ negφ (whole (low +ℤ pos 1)))))
+    one-of : (low : ℤ) {y : Golden} → y ≡ x → Close 2 y low → (t : ℤ) × IsFloor x t
+    one-of low {y} p h =
+        let next = low +ℤ pos 1 in
+        subst (λ (z : Golden). (t : ℤ) × IsFloor z t) p
+        (⊎-elim (λ n. (next, greatest-next y low n (h .1))) (λ n. (low, greatest-of y (h .0) n))
+        (nonneg-or-not (y +φ negφ (whole next))))
+
+    small : natAbs (x .v) ≤ 2 ^ 42
+    small = omega (arith, b .v-below)
 
     up : pos 0 ≤ℤ x .v → (t : ℤ) × IsFloor x t
-    up l = one-of _ (φ-path refl (sym (pos-abs (x .v) l))) (close-pos (natAbs (x .v)) _ (omega (arith, b .v-below)) refl (x .u))
+    up l = one-of _ (φ-path refl (sym (pos-abs (x .v) l))) (close-pos _ _ 2 small refl (omega arith) (x .u))
 
     down : x .v <ℤ pos 0 → (t : ℤ) × IsFloor x t
-    down l = one-of _ (φ-path refl (sym (neg-of-abs (x .v) l))) (close-neg (natAbs (x .v)) _ (omega (arith, b .v-below)) refl (x .u) (abs-above (x .v) l))
+    down l =
+        one-of _ (φ-path refl (sym (neg-of-abs (x .v) l)))
+        (close-neg _ _ 2 small refl (omega arith) (x .u) (abs-above (x .v) l))

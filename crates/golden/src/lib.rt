@@ -1,7 +1,7 @@
 // Numbers u + vφ, with φ the positive root of φ² = φ + 1: their sign, decided exactly, and the whole number t for drawing.
 // Each function asks that its numbers are small enough for 64 bits; the crates above prove it of theirs.
 ghost use mathlib.Core.Path.{_≡_};
-ghost use Prim.Native.Nat.{_+_, _*_, _/_, _<_, _≤_, _^_};
+ghost use Prim.Native.Nat.{_+_, _*_, _/_, _%_, _<_, _≤_, _^_};
 ghost use lib.IntN.{pos, negℤ, natAbs, _+ℤ_, _*ℤ_};
 ghost use Rattle.golden.specs.Decisions.{Decides};
 ghost use Rattle.golden.specs.Numbers.{Below, _+φ_, negφ};
@@ -75,12 +75,20 @@ fn difference(x: i64, y: i64) -> i64
     x - y
 }
 
-// m·5702887/3524578, rounded down: the fraction is the one of Fibonacci's next below φ.
+// m·1836311903/1134903170, rounded down: the fraction is the one of Fibonacci's next below φ.
 fn times_fraction(m: u64) -> u64
     requires { ⌜ m ≤ 2 ^ 42 ⌝ }
-    ensures { λ r. ⌜ r ≡ m * 5702887 / 3524578 ⌝ }
+    ensures { λ r. ⌜ r ≡ m * 1836311903 / 1134903170 ⌝ }
 {
-    m / 3524578 * 5702887 + m % 3524578 * 5702887 / 3524578
+    m / 1134903170 * 1836311903 + m % 1134903170 * 1836311903 / 1134903170
+}
+
+// Whether m is clear: what is left of it is so far from the next whole number that mφ is below that too.
+fn is_clear(m: u64) -> bool
+    requires { ⌜ m ≤ 2 ^ 42 ⌝ }
+    ensures { λ r. ⌜ Decides r (m * 1836311903 % 1134903170 + 2048 ≤ 1134903170) ⌝ }
+{
+    m % 1134903170 * 1836311903 % 1134903170 + 2048 <= 1134903170
 }
 
 impl Golden {
@@ -133,16 +141,18 @@ impl Golden {
         true
     }
 
-    // A whole number that is not above u + vφ, and is less than 2 below it.
-    fn close_below(self) -> i64
-        requires { ⌜ Below (2 ^ 42 + 1) self ⌝ }
-        ensures { λ r. ⌜ NotAbove r self × (NotAbove (r +ℤ pos 2) self → ⊥) × (natAbs r < 2 ^ 45) ⌝ }
+    // A whole number that is not above u + vφ, and is less than k below it: k is 2, or 1 where |v| is clear.
+    fn close_below(self, k: u64) -> i64
+        requires { ⌜
+            Below (2 ^ 42 + 1) self × (k ≤ 2) × (natAbs (self .v) * 1836311903 % 1134903170 + 2048 ≤ k * 1134903170)
+            ⌝ }
+        ensures { λ r. ⌜ NotAbove r self × (NotAbove (r +ℤ pos k) self → ⊥) × (natAbs r < 2 ^ 45) ⌝ }
     {
         let u = self.u;
         let v = self.v;
         let q = times_fraction(magnitude(v));
         if v < 0 {
-            return difference(u, signed(q + 2));
+            return difference(u, signed(q + k));
         }
         sum(u, signed(q))
     }
@@ -152,7 +162,10 @@ impl Golden {
         requires { ⌜ Below (2 ^ 42 + 1) self ⌝ }
         ensures { λ r. ⌜ IsFloor self r ⌝ }
     {
-        let low = self.close_below();
+        if is_clear(magnitude(self.v)) {
+            return self.close_below(1);
+        }
+        let low = self.close_below(2);
         let next = low + 1;
         let rest = self.minus(Golden { u: next, v: 0 });
         if rest.at_least_zero() {

@@ -1,6 +1,7 @@
 // The 64-bit words: their fields, the two kinds, checking, parent and child.
 ghost use mathlib.Core.Path.{_≡_};
 ghost use Prim.Native.Nat.{_+_, _-_, _*_, _^_, _<_, _≤_};
+ghost use lib.ListN.{take};
 ghost use Rattle.words.specs.Words.{bits, aOf, degreeOf, zeroBits, cornerNumber, digits, beyond, sideOf, path, wordOf, inside};
 ghost use Rattle.words.specs.Refusals.{refusal, wordRows, checkCode, checkNameFields};
 ghost use Rattle.words.specs.Family.{codeOf, codeAnswer, parentAnswer, childAnswer};
@@ -70,11 +71,27 @@ pub fn word_of(s: u64, n: u64, v: u64) -> u64
     s * 576460752303423488 + n * 18014398509481984 + v * power(54 - 2 * n)
 }
 
+// Where the last of a word's digits stands: 2 to its place.
+pub fn last_of(w: u64) -> u64
+    requires { ⌜ degreeOf w ≤ 24 ⌝ }
+    ensures { λ r. ⌜ r ≡ 2 ^ (54 - 2 * degreeOf w) ⌝ }
+{
+    power(54 - 2 * degree_of(w))
+}
+
+// The digits beyond a word's degree as one number.
+fn beyond_of(w: u64) -> u64
+    requires { ⌜ degreeOf w ≤ 24 ⌝ }
+    ensures { λ r. ⌜ r ≡ beyond w (degreeOf w) ⌝ }
+{
+    bits_of(w, 6, 48 - 2 * degree_of(w))
+}
+
 // ---- checking
 
-// Refusals 1 to 3, which both kinds of word share.
-fn check_word(w: u64) -> u64
-    ensures { λ r. ⌜ r ≡ refusal (wordRows w) ⌝ }
+// Refusals 1 and 2, by what stands above the digits.
+fn check_side(w: u64) -> u64
+    ensures { λ r. ⌜ r ≡ refusal (take 2 (wordRows w)) ⌝ }
 {
     let n = degree_of(w);
     let a = a_of(w);
@@ -87,7 +104,18 @@ fn check_word(w: u64) -> u64
     if 5 < a {
         return 2;
     }
-    if bits_of(w, 6, 48 - 2 * n) != 0 {
+    0
+}
+
+// Refusals 1 to 3, which both kinds of word share.
+fn check_word(w: u64) -> u64
+    ensures { λ r. ⌜ r ≡ refusal (wordRows w) ⌝ }
+{
+    let f = check_side(w);
+    if f != 0 {
+        return f;
+    }
+    if beyond_of(w) != 0 {
         return 3;
     }
     0
@@ -112,19 +140,22 @@ fn answered(w: u64) -> CodeAnswer
 }
 
 impl TriangleCode {
-    // 0, or the refusal 1 to 4 of a word that is no triangle code.
+    // 0, or the refusal 1 to 4 of a word that is no triangle code. Of a code all is 0 below its digits.
     pub fn check(self) -> u64
         ensures { λ r. ⌜ r ≡ checkCode self ⌝ }
     {
         let w = self.0;
-        let f = check_word(w);
+        let f = check_side(w);
         if f != 0 {
             return f;
         }
-        if w % 64 != 0 {
-            return 4;
+        if w % last_of(w) == 0 {
+            return 0;
         }
-        0
+        if beyond_of(w) != 0 {
+            return 3;
+        }
+        4
     }
 
     // The triangle of which this is a child.

@@ -1,30 +1,81 @@
--- The rows of both kinds of word first, and then the low bits (Refusing, Codes). Assumes nothing.
-use mathlib.Core.Path.{sym}
+-- The first two rows of both kinds of word; then all that stands below the digits at once, and only where that is not 0
+-- the digits beyond the degree (Refusing, Codes). Assumes nothing.
+use mathlib.Core.Path.{_≡_, ap}
+use mathlib.Core.Bool.{not}
+use Prim.Native.Nat.{_-_, _*_, _%_, _^_, _≤_}
 use native.Mathlib.Omega.{arith}
+use lib.ListN.{take}
+use lib.Pow.{pow-pos}
+use borrow.Author.Tests.{eq-eqb, ne-eqb}
+use Rattle.words.specs.Words.{degreeOf, beyond}
 use Rattle.words.specs.Refusals.{wordRows, checkCode}
-use Rattle.words.proofs.Refusing.{here, refuse-before, refuse-after, so-unless}
-use Rattle.words.proofs.Codes.{word-passes, low-zero, code-passes}
+use Rattle.words.proofs.Refusing.{here, next, nothing, refuse-before, refuse-after, so-unless}
+use Rattle.words.proofs.Codes.{side-degree, below-zero, low-zero}
 use borrow.Author.Needs.{needs}
 use Rattle.words.proofs.TriangleCode.check.Statement.{statement}
 use Rattle.words.proofs.TriangleCode.check.Tie as tie
 
-check-word-requires : tie.Need-check-word-requires
-check-word-requires c κs = search needs
+check-side-requires : tie.Need-check-side-requires
+check-side-requires c κs = search needs
 
 returns : tie.Need-returns
 unfolding checkCode
-returns c = refuse-before (wordRows (c .before .before .args .self .0)) _ tt tt (c .before .check-word .ensures) (c .if1 .taken)
+returns c =
+    let w = c .before .before .args .self .0 in
+    refuse-before (take 2 (wordRows w)) _ tt tt (c .before .check-side .ensures) (c .if1 .taken)
+
+small : (c : tie.Else1) → degreeOf (c .before .before .args .self .0) ≤ 24
+small c = side-degree (c .before .before .args .self .0) (omega arith)
+
+last-of-requires : tie.Need-last-of-requires
+last-of-requires c κs = small c
+
+rem-if2 : tie.Need-rem-if2
+rem-if2 c = rw (c .last-of .ensures) (pow-pos _)
 
 returns-2 : tie.Need-returns-2
 unfolding checkCode
 returns-2 c =
-    let w = c .before .before .before .args .self .0 in
-    refuse-after (wordRows w) _ tt tt (omega arith) (here (so-unless _ (λ e. c .if2 .taken (low-zero w .0 e))))
+    let b = c .before .before in
+    let w = b .before .before .args .self .0 in
+    let n = degreeOf w in
+    let e : w % 2 ^ (54 - 2 * n) ≡ 0 = rw (c .before .last-of .ensures) at (c .if2 .taken) in
+    let z = below-zero w n (small b) .0 e in
+    refuse-after (take 2 (wordRows w)) _ tt tt (omega arith)
+    (next (ap not (eq-eqb (beyond w n) 0 (z .0))) (next (low-zero w .1 (z .1)) nothing))
+
+beyond-of-requires : tie.Need-beyond-of-requires
+beyond-of-requires c κs = small (c .before .before)
 
 returns-3 : tie.Need-returns-3
+unfolding checkCode
 returns-3 c =
-    let t = c .before .before .before .args .self in
-    sym (code-passes t .1 (word-passes (t .0) .0 (omega arith), omega arith))
+    let w = c .before .before .before .before .before .before .args .self .0 in
+    refuse-after (take 2 (wordRows w)) _ tt tt (omega arith)
+    (here (ap not (ne-eqb (beyond w (degreeOf w)) 0 (λ e. c .if3 .taken (cc)))))
+
+returns-4 : tie.Need-returns-4
+unfolding checkCode
+returns-4 c =
+    let s = c .before .before in
+    let b = s .before .before in
+    let w = b .before .before .args .self .0 in
+    let n = degreeOf w in
+    let z : beyond w n ≡ 0 = cc in
+    let some : w % 2 ^ (54 - 2 * n) ≡ 0 → ⊥ = rw (s .before .last-of .ensures) at (s .if2 .left) in
+    refuse-after (take 2 (wordRows w)) _ tt tt (omega arith)
+    (next (ap not (eq-eqb (beyond w n) 0 z))
+    (here (so-unless _ (λ e. some (below-zero w n (small b) .1 (z, low-zero w .0 e))))))
 
 pub check-spec : {M : Type 1} → statement M
-check-spec = tie.close (tie.spec check-word-requires returns returns-2 returns-3)
+check-spec =
+    tie.close
+    (tie.spec
+    check-side-requires
+    returns
+    last-of-requires
+    rem-if2
+    returns-2
+    beyond-of-requires
+    returns-3
+    returns-4)

@@ -9,7 +9,6 @@ use lib.Dec.{eqb}
 use lib.ListN.{length, take}
 use borrow.Author.Tests.{eqb-true, lt-ltb, le-ltb, eq-eqb}
 use Rattle.words.proofs.Codes.{code-degree, code-side, is-code, name-code, name-passes}
-use Rattle.words.proofs.Digits.{digits-are}
 use Rattle.words.proofs.Refusing.{either-left, either-right, here, next, refuse-after, refuse-before, refuse-first}
 use Rattle.words.specs.Family.{codeOf}
 use Rattle.words.specs.Refusals.{Row, checkCode, checkNameFields, codeRows, degreeRows, nameRows, refusal}
@@ -22,27 +21,26 @@ use Rattle.net.specs.Division.{cornerOf, sum}
 use Rattle.net.specs.Means.Paths.{digitsOf}
 use Rattle.net.specs.Means.Spreads.{pointIn, spread}
 use Rattle.net.specs.Means.States.{across}
-use Rattle.net.specs.Means.Walks.{Place, cellOf, leastName, packed, placeOf, stepOf}
+use Rattle.net.specs.Means.Walks.{Place, edgeThere, leastName, placeAt, stepFrom}
 use Rattle.net.specs.Names.{IsName}
 use Rattle.net.specs.Refusals.{canonical, canonicalRows, checkName, listRows, notCanonical, onOneSide, onSide, oneToThreeRows, weightRows}
 use Rattle.corners.specs.Refusals.{refuseBack, refuseNameWeights, refuseNumbered, refuseRing, refuseWeights}
 use Rattle.net.specs.Sides.{IsSide, OneToThree}
 use Rattle.net.specs.Steps.{Across}
-use Rattle.net.specs.declared.Cell.{Cell}
 use Rattle.net.specs.declared.Corner.{Corner}
 use Rattle.net.specs.declared.Point.{Point}
-use Rattle.net.specs.declared.Reached.{Reached}
+use Rattle.net.specs.declared.Edge.{Edge}
 use Rattle.net.proofs.Canonical.{canonical-is, name-means}
-use Rattle.net.proofs.CodePlaces.{corner-at, digitsIn, in-digits, in-length}
-use Rattle.net.proofs.Crossing.{across-is, codeAcross}
+use Rattle.net.proofs.CodePlaces.{digitsIn}
+use Rattle.net.proofs.Crossing.{across-is}
 use Rattle.net.proofs.LeastName.{least-is-name, place-in, placeIn}
 use Rattle.net.proofs.Loads.{sum-spread}
 use Rattle.net.proofs.Names.{one-name}
-use Rattle.net.proofs.Paths.{of-digits, of-length, of-path}
+use Rattle.net.proofs.Paths.{of-digits, of-length}
 use Rattle.corners.proofs.Refused.{back-passes, numbered-passes}
 use Rattle.net.proofs.Rings.{At}
 use Rattle.net.proofs.StateCode.{on-one, spread-of}
-use Rattle.net.proofs.Stepping.{step-beside}
+use Rattle.net.proofs.WordSteps.{at-place, low-degree, made-place, numbered-place}
 
 -- ---- an answer from its refusal
 
@@ -76,52 +74,37 @@ module _ (t : TriangleCode) (i : ℕ) where
   unfolding refuseNumbered checkCode
   numbered-high z h = refuse-after (codeRows t) (oneToThreeRows i) tt tt z (here (either-right (eqb i 0) _ (lt-ltb 3 i h)))
 
--- ---- a code's cell
-
-pub cell-place : (t : TriangleCode) (i : ℕ) → placeOf (sideOf (t .0)) (degreeOf (t .0)) (path (digitsIn t)) i ≡ placeIn t i
-cell-place t i = λ j. record { side = sideOf (t .0); digits = of-path (digits-are (t .0) (degreeOf (t .0))) j; number = i }
-
 -- ---- crossing
 
-pub cross-answers : (t : TriangleCode) (k : ℕ) (d : Cell) (r : Reached) {w : ℕ} → refuseNumbered t k ≡ 0 → d ≡ cellOf t
-    → r ≡ packed (stepOf k (d .side) (digitsOf (d .degree) (d .path))) → w ≡ wordOf (r .side) (d .degree) (r .path)
-    → CrossAnswer t k (stepAnswer 0 (codeOf w) (r .edge))
-cross-answers t k d r {w} z is e′ f′ =
-    let e : r ≡ packed (stepOf k (sideOf (t .0)) (digitsOf (degreeOf (t .0)) (path (digitsIn t)))) = subst (λ (d : Cell). r ≡ packed (stepOf k (d .side) (digitsOf (d .degree) (d .path)))) is e′ in
-    let f : w ≡ wordOf (r .side) (degreeOf (t .0)) (r .path) = subst (λ (d : Cell). w ≡ wordOf (r .side) (d .degree) (r .path)) is f′ in
+pub cross-answers : (t : TriangleCode) (k : ℕ) (r : Edge) → refuseNumbered t k ≡ 0 → r ≡ edgeThere (stepFrom (record { code = t; number = k }))
+    → CrossAnswer t k (stepAnswer 0 (r .code) (r .number))
+cross-answers t k r z e =
     let p = numbered-passes t k .0 z in
-    let c = is-code t (p .0) in
-    let l = p .1 in
-    let q = stepOf k (sideOf (t .0)) (digitsIn t) in
-    let g : r ≡ packed q = e ∙ ap (λ (ds : List ℕ). packed (stepOf k (sideOf (t .0)) ds)) (of-path (digits-are (t .0) (degreeOf (t .0)))) in
-    let len : length (q .digits) ≡ degreeOf (t .0) = step-beside k (sideOf (t .0)) (digitsIn t) l (code-side c) (in-digits c) .degree ∙ in-length c in
-    let h : w ≡ codeAcross k t .0 = f ∙ (λ i. wordOf (g i .side) (sym len i) (g i .path)) in
-    answering z (record { number = refl; across = subst (λ (x : ℕ). Across (degreeOf (t .0)) t k (codeOf x) (r .edge)) (sym h) (subst (λ (x : ℕ). Across (degreeOf (t .0)) t k (codeAcross k t) x) (sym (ap (λ (x : Reached). x .edge) g)) (across-is c k l)) })
+    answering z (record {
+      number = refl;
+      across = subst (λ (x : Edge). Across (degreeOf (t .0)) t k (x .code) (x .number)) (sym e) (across-is (is-code t (p .0)) k (p .1));
+    })
 
 -- ---- names
 
-pub naming-answers : (t : TriangleCode) (i : ℕ) (d : Cell) {w : ℕ} → refuseNumbered t i ≡ 0 → d ≡ cellOf t
-    → w ≡ leastName 5 (placeOf (d .side) (d .degree) (d .path) i) → NamingAnswer t i (nameAnswer 0 (nameOf w))
-naming-answers t i d {w} z is e′ =
-    let e : w ≡ leastName 5 (placeOf (sideOf (t .0)) (degreeOf (t .0)) (path (digitsIn t)) i) = subst (λ (d : Cell). w ≡ leastName 5 (placeOf (d .side) (d .degree) (d .path) i)) is e′ in
+pub naming-answers : (t : TriangleCode) (i : ℕ) {r : CornerName} → refuseNumbered t i ≡ 0 → r ≡ nameOf (leastName 5 (placeAt (t .0 + i)))
+    → NamingAnswer t i (nameAnswer 0 r)
+naming-answers t i {r} z e =
     let p = numbered-passes t i .0 z in
     let c = is-code t (p .0) in
-    let f : w ≡ leastName 5 (placeIn t i) = e ∙ ap (leastName 5) (cell-place t i) in
-    answering z (record { number = refl; is = subst (λ (x : ℕ). IsName (degreeOf (t .0)) (corner t i) (nameOf x)) (sym f) (least-is-name _ (corner t i) (placeIn t i) (place-in c (p .1)) (code-degree c)) })
+    let f : r ≡ nameOf (leastName 5 (placeIn t i)) = e ∙ ap (λ (q : Place). nameOf (leastName 5 q)) (numbered-place t (p .0) i (p .1)) in
+    answering z (record {
+      number = refl;
+      is = subst (IsName (degreeOf (t .0)) (corner t i)) (sym f) (least-is-name _ (corner t i) (placeIn t i) (place-in c (p .1)) (code-degree c));
+    })
 
--- the least name round the corner that a name names, from the cell inside it
-module _ (r : CornerName) (z : checkNameFields r ≡ 0) (d : Cell) (is : d ≡ cellOf (codeInside r)) where
+-- the least name round the corner that a name names
+module _ (r : CornerName) (z : checkNameFields r ≡ 0) where
   abbrev least : ℕ
-  least = leastName 5 (placeOf (d .side) (d .degree) (d .path) (cornerNumber (r .0)))
+  least = leastName 5 (placeAt (r .0))
 
   least-name : IsName (degreeOf (r .0)) (named r) (nameOf least)
-  least-name =
-      let c = name-code r z in
-      let p = name-passes r .0 z in
-      let i = cornerNumber (r .0) in
-      let q : placeOf (d .side) (d .degree) (d .path) i ≡ placeIn (codeInside r) i = ap (λ (d : Cell). placeOf (d .side) (d .degree) (d .path) i) is ∙ cell-place (codeInside r) i in
-      subst (λ (q : Place). IsName (degreeOf (r .0)) (named r) (nameOf (leastName 5 q))) (sym q)
-      (least-is-name _ (named r) (placeIn (codeInside r) i) (place-in c (p .2, p .3)) (code-degree c))
+  least-name = least-is-name _ (named r) (placeAt (r .0)) (at-place (r .0) z) (low-degree (r .0) z)
 
   pub name-ten : (least ≡ r .0 → ⊥) → 10 ≡ checkName r
   unfolding checkName checkNameFields
@@ -169,10 +152,6 @@ module _ (r : CornerName) (out : List ℕ) where
   unfolding checkName refuseRing
   ring-nine z h = refuse-after (canonicalRows r) (listRows 6 out) tt tt z (here (lt-ltb (length out) 6 h))
 
--- the weights of a cell's corner are those of the code's
-pub cell-corner : (t : TriangleCode) (i : ℕ) (d : Cell) → d ≡ cellOf t → cornerOf (d .side) (digitsOf (d .degree) (d .path)) i ≡ corner t i
-cell-corner t i d is = ap (λ (d : Cell). cornerOf (d .side) (digitsOf (d .degree) (d .path)) i) is ∙ ap (λ (ds : List ℕ). cornerOf (sideOf (t .0)) ds i) (of-path (digits-are (t .0) (degreeOf (t .0)))) ∙ sym (corner-at t i)
-
 -- ---- the way back
 
 module _ (n : ℕ) (weights : List ℕ) where
@@ -197,18 +176,26 @@ module _ (n : ℕ) (weights : List ℕ) where
     back-side e = refuse-first rows tt (next (le-ltb 24 n h) (next (le-ltb (length weights) 12 l) (here (either-right (not (eqb (sum (take 12 weights)) (2 ^ n))) _ (ap not e)))))
 
 -- the name of the corner with twelve weights, from the side that they lie on and a triangle there that has the corner
-pub back-answers : (n : ℕ) (weights : List ℕ) (s : ℕ) (k : Corner) (p : Point) {w : ℕ} → n ≤ 24 → 12 ≤ length weights → eqb (sum (take 12 weights)) (2 ^ n) ≡ true
-    → IsSide s → onSide s 0 (take 12 weights) ≡ true → p ≡ pointIn s (take 12 weights)
+pub back-answers : (n : ℕ) (weights : List ℕ) (s : ℕ) (k : Corner) (p : Point) {r : CornerName} → n ≤ 24 → 12 ≤ length weights
+    → eqb (sum (take 12 weights)) (2 ^ n) ≡ true → IsSide s → onSide s 0 (take 12 weights) ≡ true → p ≡ pointIn s (take 12 weights)
     → (k .path < 2 ^ (2 * n)) × OneToThree (k .number) × (cornerOf s (digitsOf n (k .path)) (k .number) ≡ spread s p)
-    → w ≡ leastName 5 (placeOf s n (k .path) (k .number)) → BackAnswer n weights (nameAnswer 0 (nameOf w))
-back-answers n weights s k p {w} h l e hs on is found eq =
+    → r ≡ nameOf (leastName 5 (placeAt (wordOf s n (k .path) + k .number))) → BackAnswer n weights (nameAnswer 0 r)
+back-answers n weights s k p {r} h l e hs on is found eq =
     let ws = take 12 weights in
     let twelve : length ws ≡ 12 = length-take-le 12 weights l in
     let there : spread s p ≡ ws = ap (spread s) is ∙ spread-of s ws hs twelve on in
-    let a : At n ws (placeOf s n (k .path) (k .number)) =
-    record { a-side = hs; the-digits = of-digits n (k .path); degree = of-length n (k .path); a-number = found .1; corner = found .2 ∙ there } in
+    let q : Place = record { side = s; digits = digitsOf n (k .path); number = k .number } in
+    let a : At n ws q =
+    record {
+      a-side = hs;
+      the-digits = of-digits n (k .path);
+      degree = of-length n (k .path);
+      a-number = found .1;
+      corner = found .2 ∙ there;
+    } in
+    let f : r ≡ nameOf (leastName 5 q) = eq ∙ ap (λ (q : Place). nameOf (leastName 5 q)) (made-place s n (k .path) (k .number) hs h (found .0) (found .1)) in
     answering (back-passes n weights .1 (h, l, eqb-true _ _ e, on-one ws s hs on))
-    (record { number = refl; is = subst (λ (x : ℕ). IsName n ws (nameOf x)) (sym eq) (least-is-name n ws (placeOf s n (k .path) (k .number)) a h) })
+    (record { number = refl; is = subst (IsName n ws) (sym f) (least-is-name n ws q a h) })
 
 -- the three weights of a side on which all twelve lie add to their sum
 pub back-total : (n : ℕ) (weights : List ℕ) (s : ℕ) (p : Point) → 12 ≤ length weights → eqb (sum (take 12 weights)) (2 ^ n) ≡ true → IsSide s

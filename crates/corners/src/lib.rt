@@ -1,6 +1,6 @@
 // The calls of document 01 on corners and edges: checking a name, crossing, weights, naming, the way back, the ring.
-use net::Cell;
-use net::cells;
+use net::Edge;
+use net::steps;
 use words::CornerName;
 use words::TriangleCode;
 ghost use mathlib.Core.Path.{_≡_};
@@ -57,7 +57,8 @@ pub fn check_name(r: CornerName) -> u64
     if f != 0 {
         return f;
     }
-    if net::cell_inside(r).least_name(5, w % 4) != w {
+    let least = steps::least_name(r);
+    if least.0 != w {
         return 10;
     }
     0
@@ -77,12 +78,16 @@ pub fn cross(t: TriangleCode, edge: u64) -> StepAnswer
             edge: 0,
         };
     }
-    let c = cells::cell_of(t);
-    let r = c.neighbour(edge);
+    let here = Edge {
+        code: t,
+        number: edge,
+    };
+    let there = here.neighbour();
+    let code = there.code;
     StepAnswer {
         refusal: 0,
-        code: TriangleCode(words::word_of(r.side, c.degree, r.path)),
-        edge: r.edge,
+        code,
+        edge: there.number,
     }
 }
 
@@ -99,7 +104,7 @@ pub fn weights_of(t: TriangleCode, corner: u64, out: &mut [u64]) -> u64
     if out.len() < 12 {
         return 9;
     }
-    net::write_corner(cells::cell_of(t), corner, out);
+    net::write_corner(t, corner, out);
     0
 }
 
@@ -115,7 +120,7 @@ pub fn weights_of_name(r: CornerName, out: &mut [u64]) -> u64
     if out.len() < 12 {
         return 9;
     }
-    net::write_corner(net::cell_inside(r), w % 4, out);
+    net::write_corner(net::code_inside(r), w % 4, out);
     0
 }
 
@@ -134,7 +139,7 @@ pub fn name_of(t: TriangleCode, corner: u64) -> NameAnswer
     }
     NameAnswer {
         refusal: 0,
-        name: CornerName(cells::cell_of(t).least_name(5, corner)),
+        name: steps::least_name(CornerName(t.0 + corner)),
     }
 }
 
@@ -170,14 +175,10 @@ pub fn name_back(degree: u64, weights: &[u64]) -> NameAnswer
         };
     }
     let c = net::back::corner_at(s, degree, net::back::point_on(weights, s));
-    let here = Cell {
-        side: s,
-        degree,
-        path: c.path,
-    };
+    let here = CornerName(words::word_of(s, degree, c.path) + c.number);
     NameAnswer {
         refusal: 0,
-        name: CornerName(here.least_name(5, c.number)),
+        name: steps::least_name(here),
     }
 }
 
@@ -201,10 +202,8 @@ pub fn ring(r: CornerName, out: &mut [u64]) -> CountAnswer
             count: 0,
         };
     }
-    let c = net::cell_inside(r);
-    let i = w % 4;
-    let m = net::weights::ring_count(net::states::state_of(c.degree, c.path).corner(i));
-    net::round::write_ring(c, i, m, out);
+    let m = net::weights::ring_count(net::point_of(net::code_inside(r), w % 4));
+    steps::write_ring(r, m, out);
     CountAnswer {
         refusal: 0,
         count: m,

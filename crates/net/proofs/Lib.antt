@@ -21,7 +21,14 @@ pub mod LeastName
 pub mod RingCodes
 pub mod Canonical
 pub mod Demand3
-pub mod CellSteps
+pub mod SeamCode
+pub mod Marking
+pub mod WordMarks
+pub mod WordSteps
+pub mod Gathering
+pub mod Summing
+pub mod StateBits
 pub mod StateCode
+pub mod Writing
 pub mod WayBack
 pub mod RingLists

@@ -1,4 +1,4 @@
--- Digits as one number, and the step on it inside a side. Assumes nothing.
+-- Digits as one number, and that a step leaves digits. Assumes nothing.
 use mathlib.Core.Path.{_≡_, refl, sym, ap, subst}
 use mathlib.Core.List.{List, [], _∷_}
 use Prim.Native.Nat.{ℕ, zero, suc, _+_, _-_, _*_, _/_, _%_, _^_, _≤_, _<_}
@@ -11,9 +11,8 @@ use lib.Dec.{eqb}
 use borrow.Author.Tests.{eq-eqb, ne-eqb, eqb-true, eqb-false}
 use Rattle.words.proofs.Digits.{AreDigits, more, none, path-injective, path-lt}
 use Rattle.words.specs.Words.{path}
-use Rattle.net.specs.Means.Paths.{digitsOf, within}
+use Rattle.net.specs.Means.Paths.{digitsOf}
 use Rattle.net.specs.Means.States.{Move, cross, inside, map, outside, pick}
-use Rattle.net.specs.declared.Within.the-variants.{Inside, Outside}
 
 -- ds are digits
 abbrev pub Digits : List ℕ → Type 0
@@ -71,10 +70,11 @@ abbrev pub Kept : Move (List ℕ) → ℕ → Type 0
 Kept (inside ds) n = AreDigits n ds
 Kept outside n = Unit {0}
 
-pick-kept : (a b n : ℕ) (x y : Move (List ℕ)) → (a ≡ b → Kept x n) → ((a ≡ b → ⊥) → Kept y n) → Kept (pick (eqb a b) x y) n
-pick-kept a b n x y f g = go (eqb a b) refl
+-- what holds of the one or the other by a test
+pub picked : (P : Move (List ℕ) → Type 0) (a b : ℕ) {x y : Move (List ℕ)} → (a ≡ b → P x) → ((a ≡ b → ⊥) → P y) → P (pick (eqb a b) x y)
+picked P a b {x} {y} f g = go (eqb a b) refl
   where
-    go : (t : Bool) → eqb a b ≡ t → Kept (pick t x y) n
+    go : (t : Bool) → eqb a b ≡ t → P (pick t x y)
     go true e = f (eqb-true a b e)
     go false e = g (eqb-false a b e)
 
@@ -85,50 +85,7 @@ map-kept d n outside h k = tt
 pub cross-kept : {n : ℕ} (k : ℕ) (ds : List ℕ) → 1 ≤ k → k ≤ 3 → AreDigits n ds → Kept (cross k ds) n
 unfolding cross
 cross-kept k [] l u none = tt
-cross-kept k (d ∷ ds) l u (more h a) =
-    pick-kept d 0 _ _ _ (λ e. more (omega arith) a) (λ n0.
-    pick-kept d k _ _ _ (λ e. more (omega arith) a) (λ nk.
+cross-kept k (d ∷ ds) l u (more {n = n} h a) =
+    picked (λ c. Kept c (suc n)) d 0 (λ e. more (omega arith) a) (λ n0.
+    picked (λ c. Kept c (suc n)) d k (λ e. more (omega arith) a) (λ nk.
     map-kept (6 - k - d) _ (cross k ds) (omega arith) (cross-kept k ds l u a)))
-
-then-in : (d u : ℕ) (m : Move (List ℕ)) → Inside u ≡ within m → Inside (4 * u + d) ≡ within (map (λ es. d ∷ es) m)
-unfolding path
-then-in d u (inside es) h = cc
-then-in d u outside h = cc
-
-then-out : (d : ℕ) (m : Move (List ℕ)) → Outside ≡ within m → Outside ≡ within (map (λ es. d ∷ es) m)
-then-out d (inside es) h = cc
-then-out d outside h = refl
-
--- The step on a path in one number, case by case.
-module _ (k n v : ℕ) where
-  pub at-end : n ≡ 0 → Outside ≡ within (cross k (digitsOf n v))
-  unfolding cross digitsOf
-  at-end e = rw e
-
-  pub bounded : {u : ℕ} → 1 ≤ k → k ≤ 3 → Inside u ≡ within (cross k (digitsOf n v)) → u < 2 ^ (2 * n)
-  bounded {u} l h e = go (cross k (digitsOf n v)) (cross-kept k (digitsOf n v) l h (digits-of n v)) e
-    where
-      go : (m : Move (List ℕ)) → Kept m n → Inside u ≡ within m → u < 2 ^ (2 * n)
-      go (inside es) c e = let q : u ≡ path es = cc in omega (arith, path-lt c)
-      go outside c e = let z : _≡_ {A = ℕ} 0 1 = cc in absurd (omega arith)
-
-  module _ (pos : n ≡ 0 → ⊥) where
-    rest : v < 2 ^ (2 * n) → path (digitsOf (n - 1) (v / 4)) ≡ v / 4
-    rest s = path-of (n - 1) (v / 4) (quarter n v pos s)
-
-    pub at-middle : v < 2 ^ (2 * n) → v % 4 ≡ 0 → Inside (v + k) ≡ within (cross k (digitsOf n v))
-    unfolding cross path
-    at-middle s e = rw (digits-more n v pos) (simp (eq-eqb _ _ e) (ap Inside (omega (arith, rest s))))
-
-    pub at-edge : v < 2 ^ (2 * n) → (v % 4 ≡ 0 → ⊥) → v % 4 ≡ k → Inside (v - k) ≡ within (cross k (digitsOf n v))
-    unfolding cross path
-    at-edge s z e = rw (digits-more n v pos) (simp (ne-eqb _ _ z, eq-eqb _ _ e) (ap Inside (omega (arith, rest s))))
-
-    pub go-in : {u : ℕ} → (v % 4 ≡ 0 → ⊥) → (v % 4 ≡ k → ⊥) → Inside u ≡ within (cross k (digitsOf (n - 1) (v / 4)))
-        → Inside (4 * u + (6 - k - v % 4)) ≡ within (cross k (digitsOf n v))
-    unfolding cross
-    go-in z e h = rw (digits-more n v pos) (simp (ne-eqb _ _ z, ne-eqb _ _ e) (then-in _ _ (cross k (digitsOf (n - 1) (v / 4))) h))
-
-    pub go-out : (v % 4 ≡ 0 → ⊥) → (v % 4 ≡ k → ⊥) → Outside ≡ within (cross k (digitsOf (n - 1) (v / 4))) → Outside ≡ within (cross k (digitsOf n v))
-    unfolding cross
-    go-out z e h = rw (digits-more n v pos) (simp (ne-eqb _ _ z, ne-eqb _ _ e) (then-out _ (cross k (digitsOf (n - 1) (v / 4))) h))

@@ -78,7 +78,7 @@ unfolding ringWords
 ring-length zero q = refl
 ring-length (suc m) q = ap suc (ring-length m (around q))
 
-ring-word : (m : ℕ) (q : Place) (j : ℕ) → j < m → getD (ringWords m q) j 0 ≡ wordAt (ringAt q j)
+pub ring-word : (m : ℕ) (q : Place) (j : ℕ) → j < m → getD (ringWords m q) j 0 ≡ wordAt (ringAt q j)
 unfolding ringWords ringAt
 ring-word zero q j h = absurd (omega arith)
 ring-word (suc m) q zero h = refl

@@ -1,23 +1,24 @@
 -- What the code of states, of weights and of the way back rests on. Assumes nothing.
-use mathlib.Core.Path.{_≡_, _∙_, refl, sym, ap, subst}
+use mathlib.Core.Path.{_≡_, _∙_, refl, sym, ap}
 use mathlib.Core.Logic.{inl, inr, ⊎-elim}
 use mathlib.Core.Bool.{Bool, true, false, not, _&&_, true≢false}
 use mathlib.Core.List.{List, [], _∷_, _++_}
 use Prim.Native.Nat.{ℕ, zero, suc, _+_, _-_, _*_, _/_, _%_, _^_, _≤_, _<_}
-use native.Mathlib.Nat.{lt-of-lt-of-le, le-of-lt}
+use native.Mathlib.Nat.{lt-of-lt-of-le}
 use native.Mathlib.Numerals.{add-one}
 use native.Mathlib.Omega.{arith}
 use lib.Dec.{eqb}
-use lib.ListN.{length, getD, take, drop, set}
+use lib.ListN.{length, getD, take}
 use lib.Pow.{pow-mono}
-use lib.Seq.{drop-cons, set-at, length-take-le, append-snoc, take-suc, take-all, getD-take, ext-getD}
+use lib.Seq.{length-take-le, take-suc, getD-take, ext-getD}
 use borrow.Author.Tests.{eq-eqb, eqb-true, ne-eqb, not-true, not-false}
-use Rattle.words.specs.Words.{path}
+use Rattle.words.specs.Words.{degreeOf, digits, path}
 use Rattle.words.specs.Refusals.{_either_}
-use Rattle.words.proofs.Digits.{AreDigits, more, none}
+use Rattle.words.specs.declared.TriangleCode.{TriangleCode}
+use Rattle.words.proofs.Digits.{AreDigits, digits-are, more, none, path-lt}
 use Rattle.words.proofs.Refusing.{either-left, either-right}
-use Rattle.net.specs.Refusals.{over, everyBelow, isCornerOf, onOneSide, onSide}
-use Rattle.net.specs.Division.{cornerOf, load, sum, vertices}
+use Rattle.net.specs.Refusals.{everyBelow, isCornerOf, onOneSide, onSide}
+use Rattle.net.specs.Division.{cornerOf, sum, vertices}
 use Rattle.net.specs.Means.Paths.{digitsOf, pathUp}
 use Rattle.net.specs.Means.Spreads.{pointIn, spread, weightAt}
 use Rattle.net.specs.Means.States.{Low, halves, lastOf, parity, point, pointOf, stateOf, step}
@@ -27,10 +28,11 @@ use Rattle.net.specs.declared.Point.{Point}
 use Rattle.net.specs.declared.State.{State}
 use Rattle.net.specs.declared.State.the-variants.{Down, Up}
 use Rattle.net.proofs.Canonical.{and-true, every-below, or-true}
+use Rattle.net.proofs.CodePlaces.{digitsIn}
 use Rattle.net.proofs.Flips.{each-length}
 use Rattle.net.proofs.Halving.{back, last-step}
 use Rattle.net.proofs.Loads.{at-vertex, corner-is, sum-spread, weight, weight-other, weight-own}
-use Rattle.net.proofs.Paths.{digits-more, four, of-length, of-path}
+use Rattle.net.proofs.Paths.{four, of-length, of-path}
 use Rattle.net.proofs.Reach.{reach}
 use Rattle.net.proofs.SharedVertices.{HasVertex, has-or-not, vertex-small}
 use Rattle.net.proofs.Spread.{same-point}
@@ -44,17 +46,16 @@ pub low-by : (b : ℕ) (a : State) → total a ≤ b → Low b a
 low-by b (Up x y z) h = omega arith
 low-by b (Down x y z) h = omega arith
 
-module _ (n v : ℕ) where
-  pub low-24 : n ≤ 24 → Low (2 ^ 24) (stateOf (digitsOf n v))
-  low-24 h = low-by (2 ^ 24) (stateOf (digitsOf n v)) (rw (total-is (digitsOf n v), of-length n v) (pow-mono h))
+pub low-24 : (n v : ℕ) → n ≤ 24 → Low (2 ^ 24) (stateOf (digitsOf n v))
+low-24 n v h = low-by (2 ^ 24) (stateOf (digitsOf n v)) (rw (total-is (digitsOf n v), of-length n v) (pow-mono h))
 
-  pub state-none : n ≡ 0 → Up 0 0 0 ≡ stateOf (digitsOf n v)
-  unfolding stateOf digitsOf
-  state-none e = rw e
+-- the path of the digits of a code, and the state that they lead to
+module _ (t : TriangleCode) {n v : ℕ} (d : n ≡ degreeOf (t .0)) (e : v ≡ path (digits (t .0) n)) where
+  pub code-path : v < 2 ^ (2 * n)
+  code-path = rw e (path-lt (digits-are (t .0) n))
 
-  pub state-more : (n ≡ 0 → ⊥) → step (v % 4) (stateOf (digitsOf (n - 1) (v / 4))) ≡ stateOf (digitsOf n v)
-  unfolding stateOf
-  state-more f = rw (digits-more n v f)
+  pub code-state : stateOf (digitsOf n v) ≡ stateOf (digitsIn t)
+  code-state = ap stateOf (ap (digitsOf n) e ∙ of-path (digits-are (t .0) n) ∙ ap (digits (t .0)) d)
 
 -- ---- the path up from a state
 
@@ -144,39 +145,9 @@ ring-rest zero f = refl
 ring-rest (suc zero) f = absurd (f refl)
 ring-rest (suc (suc k)) f = refl
 
-pub load-most : (v c x : ℕ) {r : ℕ} → r ≡ load (eqb v c) x → r ≤ x
-load-most v c x {r} e = go (eqb v c) e
-  where
-    go : (b : Bool) → r ≡ load b x → r ≤ x
-    go true e = omega arith
-    go false e = omega arith
-
--- ---- twelve weights over the front of a list
-
 pub spread-length : (s : ℕ) (p : Point) → length (spread s p) ≡ 12
 unfolding spread
 spread-length s p = each-length (weightAt s p) vertices
-
--- one more place of ws over the front of a list
-pub over-more : (ws old : List ℕ) (i : ℕ) → i < length ws → length ws ≤ length old → set (take i ws ++ drop i old) i (getD ws i 0) ≡ take (i + 1) ws ++ drop (i + 1) old
-over-more ws old i h r =
-    let a = getD ws i 0 in
-    ap (λ (l : List ℕ). set (take i ws ++ l) i a) (drop-cons old i 0 (lt-of-lt-of-le h r))
-    ∙ set-at (take i ws) (getD old i 0) (drop (suc i) old) a i (length-take-le i ws (le-of-lt h))
-    ∙ sym (append-snoc (take i ws) a (drop (suc i) old))
-    ∙ ap (λ (l : List ℕ). l ++ drop (suc i) old) (sym (take-suc ws i 0 h))
-    ∙ ap (λ (n : ℕ). take n ws ++ drop n old) (sym (add-one i))
-
-module _ (s : ℕ) (p : Point) (old : List ℕ) where
-  pub weights-more : (v : ℕ) → v < 12 → 12 ≤ length old → set (take v (spread s p) ++ drop v old) v (weightAt s p v) ≡ take (v + 1) (spread s p) ++ drop (v + 1) old
-  weights-more v h l =
-      let e = spread-length s p in
-      ap (set (take v (spread s p) ++ drop v old) v) (sym (at-vertex s p v h)) ∙ over-more (spread s p) old v (omega arith) (omega arith)
-
-  pub weights-all : take 12 (spread s p) ++ drop 12 old ≡ over (spread s p) old
-  weights-all =
-      let e = spread-length s p in
-      rw e (ap (λ (l : List ℕ). l ++ drop 12 old) (take-all 12 (spread s p) (omega arith)))
 
 -- ---- sums
 
@@ -364,17 +335,3 @@ none-on P f = go (onOneSide P) refl
     go : (b : Bool) → onOneSide P ≡ b → b ≡ false
     go true e = let x = one-on P e in absurd (f (x .0) (x .1) (x .2))
     go false e = refl
-
--- the corners of a low state
-pub point-low : (a : State) (i : ℕ) (p : Point) → Low (2 ^ 24) a → p ≡ pointOf i a → (p .w1 < 2 ^ 25) × (p .w2 < 2 ^ 25) × (p .w3 < 2 ^ 25)
-point-low a i p h e = subst (λ (q : Point). (q .w1 < 2 ^ 25) × (q .w2 < 2 ^ 25) × (q .w3 < 2 ^ 25)) (sym e) (go i a h)
-  where
-    go : (i : ℕ) (a : State) → Low (2 ^ 24) a → (pointOf i a .w1 < 2 ^ 25) × (pointOf i a .w2 < 2 ^ 25) × (pointOf i a .w3 < 2 ^ 25)
-    go zero (Up x y z) h = omega arith
-    go zero (Down x y z) h = omega arith
-    go (suc zero) (Up x y z) h = omega arith
-    go (suc zero) (Down x y z) h = omega arith
-    go (suc (suc zero)) (Up x y z) h = omega arith
-    go (suc (suc zero)) (Down x y z) h = omega arith
-    go (suc (suc (suc i))) (Up x y z) h = omega arith
-    go (suc (suc (suc i))) (Down x y z) h = omega arith

@@ -2,6 +2,8 @@
 -- relations over the division of Division.antt, and the laws of proofs/ tie these to it. Assumes nothing.
 pub mod States
 pub mod Paths
+pub mod Gathers
 pub mod Seams
 pub mod Spreads
 pub mod Walks
+pub mod Marks

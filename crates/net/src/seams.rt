@@ -1,11 +1,9 @@
-// The twenty sides: their corners, the side across each edge, and how the numbers of corners, edges and digits change there.
+// The twenty sides: their corners, the side across each edge, and the number that is kept there.
 ghost use mathlib.Core.Path.{_≡_};
 ghost use Prim.Native.Nat.{_<_, _≤_};
-ghost use Rattle.words.specs.Words.{path, side};
-ghost use Rattle.net.specs.Sides.{nth, OneToThree, after, before, vertex, sideCorner, cornerVertex, next};
-ghost use Rattle.net.specs.Division.{each};
-ghost use Rattle.net.specs.Means.Paths.{digitsOf};
-ghost use Rattle.net.specs.Means.Seams.{seamOf, seamSide, seamKept, flip};
+ghost use Rattle.words.specs.Words.{side};
+ghost use Rattle.net.specs.Sides.{nth, after, before, vertex, sideCorner, cornerVertex, next};
+ghost use Rattle.net.specs.Means.Seams.{seamOf, seamSide, seamKept};
 
 // The first, second or third of three.
 pub fn of_three(i: u64, x: u64, y: u64, z: u64) -> u64
@@ -142,30 +140,4 @@ pub fn seam_kept(s: u64, k: u64) -> u64
     ensures { λ r. ⌜ r ≡ seamKept s k ⌝ }
 {
     if s % 2 == 0 { 1 } else { k }
-}
-
-// c is kept, the other two of 1, 2, 3 are exchanged, 0 stays.
-pub fn flip_one(c: u64, i: u64) -> u64
-    ensures { λ r. ⌜ r ≡ flip c i ⌝ }
-{
-    if i == 0 {
-        return 0;
-    }
-    of_three(
-        c,
-        of_three(i, 1, 3, 2),
-        of_three(i, 3, 2, 1),
-        of_three(i, 2, 1, 3),
-    )
-}
-
-// Every digit of a path.
-pub fn flip_path(n: u64, v: u64, c: u64) -> u64
-    requires { ⌜ (n ≤ 24) × OneToThree c ⌝ }
-    ensures { λ r. ⌜ r ≡ path (each (flip c) (digitsOf n v)) ⌝ }
-{
-    if n == 0 {
-        return 0;
-    }
-    4 * flip_path(n - 1, v / 4, c) + flip_one(c, v % 4)
 }

@@ -1,35 +1,16 @@
-// A triangle inside one side, as Up or Down with its floor: the child, the parent, the corners.
+// A triangle inside one side, as Up or Down with its floor: its corners, the path to it, and the triangle of a path.
 use crate::Point;
 use crate::State;
 ghost use mathlib.Core.Path.{_≡_};
-ghost use Prim.Native.Nat.{_*_, _^_, _≤_};
+ghost use Prim.Native.Nat.{_*_, _/_, _^_, _<_, _≤_};
+ghost use lib.Bits.{bitXor};
 ghost use Rattle.words.specs.Words.{path};
 ghost use Rattle.net.specs.Sides.{OneToThree};
-ghost use Rattle.net.specs.Means.States.{step, stateOf, pointOf, parity, lastOf, halves, Low};
+ghost use Rattle.net.specs.Means.States.{stateOf, pointOf, parity, lastOf, halves, Low};
 ghost use Rattle.net.specs.Means.Paths.{digitsOf, pathUp};
+ghost use Rattle.net.specs.Means.Gathers.{gather, lowBit};
 
 impl State {
-    // The child with digit d.
-    pub fn child(self, d: u64) -> State
-        requires { ⌜ (d ≤ 3) × Low (2 ^ 24) self ⌝ }
-        ensures { λ r. ⌜ r ≡ step d self ⌝ }
-    {
-        match self {
-            State::Up(x, y, z) => match d {
-                0 => State::Down(2 * x, 2 * y, 2 * z),
-                1 => State::Up(2 * x + 1, 2 * y, 2 * z),
-                2 => State::Up(2 * x, 2 * y + 1, 2 * z),
-                _ => State::Up(2 * x, 2 * y, 2 * z + 1),
-            },
-            State::Down(x, y, z) => match d {
-                0 => State::Up(2 * x + 1, 2 * y + 1, 2 * z + 1),
-                1 => State::Down(2 * x, 2 * y + 1, 2 * z + 1),
-                2 => State::Down(2 * x + 1, 2 * y, 2 * z + 1),
-                _ => State::Down(2 * x + 1, 2 * y + 1, 2 * z),
-            },
-        }
-    }
-
     // Which child of its parent it is: the parities of the floor tell.
     fn last_digit(self) -> u64
         requires { ⌜ Low (2 ^ 24) self ⌝ }
@@ -132,13 +113,47 @@ fn digit_by(p: u64, q: u64) -> u64
     }
 }
 
-// The triangle of the path v of n digits.
+// The lower bits of all digits of a path, together.
+fn gathered(v: u64) -> u64
+    ensures { λ r. ⌜ r ≡ gather lowBit 32 v ⌝ }
+{
+    let a = v & 0x5555_5555_5555_5555;
+    let b = (a | (a / 2)) & 0x3333_3333_3333_3333;
+    let c = (b | (b / 4)) & 0x0F0F_0F0F_0F0F_0F0F;
+    let d = (c | (c / 16)) & 0x00FF_00FF_00FF_00FF;
+    let e = (d | (d / 256)) & 0x0000_FFFF_0000_FFFF;
+    (e | (e / 65536)) & 0xFFFF_FFFF
+}
+
+// Each bit summed with all bits above it.
+fn parities(z: u64) -> u64
+    requires { ⌜ z < 2 ^ 32 ⌝ }
+    ensures { λ r. ⌜ bitXor r (r / 2) ≡ z ⌝ }
+{
+    let a = z ^ (z / 2);
+    let b = a ^ (a / 4);
+    let c = b ^ (b / 16);
+    let d = c ^ (c / 256);
+    d ^ (d / 65536)
+}
+
+// The triangle of the path v of n digits. A floor's bit is whether the digit is that corner's, turned over where the
+// triangle above points down; and a triangle points down where the number of zeros so far is odd.
 pub fn state_of(n: u64, v: u64) -> State
-    requires { ⌜ n ≤ 24 ⌝ }
+    requires { ⌜ (n ≤ 24) × (v < 2 ^ (2 * n)) ⌝ }
     ensures { λ r. ⌜ r ≡ stateOf (digitsOf n v) ⌝ }
 {
-    if n == 0 {
-        return State::Up(0, 0, 0);
+    let low = gathered(v);
+    let high = gathered(v / 2);
+    let both = low & high;
+    let down = parities(words::power(n) - 1 - (low | high));
+    let above = down / 2;
+    let x = low ^ both ^ above;
+    let y = high ^ both ^ above;
+    let z = both ^ above;
+    if down % 2 == 0 {
+        State::Up(x, y, z)
+    } else {
+        State::Down(x, y, z)
     }
-    state_of(n - 1, v / 4).child(v % 4)
 }

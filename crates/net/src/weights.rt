@@ -2,42 +2,34 @@
 use crate::Point;
 use crate::seams;
 ghost use mathlib.Core.Path.{_≡_};
-ghost use Prim.Native.Nat.{_+_, _^_, _<_, _≤_};
-ghost use lib.Dec.{eqb};
+ghost use Prim.Native.Nat.{_+_, _≤_};
 ghost use lib.ListN.{length};
-ghost use Rattle.net.specs.Division.{load};
+ghost use Rattle.net.specs.Sides.{IsSide};
 ghost use Rattle.net.specs.Steps.{ringSize};
 ghost use Rattle.net.specs.Refusals.{over};
-ghost use Rattle.net.specs.Means.Spreads.{weightAt, spread, sign};
+ghost use Rattle.net.specs.Means.Spreads.{noWeights, spread, sign};
 
-// x at the vertex c, and 0 elsewhere.
-fn load_at(v: u64, c: u64, x: u64) -> u64
-    ensures { λ r. ⌜ r ≡ load (eqb v c) x ⌝ }
-{
-    if v == c { x } else { 0 }
-}
-
-// The weight of the point p of the side s at the vertex v.
-fn weight_at(s: u64, p: Point, v: u64) -> u64
-    requires { ⌜ (s < 24) × (p .w1 < 2 ^ 25) × (p .w2 < 2 ^ 25) × (p .w3 < 2 ^ 25) ⌝ }
-    ensures { λ r. ⌜ r ≡ weightAt s p v ⌝ }
-{
-    let x = load_at(v, seams::corner_vertex(s, 1), p.w1);
-    let y = load_at(v, seams::corner_vertex(s, 2), p.w2);
-    let z = load_at(v, seams::corner_vertex(s, 3), p.w3);
-    x + y + z
-}
-
-// All twelve over the front of a list; later places are unchanged.
-pub fn write_weights(s: u64, p: Point, out: &mut [u64])
-    requires { ⌜ (s < 24) × (p .w1 < 2 ^ 25) × (p .w2 < 2 ^ 25) × (p .w3 < 2 ^ 25) × (12 ≤ length (now out)) ⌝ }
-    ensures { λ _. ⌜ now (out .exit) ≡ over (spread s p) (now (out .entry)) ⌝ }
+// Twelve zeros over the front of a list; later places are unchanged.
+fn clear_twelve(out: &mut [u64])
+    requires { ⌜ 12 ≤ length (now out) ⌝ }
+    ensures { λ _. ⌜ now (out .exit) ≡ over noWeights (now (out .entry)) ⌝ }
 {
     let mut v = 0;
     while v < 12 {
-        out[v] = weight_at(s, p, v as u64);
+        out[v] = 0;
         v += 1;
     }
+}
+
+// The twelve weights of the point p of the side s over the front of a list; later places are unchanged.
+pub fn write_weights(s: u64, p: Point, out: &mut [u64])
+    requires { ⌜ IsSide s × (12 ≤ length (now out)) ⌝ }
+    ensures { λ _. ⌜ now (out .exit) ≡ over (spread s p) (now (out .entry)) ⌝ }
+{
+    clear_twelve(out);
+    out[seams::corner_vertex(s, 1) as usize] = p.w1;
+    out[seams::corner_vertex(s, 2) as usize] = p.w2;
+    out[seams::corner_vertex(s, 3) as usize] = p.w3;
 }
 
 fn sign_of(x: u64) -> u64

@@ -1,10 +1,8 @@
--- The fields' refusal first, then whether the least name round the corner is the word itself (Calls, CellSteps). Assumes nothing.
+-- The fields' refusal first, then whether the least name round the corner is the word itself (Calls). Assumes nothing.
 use borrow.Author.Needs.{needs}
-use mathlib.Core.Path.{_≡_, sym, _∙_, subst}
+use mathlib.Core.Path.{_≡_, sym, _∙_, ap}
 use Rattle.words.specs.Refusals.{checkNameFields}
-use Rattle.words.proofs.Codes.{name-code, name-passes}
-use Rattle.net.specs.Means.Walks.{IsCell}
-use Rattle.net.proofs.CellSteps.{cell-is}
+use Rattle.words.specs.declared.CornerName.{CornerName}
 use Rattle.corners.proofs.Calls.{name-first, name-ten, name-passing}
 use Rattle.corners.proofs.check_name.Statement.{statement}
 use Rattle.corners.proofs.check_name.Tie as tie
@@ -15,28 +13,22 @@ check-fields-requires c κs = search needs
 returns : tie.Need-returns
 returns c = name-first _ (c .before .check-fields .ensures) (c .if1 .taken)
 
-cell-inside-requires : tie.Need-cell-inside-requires
-cell-inside-requires c κs = search needs
-
 -- the fields are in order
 fields : (c : tie.Else1) → checkNameFields (c .before .before .args .r) ≡ 0
 fields c = sym (c .before .check-fields .ensures) ∙ c .if1 .left
 
 least-name-requires : tie.Need-least-name-requires
-least-name-requires c κs =
-    let r = c .before .before .before .args .r in
-    let p = name-passes r .0 (fields (c .before)) in
-    (subst IsCell (sym (c .cell-inside .ensures)) (cell-is _ (name-code r (fields (c .before)) .passes)), (p .2, p .3))
+least-name-requires c κs = fields c
 
 returns-2 : tie.Need-returns-2
 returns-2 c =
-    let d = c .before .before in
-    name-ten _ (fields (d .before)) _ (d .cell-inside .ensures) (λ e. c .if2 .taken (c .before .least-name .ensures ∙ e))
+    let l = c .before .before in
+    name-ten _ (fields (l .before)) (λ e. c .if2 .taken (ap (λ (q : CornerName). q .0) (l .least-name .ensures) ∙ e))
 
 returns-3 : tie.Need-returns-3
 returns-3 c =
-    let d = c .before .before in
-    name-passing _ (fields (d .before)) _ (d .cell-inside .ensures) (sym (c .before .least-name .ensures) ∙ c .if2 .left)
+    let l = c .before .before in
+    name-passing _ (fields (l .before)) (sym (ap (λ (q : CornerName). q .0) (l .least-name .ensures)) ∙ c .if2 .left)
 
 pub check-name-spec : {M : Type 1} → statement M
 check-name-spec =
@@ -44,7 +36,6 @@ check-name-spec =
     (tie.spec
     check-fields-requires
     returns
-    cell-inside-requires
     least-name-requires
     returns-2
     returns-3)

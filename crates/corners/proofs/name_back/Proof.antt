@@ -4,7 +4,7 @@ use borrow.Author.Needs.{needs}
 use mathlib.Core.Path.{_≡_, sym, _∙_, ap}
 use mathlib.Core.Bool.{true}
 use mathlib.Core.List.{List}
-use Prim.Native.Nat.{ℕ, _≤_, _<_, _^_}
+use Prim.Native.Nat.{ℕ, _+_, _≤_, _<_, _^_}
 use native.Mathlib.Nat.{lt-of-le-of-lt}
 use native.Mathlib.Omega.{arith}
 use denote.Ref.{now}
@@ -14,7 +14,10 @@ use lib.Pow.{pow-mono}
 use borrow.Author.Tests.{not-true, not-false, eqb-true}
 use Rattle.net.specs.Sides.{IsSide}
 use Rattle.net.specs.Division.{sum}
+use Rattle.net.specs.Corners.{nameOf}
 use Rattle.net.specs.Refusals.{onSide}
+use Rattle.net.specs.Means.Walks.{leastName, placeAt}
+use Rattle.net.proofs.WordSteps.{made-fields, made-fits}
 use Rattle.corners.proofs.Calls.{refusing, back-one-refused, back-nine, back-sum, back-side, back-answers, back-total}
 use Rattle.corners.proofs.name_back.Statement.{statement}
 use Rattle.corners.proofs.name_back.Tie as tie
@@ -85,16 +88,34 @@ corner-at-requires c κs =
     let d = c .before .before .before .before .before .before in
     (low d, back-total (n d) (ws d) _ _ (long d) (added (c .before .before .before)) (found (c .before) .0) (found (c .before) .1) (c .point-on .ensures))
 
+word-of-requires : tie.Need-word-of-requires
+word-of-requires c κs =
+    let d = c .before .before .before .before .before .before .before in
+    (omega (arith, found (c .before .before) .0 .1), low d, c .corner-at .ensures .0)
+
+add-t13 : tie.Need-add-t13
+add-t13 c =
+    let k = c .before .before in
+    let e = k .corner-at .ensures in
+    let d = k .before .before .before .before .before .before .before in
+    rw (c .before .word-of .ensures) (omega (arith, made-fits _ (n d) _ _ (found (k .before .before) .0) (low d) (e .0) (e .1)))
+
 least-name-requires : tie.Need-least-name-requires
 least-name-requires c κs =
-    let d = c .before .before .before .before .before .before .before in
-    (record { a-side = found (c .before .before) .0; low = low d; small = c .corner-at .ensures .0 }, c .corner-at .ensures .1)
+    let k = c .before .before in
+    let e = k .corner-at .ensures in
+    let d = k .before .before .before .before .before .before .before in
+    rw (c .before .word-of .ensures) (made-fields _ (n d) _ _ (found (k .before .before) .0) (low d) (e .0) (e .1))
 
 returns-5 : tie.Need-returns-5
 returns-5 c =
-    let p = c .before .before in
+    let w = c .before .before in
+    let k = w .before in
+    let p = k .before in
     let d = p .before .before .before .before .before .before in
-    back-answers (n d) (ws d) _ _ _ (low d) (long d) (added (p .before .before .before)) (found (p .before) .0) (found (p .before) .1) (p .point-on .ensures) (c .before .corner-at .ensures) (c .least-name .ensures)
+    back-answers (n d) (ws d) _ (k .corner-at .result) _ (low d) (long d) (added (p .before .before .before)) (found (p .before) .0) (found (p .before) .1)
+    (p .point-on .ensures) (k .corner-at .ensures)
+    (c .least-name .ensures ∙ ap (λ (x : ℕ). nameOf (leastName 5 (placeAt (x + k .corner-at .result .number)))) (w .word-of .ensures))
 
 pub name-back-spec : {M : Type 1} → statement M
 name-back-spec =
@@ -109,5 +130,7 @@ name-back-spec =
     returns-4
     point-on-requires
     corner-at-requires
+    word-of-requires
+    add-t13
     least-name-requires
     returns-5)

@@ -1,18 +1,17 @@
--- The refusals in turn; the weights of the corner named over the list (Calls, CellSteps). Assumes nothing.
+-- The refusals in turn; the weights of the corner named over the list (Calls). Assumes nothing.
 use borrow.Author.Needs.{needs}
-use mathlib.Core.Path.{_≡_, refl, sym, _∙_, ap, subst}
-use mathlib.Core.List.{List}
-use Prim.Native.Nat.{ℕ}
+use mathlib.Core.Path.{_≡_, refl, sym, _∙_, ap}
 use native.Mathlib.Omega.{arith}
 use denote.Ref.{now}
 use Rattle.words.specs.Refusals.{checkNameFields}
+use Rattle.words.specs.Words.{cornerNumber}
+use Rattle.words.specs.declared.TriangleCode.{TriangleCode}
 use Rattle.words.proofs.Codes.{name-code, name-passes}
+use Rattle.net.specs.Corners.{corner}
 use Rattle.net.specs.Refusals.{checkName, over}
-use Rattle.net.specs.Means.Walks.{IsCell}
 use Rattle.net.proofs.Canonical.{name-means}
 use Rattle.corners.proofs.Refused.{name-weights-passes}
-use Rattle.net.proofs.CellSteps.{cell-is}
-use Rattle.corners.proofs.Calls.{refusing-lent, answering-lent, name-weights-first, name-weights-nine, cell-corner}
+use Rattle.corners.proofs.Calls.{refusing-lent, answering-lent, name-weights-first, name-weights-nine}
 use Rattle.corners.proofs.weights_of_name.Statement.{statement}
 use Rattle.corners.proofs.weights_of_name.Tie as tie
 
@@ -32,14 +31,14 @@ fields c = name-means _ .0 (none c) .0
 returns-2 : tie.Need-returns-2
 returns-2 c = refusing-lent (name-weights-nine _ _ (none (c .before)) (omega arith)) (λ e. omega arith)
 
-cell-inside-requires : tie.Need-cell-inside-requires
-cell-inside-requires c κs = fields (c .before)
+code-inside-requires : tie.Need-code-inside-requires
+code-inside-requires c κs = fields (c .before)
 
 write-corner-requires : tie.Need-write-corner-requires
 write-corner-requires c κs =
     let d = c .before .before .before in
     let p = name-passes _ .0 (fields d) in
-    (subst IsCell (sym (c .before .cell-inside .ensures)) (cell-is _ (name-code _ (fields d) .passes)), (omega (arith, p .2), omega (arith, p .3)), omega arith)
+    (rw (c .before .code-inside .ensures) (name-code _ (fields d) .passes), (p .2, p .3), omega arith)
 
 same-length : tie.Need-same-length
 same-length c = search needs
@@ -50,7 +49,7 @@ returns-3 c =
     let d = w .before .before in
     let a = d .before .before .before .before .before .args in
     answering-lent (name-weights-passes _ _ .1 (none (d .before .before), omega arith))
-    (refl, w .write-corner .ensures ∙ ap (λ (ws : List ℕ). over ws (now (a .out))) (cell-corner _ _ _ (d .cell-inside .ensures)))
+    (refl, w .write-corner .ensures ∙ ap (λ (t : TriangleCode). over (corner t (cornerNumber (a .r .0))) (now (a .out))) (d .code-inside .ensures))
 
 pub weights-of-name-spec : {M : Type 1} → statement M
 weights-of-name-spec =
@@ -59,7 +58,7 @@ weights-of-name-spec =
     check-name-requires
     returns
     returns-2
-    cell-inside-requires
+    code-inside-requires
     write-corner-requires
     same-length
     returns-3)

@@ -17,6 +17,10 @@ weightAt s p v = load (eqb v (cornerVertex s 1)) (p .w1) + load (eqb v (cornerVe
 unfoldable pub spread : (s : ℕ) → Point → Weights
 spread s p = each (weightAt s p) vertices
 
+-- no weight at any vertex
+unfoldable pub noWeights : Weights
+noWeights = each (λ v. 0) vertices
+
 -- 1 for a number that is not 0
 abbrev pub sign : ℕ → ℕ
 sign zero = 0

@@ -1,27 +1,17 @@
 -- The step across an edge on a side and digits, and the walk round a corner. Assumes nothing.
-use Prim.Native.Nat.{ℕ, zero, suc, _+_, _*_, _^_, _≤_, _<_}
+use Prim.Native.Nat.{ℕ, zero, suc, _+_}
 use mathlib.Core.Bool.{Bool, true, false}
 use mathlib.Core.List.{List, [], _∷_}
 use lib.Dec.{ltb}
 use lib.ListN.{length}
-use Rattle.words.specs.Words.{degreeOf, digits, sideOf, path, wordOf}
-use Rattle.words.specs.declared.TriangleCode.{TriangleCode}
-use Rattle.net.specs.Sides.{IsSide, next}
+use Rattle.words.specs.Words.{degreeOf, digits, sideOf, path, wordOf, cornerNumber}
+use Rattle.words.specs.Words as words
+use Rattle.words.specs.Family.{codeOf}
+use Rattle.net.specs.Sides.{next}
 use Rattle.net.specs.Division.{each}
 use Rattle.net.specs.Means.States.{Move, inside, outside, cross}
-use Rattle.net.specs.Means.Paths.{digitsOf}
 use Rattle.net.specs.Means.Seams.{seamSide, seamKept, flip}
-use Rattle.net.specs.declared.Cell.{Cell}
-use Rattle.net.specs.declared.Reached.{Reached}
-
--- a cell as the code holds it, and the cell of a triangle code
-pub record IsCell (c : Cell) : Type 0 where
-  pub a-side : IsSide (c .side)
-  pub low : c .degree ≤ 24
-  pub small : c .path < 2 ^ (2 * c .degree)
-
-abbrev pub cellOf : TriangleCode → Cell
-cellOf t = record { side = sideOf (t .0); degree = degreeOf (t .0); path = path (digits (t .0) (degreeOf (t .0))) }
+use Rattle.net.specs.declared.Edge.{Edge}
 
 -- where a step arrives: a triangle, and the number of the shared edge there
 pub record Arrival : Type 0 where
@@ -37,8 +27,12 @@ arrival k s ds outside = record { side = seamSide s k; digits = each (flip (seam
 unfoldable pub stepOf : (k s : ℕ) → List ℕ → Arrival
 stepOf k s ds = arrival k s ds (cross k ds)
 
-abbrev pub packed : Arrival → Reached
-packed r = record { side = r .side; path = path (r .digits); edge = r .edge }
+-- from an edge of a triangle code, and to one
+abbrev pub stepFrom : Edge → Arrival
+stepFrom e = let w = e .code .0 in stepOf (e .number) (sideOf w) (digits w (degreeOf w))
+
+abbrev pub edgeThere : Arrival → Edge
+edgeThere r = record { code = codeOf (wordOf (r .side) (length (r .digits)) (path (r .digits))); number = r .edge }
 
 -- a triangle and the number that a corner has in it
 pub record Place : Type 0 where
@@ -46,8 +40,15 @@ pub record Place : Type 0 where
   pub digits : List ℕ
   pub number : ℕ
 
-abbrev pub placeOf : (s n v i : ℕ) → Place
-placeOf s n v i = record { side = s; digits = digitsOf n v; number = i }
+-- the place that a word has by its fields
+abbrev pub placeAt : ℕ → Place
+placeAt r = let w = words.inside r in record { side = sideOf w; digits = digits w (degreeOf w); number = cornerNumber r }
+
+-- over the seam of edge k every digit, and the number, is renumbered
+abbrev pub overSeam : ℕ → Place → Place
+overSeam k q =
+    let c = seamKept (q .side) k in
+    record { side = seamSide (q .side) k; digits = each (flip c) (q .digits); number = flip c (q .number) }
 
 -- anticlockwise: across the edge that follows the corner's number, to the triangle where the corner follows that edge's number
 abbrev pub arrived : Arrival → Place

@@ -1,6 +1,6 @@
 -- `of_three`: 1 and 2 compute, and any other number gives the third (`nth-rest`). Assumes nothing.
 use borrow.Author.Needs.{needs}
-use Rattle.net.proofs.CellSteps.{nth-rest}
+use Rattle.net.proofs.SeamCode.{nth-rest}
 use Rattle.net.proofs.seams.of_three.Statement.{statement}
 use Rattle.net.proofs.seams.of_three.Tie as tie
 

@@ -1,5 +1,5 @@
 -- `seam_kept`: the last bit is 0 or not (`kept-even`, `kept-odd`). Assumes nothing.
-use Rattle.net.proofs.CellSteps.{kept-even, kept-odd}
+use Rattle.net.proofs.SeamCode.{kept-even, kept-odd}
 use Rattle.net.proofs.seams.seam_kept.Statement.{statement}
 use Rattle.net.proofs.seams.seam_kept.Tie as tie
 

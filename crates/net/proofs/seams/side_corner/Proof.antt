@@ -1,7 +1,7 @@
 -- `side_corner`: the four cases of p and q, each 0 or not (`at-00` to `at-11`), and what the calls ensure. Assumes nothing.
 use mathlib.Core.Path.{refl}
 use Rattle.net.specs.Sides.{sideCorner}
-use Rattle.net.proofs.CellSteps.{at-00, at-01, at-10, at-11}
+use Rattle.net.proofs.SeamCode.{at-00, at-01, at-10, at-11}
 use borrow.Author.Needs.{needs}
 use Rattle.net.proofs.seams.side_corner.Statement.{statement}
 use Rattle.net.proofs.seams.side_corner.Tie as tie

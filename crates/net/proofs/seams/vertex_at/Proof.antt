@@ -2,7 +2,7 @@
 use mathlib.Core.Path.{refl}
 use borrow.Author.Needs.{needs}
 use Rattle.net.specs.Sides.{vertex}
-use Rattle.net.proofs.CellSteps.{at-01, vertex-high, vertex-low}
+use Rattle.net.proofs.SeamCode.{at-01, vertex-high, vertex-low}
 use Rattle.net.proofs.seams.vertex_at.Statement.{statement}
 use Rattle.net.proofs.seams.vertex_at.Tie as tie
 

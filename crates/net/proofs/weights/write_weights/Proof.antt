@@ -1,71 +1,83 @@
--- `net::weights::write_weights` meets its contract. The invariant: the first v places have their weights, and the later ones are as they came. Assumes nothing.
-use mathlib.Core.Path.{_≡_, refl, _∙_}
-use mathlib.Core.List.{_++_}
-use Prim.Native.Nat.{_-_, _≤_}
-use borrow.Author.Needs.{needs}
+-- `net::weights::write_weights` meets its contract: the corners of a side are three of the twelve vertices (`Writing`).
+-- Assumes nothing.
+use Prim.Native.Nat.{_<_}
 use denote.Ref.{now}
-use lib.ListN.{length, take, drop, length-set}
+use lib.ListN.{length-set}
 use native.Mathlib.Omega.{arith}
-use Rattle.net.specs.Means.Spreads.{spread}
-use Rattle.net.proofs.StateCode.{weights-all, weights-more}
+use Rattle.net.proofs.StateCode.{vertex-12}
+use Rattle.net.proofs.Writing.{put-three}
+use borrow.Author.Needs.{needs}
 use Rattle.net.proofs.weights.write_weights.Statement.{statement}
 use Rattle.net.proofs.weights.write_weights.Tie as tie
 
-abbrev Inv-loop : tie.InvT-loop
-Inv-loop s p out₀ v₀ out v = (v ≤ 12) × (out ≡ take v (spread s p) ++ drop v out₀) × (length out ≡ length out₀)
+clear-twelve-requires : tie.Need-clear-twelve-requires
+clear-twelve-requires c κs = search needs
 
-abbrev μ-loop : tie.MeasureT-loop
-μ-loop s p out₀ v₀ out v = 12 - v
+-- the three corners are vertices
+abbrev start : tie.After-corner-vertex → tie.Start
+start c = c .before .before .before .before .before .before
 
-loop-holds : tie.Need-loop-holds Inv-loop μ-loop
-loop-holds c = (omega arith, refl, refl)
+first : (c : tie.After-corner-vertex) → c .corner-vertex .result < 12
+first c = vertex-12 _ 1 (start c .pre .0) (omega arith) (c .corner-vertex .ensures)
 
-weight-at-requires : tie.Need-weight-at-requires Inv-loop μ-loop
-weight-at-requires c κs = search needs
+second : (c : tie.After-corner-vertex2) → c .corner-vertex2 .result < 12
+second c = vertex-12 _ 2 (start (c .before) .pre .0) (omega arith) (c .corner-vertex2 .ensures)
 
-mul-out : tie.Need-mul-out Inv-loop μ-loop
-mul-out c = omega arith
+third : (c : tie.After-corner-vertex3) → c .corner-vertex3 .result < 12
+third c = vertex-12 _ 3 (start (c .before .before) .pre .0) (omega arith) (c .corner-vertex3 .ensures)
 
-slice-write-out : tie.Need-slice-write-out Inv-loop μ-loop
-slice-write-out c = omega arith
+corner-vertex-requires : tie.Need-corner-vertex-requires
+corner-vertex-requires c κs = search needs
 
-add-v : tie.Need-add-v Inv-loop μ-loop
-add-v c = omega arith
+mul-out : tie.Need-mul-out
+mul-out c = omega (arith, first c)
 
-loop-less : tie.Need-loop-less Inv-loop μ-loop
-loop-less c = omega arith
+slice-write-out : tie.Need-slice-write-out
+slice-write-out c = omega (arith, first c)
 
-loop-again : tie.Need-loop-again Inv-loop μ-loop
-loop-again c =
-    let l = c .before .before .loop in
-    let s = c .before .before .before .before in (
-      omega arith,
-      rw (l .inv .1, c .weight-at .ensures) (weights-more (s .args .s) (s .args .p) (now (s .args .out)) (l .v) (omega arith) (omega arith)),
-      simp length-set (l .inv .2),
-    )
+corner-vertex-requires-2 : tie.Need-corner-vertex-requires-2
+corner-vertex-requires-2 c κs = search needs
 
-same-length : tie.Need-same-length Inv-loop μ-loop
-same-length c = c .before .loop .inv .2
+mul-out-2 : tie.Need-mul-out-2
+mul-out-2 c = omega (arith, second c)
 
-returns : tie.Need-returns Inv-loop μ-loop
+slice-write-out-2 : tie.Need-slice-write-out-2
+slice-write-out-2 c = simp length-set (omega (arith, second c))
+
+corner-vertex-requires-3 : tie.Need-corner-vertex-requires-3
+corner-vertex-requires-3 c κs = search needs
+
+mul-out-3 : tie.Need-mul-out-3
+mul-out-3 c = omega (arith, third c)
+
+slice-write-out-3 : tie.Need-slice-write-out-3
+slice-write-out-3 c = simp length-set (omega (arith, third c))
+
+same-length : tie.Need-same-length
+same-length c = search needs
+
+returns : tie.Need-returns
 returns c =
-    let l = c .before .loop in
-    let s = c .before .before .before in
-    let e : l .v ≡ 12 = omega arith in
-    l .inv .1 ∙ rw e (weights-all (s .args .s) (s .args .p) (now (s .args .out)))
+    let b = c .before in
+    let a = b .before in
+    let s = start a in
+    let zeros = a .before .before .before .clear-twelve .ensures in
+    put-three (s .args .s) (s .pre .0) (s .args .p) (now (s .args .out)) zeros
+    (a .corner-vertex .ensures) (b .corner-vertex2 .ensures) (c .corner-vertex3 .ensures)
 
 pub write-weights-spec : {M : Type 1} → statement M
 write-weights-spec =
     tie.close
     (tie.spec
-    Inv-loop
-    μ-loop
-    loop-holds
-    weight-at-requires
+    clear-twelve-requires
+    corner-vertex-requires
     mul-out
     slice-write-out
-    add-v
-    loop-less
-    loop-again
+    corner-vertex-requires-2
+    mul-out-2
+    slice-write-out-2
+    corner-vertex-requires-3
+    mul-out-3
+    slice-write-out-3
     same-length
     returns)

@@ -1,0 +1,19 @@
+-- `net::steps::least_name` meets its contract: a word with a name's fields has a degree of at most 24 (WordSteps). Assumes nothing.
+use borrow.Author.Needs.{needs}
+use mathlib.Core.Path.{ap}
+use Rattle.net.specs.Corners.{nameOf}
+use Rattle.net.proofs.WordSteps.{low-degree}
+use Rattle.net.proofs.steps.least_name.Statement.{statement}
+use Rattle.net.proofs.steps.least_name.Tie as tie
+
+last-of-requires : tie.Need-last-of-requires
+last-of-requires c κs = low-degree (c .args .r .0) (c .pre)
+
+least-of-requires : tie.Need-least-of-requires
+least-of-requires c κs = search needs
+
+returns : tie.Need-returns
+returns c = ap nameOf (c .least-of .ensures)
+
+pub least-name-spec : {M : Type 1} → statement M
+least-name-spec = tie.close (tie.spec last-of-requires least-of-requires returns)

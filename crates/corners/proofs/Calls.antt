@@ -8,14 +8,13 @@ use lib.Seq.{length-take-le}
 use lib.Dec.{eqb}
 use lib.ListN.{length, take}
 use borrow.Author.Tests.{eqb-true, lt-ltb, le-ltb, eq-eqb}
-use Rattle.words.proofs.Codes.{code-degree, code-side, is-code, name-code, name-passes}
+use Rattle.words.proofs.Codes.{code-degree, is-code}
 use Rattle.words.proofs.Refusing.{either-left, either-right, here, next, refuse-after, refuse-before, refuse-first}
-use Rattle.words.specs.Family.{codeOf}
 use Rattle.words.specs.Refusals.{Row, checkCode, checkNameFields, codeRows, degreeRows, nameRows, refusal}
-use Rattle.words.specs.Words.{cornerNumber, degreeOf, digits, path, side, sideOf, wordOf}
+use Rattle.words.specs.Words.{degreeOf, digits, path, side, wordOf}
 use Rattle.words.specs.declared.CornerName.{CornerName}
 use Rattle.words.specs.declared.TriangleCode.{TriangleCode}
-use Rattle.net.specs.Corners.{nameOf, codeInside, corner, named}
+use Rattle.net.specs.Corners.{nameOf, corner, named}
 use Rattle.corners.specs.Answers.{Answer, BackAnswer, CrossAnswer, Lent, NamingAnswer, nameAnswer, stepAnswer}
 use Rattle.net.specs.Division.{cornerOf, sum}
 use Rattle.net.specs.Means.Paths.{digitsOf}
@@ -31,7 +30,6 @@ use Rattle.net.specs.declared.Corner.{Corner}
 use Rattle.net.specs.declared.Point.{Point}
 use Rattle.net.specs.declared.Edge.{Edge}
 use Rattle.net.proofs.Canonical.{canonical-is, name-means}
-use Rattle.net.proofs.CodePlaces.{digitsIn}
 use Rattle.net.proofs.Crossing.{across-is}
 use Rattle.net.proofs.LeastName.{least-is-name, place-in, placeIn}
 use Rattle.net.proofs.Loads.{sum-spread}
@@ -76,26 +74,31 @@ module _ (t : TriangleCode) (i : ℕ) where
 
 -- ---- crossing
 
-pub cross-answers : (t : TriangleCode) (k : ℕ) (r : Edge) → refuseNumbered t k ≡ 0 → r ≡ edgeThere (stepFrom (record { code = t; number = k }))
+pub cross-answers : (t : TriangleCode) (k : ℕ) (r : Edge) → refuseNumbered t k ≡ 0
+    → r ≡ edgeThere (stepFrom (record { code = t; number = k }))
     → CrossAnswer t k (stepAnswer 0 (r .code) (r .number))
 cross-answers t k r z e =
     let p = numbered-passes t k .0 z in
     answering z (record {
       number = refl;
-      across = subst (λ (x : Edge). Across (degreeOf (t .0)) t k (x .code) (x .number)) (sym e) (across-is (is-code t (p .0)) k (p .1));
+      across = subst (λ (x : Edge). Across (degreeOf (t .0)) t k (x .code) (x .number)) (sym e)
+          (across-is (is-code t (p .0)) k (p .1));
     })
 
 -- ---- names
 
-pub naming-answers : (t : TriangleCode) (i : ℕ) {r : CornerName} → refuseNumbered t i ≡ 0 → r ≡ nameOf (leastName 5 (placeAt (t .0 + i)))
+pub naming-answers : (t : TriangleCode) (i : ℕ) {r : CornerName} → refuseNumbered t i ≡ 0
+    → r ≡ nameOf (leastName 5 (placeAt (t .0 + i)))
     → NamingAnswer t i (nameAnswer 0 r)
 naming-answers t i {r} z e =
     let p = numbered-passes t i .0 z in
     let c = is-code t (p .0) in
-    let f : r ≡ nameOf (leastName 5 (placeIn t i)) = e ∙ ap (λ (q : Place). nameOf (leastName 5 q)) (numbered-place t (p .0) i (p .1)) in
+    let f : r ≡ nameOf (leastName 5 (placeIn t i)) = e ∙ ap (λ (q : Place). nameOf (leastName 5 q))
+    (numbered-place t (p .0) i (p .1)) in
     answering z (record {
       number = refl;
-      is = subst (IsName (degreeOf (t .0)) (corner t i)) (sym f) (least-is-name _ (corner t i) (placeIn t i) (place-in c (p .1)) (code-degree c));
+      is = subst (IsName (degreeOf (t .0)) (corner t i)) (sym f)
+          (least-is-name _ (corner t i) (placeIn t i) (place-in c (p .1)) (code-degree c));
     })
 
 -- the least name round the corner that a name names
@@ -176,8 +179,10 @@ module _ (n : ℕ) (weights : List ℕ) where
     back-side e = refuse-first rows tt (next (le-ltb 24 n h) (next (le-ltb (length weights) 12 l) (here (either-right (not (eqb (sum (take 12 weights)) (2 ^ n))) _ (ap not e)))))
 
 -- the name of the corner with twelve weights, from the side that they lie on and a triangle there that has the corner
-pub back-answers : (n : ℕ) (weights : List ℕ) (s : ℕ) (k : Corner) (p : Point) {r : CornerName} → n ≤ 24 → 12 ≤ length weights
-    → eqb (sum (take 12 weights)) (2 ^ n) ≡ true → IsSide s → onSide s 0 (take 12 weights) ≡ true → p ≡ pointIn s (take 12 weights)
+pub back-answers : (n : ℕ) (weights : List ℕ) (s : ℕ) (k : Corner) (p : Point) {r : CornerName} → n ≤ 24
+    → 12 ≤ length weights
+    → eqb (sum (take 12 weights)) (2 ^ n) ≡ true → IsSide s → onSide s 0 (take 12 weights) ≡ true
+    → p ≡ pointIn s (take 12 weights)
     → (k .path < 2 ^ (2 * n)) × OneToThree (k .number) × (cornerOf s (digitsOf n (k .path)) (k .number) ≡ spread s p)
     → r ≡ nameOf (leastName 5 (placeAt (wordOf s n (k .path) + k .number))) → BackAnswer n weights (nameAnswer 0 r)
 back-answers n weights s k p {r} h l e hs on is found eq =
@@ -193,7 +198,8 @@ back-answers n weights s k p {r} h l e hs on is found eq =
       a-number = found .1;
       corner = found .2 ∙ there;
     } in
-    let f : r ≡ nameOf (leastName 5 q) = eq ∙ ap (λ (q : Place). nameOf (leastName 5 q)) (made-place s n (k .path) (k .number) hs h (found .0) (found .1)) in
+    let f : r ≡ nameOf (leastName 5 q) = eq ∙ ap (λ (q : Place). nameOf (leastName 5 q))
+    (made-place s n (k .path) (k .number) hs h (found .0) (found .1)) in
     answering (back-passes n weights .1 (h, l, eqb-true _ _ e, on-one ws s hs on))
     (record { number = refl; is = subst (IsName n ws) (sym f) (least-is-name n ws q a h) })
 

@@ -34,7 +34,8 @@ module _ (r : CornerName) (z : checkName r ≡ 0) where
   pub name-number : OneToThree i
   name-number = name-means r .0 z .1 .number
 
-  pub ring-answers : (out new : List ℕ) (p : Point) (m : ℕ) → 6 ≤ length out → p ≡ pointOf i (stateOf (digitsIn (codeInside r)))
+  pub ring-answers : (out new : List ℕ) (p : Point) (m : ℕ) → 6 ≤ length out
+      → p ≡ pointOf i (stateOf (digitsIn (codeInside r)))
       → m ≡ countOf p → new ≡ over (ringWords m (placeAt (r .0))) out → RingAnswer r out (countAnswer 0 m) new
   ring-answers out new p m l f e put =
       let t = codeInside r in

@@ -1,11 +1,11 @@
--- All digits of a word at once: where they are marked, renumbered over a seam, and changed by a step inside a side. Assumes nothing.
-use mathlib.Core.Path.{_≡_, refl, sym, _∙_, ap, subst}
+-- All digits of a word at once: where they are marked, renumbered over a seam, and changed by a step inside a side.
+-- Assumes nothing.
+use mathlib.Core.Path.{_≡_, refl, _∙_, ap, subst}
 use mathlib.Core.List.{List, [], _∷_}
 use Prim.Native.Nat.{ℕ, zero, suc, _+_, _-_, _*_, _/_, _%_, _^_, _≤_, _<_}
-use native.Mathlib.Nat.{mul-assoc, mul-comm}
+use native.Mathlib.Nat.{mul-comm}
 use native.Mathlib.Omega.{arith}
 use lib.Bits.{bitXor, bitAnd, bitOr, xor-block, or-block, and-block, and-zero-l, and-zero-r, xor-self, xor-zero-r}
-use lib.Pow.{pow-add}
 use Rattle.words.proofs.Digits.{AreDigits, more, none}
 use Rattle.words.specs.Words.{path}
 use Rattle.net.specs.Sides.{OneToThree}
@@ -31,9 +31,11 @@ module _ (a b x y : ℕ) (hx : x < 4) (hy : y < 4) where
 
 -- ---- marks of the digits that are not 0, and of those that are not c either
 
-some-bit : (d : ℕ) → d < 4 → (e : ℕ) → e < 2 → (bitAnd (bitOr d (2 * e + d / 2)) 1 ≡ some d) × (bitOr d (2 * e + d / 2) < 4)
+some-bit : (d : ℕ) → d < 4 → (e : ℕ) → e < 2 → (bitAnd (bitOr d (2 * e + d / 2)) 1 ≡ some d)
+    × (bitOr d (2 * e + d / 2) < 4)
 some-bit =
-    sound (below 4 λ d. below 2 λ e. same (bitAnd (bitOr d (2 * e + d / 2)) 1) (some d) and less (bitOr d (2 * e + d / 2)) 4) refl
+    sound (below 4 λ d. below 2 λ e. same (bitAnd (bitOr d (2 * e + d / 2)) 1) (some d) and less
+    (bitOr d (2 * e + d / 2)) 4) refl
 
 pub somes : (n w : ℕ) → bitAnd (bitOr w (w / 2)) (ones n) ≡ path (each some (digitsOf n w))
 unfolding ones path digitsOf
@@ -54,10 +56,12 @@ some-both : (d : ℕ) → d < 4 → (c : ℕ) → OneToThree c
     → (bitAnd (some d) (some (bitXor d c)) ≡ other c d) × ((bitXor d c < 4) × ((some d < 4) × (some (bitXor d c) < 4)))
 some-both =
     sound (below 4 λ d. threes λ c.
-    same (bitAnd (some d) (some (bitXor d c))) (other c d) and less (bitXor d c) 4 and less (some d) 4 and less (some (bitXor d c)) 4) refl
+    same (bitAnd (some d) (some (bitXor d c))) (other c d) and less (bitXor d c) 4 and less (some d) 4 and less
+    (some (bitXor d c)) 4) refl
 
 pub others : (n w c : ℕ) → OneToThree c
-    → bitAnd (path (each some (digitsOf n w))) (path (each some (digitsOf n (bitXor w (c * ones n))))) ≡ path (each (other c) (digitsOf n w))
+    → bitAnd (path (each some (digitsOf n w))) (path (each some (digitsOf n (bitXor w (c * ones n))))) ≡ path
+    (each (other c) (digitsOf n w))
 unfolding ones path digitsOf
 others zero w c hc = refl
 others (suc n) w c hc =
@@ -72,7 +76,8 @@ others (suc n) w c hc =
     let q : bitXor w (c * (4 * ones n + 1)) / 4 ≡ b = omega (arith, x, t .1 .0) in
     let r : bitXor w (c * (4 * ones n + 1)) % 4 ≡ bitXor d c = omega (arith, x, t .1 .0) in
     (λ i. bitAnd (4 * path (each some (digitsOf n u)) + some d) (4 * path (each some (digitsOf n (q i))) + some (r i)))
-    ∙ and-digit (path (each some (digitsOf n u))) (path (each some (digitsOf n b))) (some d) (some (bitXor d c)) (t .1 .1 .0) (t .1 .1 .1)
+    ∙ and-digit (path (each some (digitsOf n u))) (path (each some (digitsOf n b))) (some d) (some (bitXor d c))
+    (t .1 .1 .0) (t .1 .1 .1)
     ∙ λ i. 4 * others n u c hc i + t .0 i
 
 -- ---- numbers that end in given digits
@@ -126,7 +131,8 @@ path-onto (d ∷ ds) = ap (λ (x : ℕ). 4 * x + d) (path-onto ds)
 changed : (d : ℕ) → d < 4 → (c : ℕ) → OneToThree c → (bitXor d (c * other c d) ≡ flip c d) × (c * other c d < 4)
 changed = sound (below 4 λ d. threes λ c. same (bitXor d (c * other c d)) (flip c d) and less (c * other c d) 4) refl
 
-pub flips : (a c : ℕ) → OneToThree c → {n : ℕ} {ds : List ℕ} → AreDigits n ds → bitXor (onto a ds) (c * path (each (other c) ds)) ≡ onto a (each (flip c) ds)
+pub flips : (a c : ℕ) → OneToThree c → {n : ℕ} {ds : List ℕ} → AreDigits n ds
+    → bitXor (onto a ds) (c * path (each (other c) ds)) ≡ onto a (each (flip c) ds)
 unfolding onto path
 flips a c hc none = ap (bitXor a) (omega arith) ∙ xor-zero-r a
 flips a c hc (more {d = d} {ds = ds} h is) =
@@ -149,7 +155,8 @@ stops n x =
     let a : 3 * (4 * x + 0) ≡ 4 * (3 * x) + 0 = omega arith in
     let b : 3 * (4 * x + 0) + 1 ≡ 4 * (3 * x) + 1 = omega arith in
     (λ i. bitAnd (bitXor (a i) (b i)) (4 * ones n + 1))
-    ∙ ap (λ (y : ℕ). bitAnd y (4 * ones n + 1)) (xor-digit (3 * x) (3 * x) 0 1 (omega arith) (omega arith) ∙ ap (λ (y : ℕ). 4 * y + 1) (xor-self (3 * x)))
+    ∙ ap (λ (y : ℕ). bitAnd y (4 * ones n + 1)) (xor-digit (3 * x) (3 * x) 0 1 (omega arith) (omega arith)
+    ∙ ap (λ (y : ℕ). 4 * y + 1) (xor-self (3 * x)))
     ∙ and-digit 0 (ones n) 1 1 (omega arith) (omega arith)
     ∙ ap (λ (y : ℕ). 4 * y + 1) (and-zero-l (ones n))
 
@@ -173,18 +180,22 @@ at-0 = sound (threes λ k. same (other k 0) 0 and same (bitXor 0 k) k) refl
 at-k : (k : ℕ) → OneToThree k → (other k k ≡ 0) × (bitXor k k ≡ 0)
 at-k = sound (threes λ k. same (other k k) 0 and same (bitXor k k) 0) refl
 
-at-other : (d : ℕ) → d < 4 → (k : ℕ) → OneToThree k → (d ≡ 0 → ⊥) → (d ≡ k → ⊥) → (other k d ≡ 1) × (bitXor d k ≡ 6 - k - d)
-at-other = sound (below 4 λ d. threes λ k. no (same d 0) then (no (same d k) then (same (other k d) 1 and same (bitXor d k) (6 - k - d)))) refl
+at-other : (d : ℕ) → d < 4 → (k : ℕ) → OneToThree k → (d ≡ 0 → ⊥) → (d ≡ k → ⊥) → (other k d ≡ 1)
+    × (bitXor d k ≡ 6 - k - d)
+at-other = sound (below 4 λ d. threes λ k. no (same d 0) then
+    (no (same d k) then (same (other k d) 1 and same (bitXor d k) (6 - k - d)))) refl
 
 -- one digit more
 module _ (k a n d : ℕ) (ds : List ℕ) (hk : OneToThree k) (hd : d < 4) where
   abbrev m : ℕ
   m = path (each (other k) ds)
 
-  here : (e : ℕ) → other k d ≡ 0 → bitXor d k ≡ e → Spans k a (suc n) (d ∷ ds) (spanOf (suc (suc n)) (4 * m + other k d)) (inside (e ∷ ds))
+  here : (e : ℕ) → other k d ≡ 0 → bitXor d k ≡ e → Spans k a (suc n) (d ∷ ds)
+      (spanOf (suc (suc n)) (4 * m + other k d)) (inside (e ∷ ds))
   unfolding onto
   here e o x =
-      let s : spanOf (suc (suc n)) (4 * m + other k d) ≡ 1 = ap (λ (y : ℕ). spanOf (suc (suc n)) (4 * m + y)) o ∙ stops (suc n) m in
+      let s : spanOf (suc (suc n)) (4 * m + other k d) ≡ 1 = ap (λ (y : ℕ). spanOf (suc (suc n)) (4 * m + y)) o
+      ∙ stops (suc n) m in
       let f : k * 1 ≡ 4 * 0 + k = omega arith in (
         omega (arith, s, four n, pow-one n),
         ap (λ (y : ℕ). bitXor (4 * onto a ds + d) (k * y)) s
@@ -215,7 +226,8 @@ module _ (k a n d : ℕ) (ds : List ℕ) (hk : OneToThree k) (hd : d < 4) where
       ap (λ (y : ℕ). spanOf (suc (suc n)) (4 * m + y)) o ∙ goes-on (suc n) m in
       omega (arith, s, four n, ih)
 
-pub spans : (k a : ℕ) → OneToThree k → {n : ℕ} {ds : List ℕ} → AreDigits n ds → Spans k a n ds (spanOf (suc n) (path (each (other k) ds))) (cross k ds)
+pub spans : (k a : ℕ) → OneToThree k → {n : ℕ} {ds : List ℕ} → AreDigits n ds
+    → Spans k a n ds (spanOf (suc n) (path (each (other k) ds))) (cross k ds)
 unfolding cross path ones
 spans k a hk none = omega arith
 spans k a hk (more {n = n} {d = d} {ds = ds} h is) =
@@ -223,4 +235,5 @@ spans k a hk (more {n = n} {d = d} {ds = ds} h is) =
     (λ e. let t = at-0 k hk in here k a n d ds hk (omega arith) k (rw e (t .0)) (rw e (t .1)))
     (λ z. picked (Spans k a (suc n) (d ∷ ds) (spanOf (suc (suc n)) (4 * path (each (other k) ds) + other k d))) d k
     (λ e. let t = at-k k hk in here k a n d ds hk (omega arith) 0 (rw e (t .0)) (rw e (t .1)))
-    (λ f. let t = at-other d (omega arith) k hk z f in further k a n d ds hk (omega arith) (t .0) (t .1) (cross k ds) (spans k a hk is)))
+    (λ f. let t = at-other d (omega arith) k hk z f in further k a n d ds hk (omega arith) (t .0) (t .1) (cross k ds)
+    (spans k a hk is)))

@@ -8,7 +8,7 @@ use lib.ListN.{length}
 use lib.Pow.{pow-add, pow-mono}
 use mathlib.Core.Bool.{Bool, true, false}
 use lib.Dec.{eqb}
-use borrow.Author.Tests.{eq-eqb, ne-eqb, eqb-true, eqb-false}
+use borrow.Author.Tests.{eqb-true, eqb-false}
 use Rattle.words.proofs.Digits.{AreDigits, more, none, path-injective, path-lt}
 use Rattle.words.specs.Words.{path}
 use Rattle.net.specs.Means.Paths.{digitsOf}
@@ -71,7 +71,8 @@ Kept (inside ds) n = AreDigits n ds
 Kept outside n = Unit {0}
 
 -- what holds of the one or the other by a test
-pub picked : (P : Move (List ℕ) → Type 0) (a b : ℕ) {x y : Move (List ℕ)} → (a ≡ b → P x) → ((a ≡ b → ⊥) → P y) → P (pick (eqb a b) x y)
+pub picked : (P : Move (List ℕ) → Type 0) (a b : ℕ) {x y : Move (List ℕ)} → (a ≡ b → P x) → ((a ≡ b → ⊥) → P y)
+    → P (pick (eqb a b) x y)
 picked P a b {x} {y} f g = go (eqb a b) refl
   where
     go : (t : Bool) → eqb a b ≡ t → P (pick t x y)

@@ -42,7 +42,8 @@ pub ring-last : (m : ℕ) (q : Place) (out : List ℕ) (w : ℕ) → 1 ≤ m →
     → take m (ringWords m q) ++ drop m (set out 0 w) ≡ over (ringWords m q) out
 ring-last m q out w h l =
     let n = ring-length m q in
-    (λ j. take-all m (ringWords m q) (omega arith) j ++ kept m out h l j) ∙ ap (λ (k : ℕ). ringWords m q ++ drop k out) (sym n)
+    (λ j. take-all m (ringWords m q) (omega arith) j ++ kept m out h l j)
+    ∙ ap (λ (k : ℕ). ringWords m q ++ drop k out) (sym n)
   where
     -- places after the first are not changed by it
     kept : (m : ℕ) (out : List ℕ) → 1 ≤ m → m ≤ length out → drop m (set out 0 w) ≡ drop m out

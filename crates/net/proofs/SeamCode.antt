@@ -35,7 +35,8 @@ pub vertex-low : (a b : ℕ) → (a ≡ 0 → ⊥) → b ≡ 0 → a + 1 ≡ ver
 vertex-low a b f e = rw e (not-zero (λ a. a + 1 ≡ vertex a 0) (λ a. omega arith) a f)
 
 pub vertex-high : (a b : ℕ) → (a ≡ 0 → ⊥) → (b ≡ 0 → ⊥) → a + 6 ≡ vertex a b
-vertex-high a b f g = not-zero (λ a. a + 6 ≡ vertex a b) (λ a. not-zero (λ b. suc a + 6 ≡ vertex (suc a) b) (λ b. omega arith) b g) a f
+vertex-high a b f g = not-zero (λ a. a + 6 ≡ vertex a b) (λ a.
+    not-zero (λ b. suc a + 6 ≡ vertex (suc a) b) (λ b. omega arith) b g) a f
 
 -- ---- seams
 

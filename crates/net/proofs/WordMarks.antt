@@ -1,12 +1,13 @@
--- A word with a number below its digits: its marks, the word renumbered over a seam, and the word after a step inside a side. Assumes nothing.
+-- A word with a number below its digits: its marks, the word renumbered over a seam, and the word after a step inside a
+-- side. Assumes nothing.
 use mathlib.Core.Path.{_≡_, refl, sym, _∙_, ap, subst}
-use mathlib.Core.List.{List, [], _∷_}
+use mathlib.Core.List.{List, _∷_}
 use Prim.Native.Nat.{ℕ, zero, suc, _+_, _-_, _*_, _^_, _≤_, _<_}
-use native.Mathlib.Nat.{mul-assoc, mul-le-mul-right, lt-of-mul-lt-mul-right, mul-lt-mul-of-pos-right}
+use native.Mathlib.Nat.{mul-assoc, mul-le-mul-right, mul-lt-mul-of-pos-right}
 use native.Mathlib.Omega.{arith}
-use lib.Bits.{bitXor, bitAnd, xor-block, and-block, and-zero-l, xor-self, xor-lt}
+use lib.Bits.{bitXor, bitAnd, xor-block, and-block, and-zero-l, xor-self}
 use lib.Pow.{pow-add, pow-pos, pow-mono}
-use Rattle.words.proofs.Digits.{AreDigits, more, path-lt}
+use Rattle.words.proofs.Digits.{AreDigits, more}
 use Rattle.words.specs.Words.{path, wordOf}
 use Rattle.net.specs.Sides.{OneToThree}
 use Rattle.net.specs.Division.{each}
@@ -15,9 +16,10 @@ use Rattle.net.specs.Means.Seams.{flip}
 use Rattle.net.specs.Means.States.{Move, cross, inside, outside}
 use Rattle.net.specs.Means.Marks.{ones, other, marks, span}
 use Rattle.net.proofs.Flips.{flip-digits}
-use Rattle.net.proofs.Marking.{Spans, digits-onto, flips, onto, onto-is, pad, pad-digits, pad-each, pad-onto, path-onto, spanOf, spans}
+use Rattle.net.proofs.Marking.{Spans, digits-onto, flips, onto, onto-is, pad, pad-digits, pad-each, pad-onto}
+use Rattle.net.proofs.Marking.{path-onto, spanOf, spans}
 use Rattle.net.proofs.Paths.{four}
-use Rattle.net.proofs.Table.{sound, below, threes, same, less, most, _and_}
+use Rattle.net.proofs.Table.{sound, below, threes, same, most, _and_}
 
 -- ---- ones
 
@@ -29,7 +31,8 @@ ones-small (suc n) = omega (arith, ones-small n, four n)
 ones-add : (m n : ℕ) → ones (n + m) ≡ ones m * 2 ^ (2 * n) + ones n
 unfolding ones
 ones-add m zero = let e : 0 + m ≡ m = omega arith in rw e (omega arith)
-ones-add m (suc n) = let e : suc n + m ≡ suc (n + m) = omega arith in rw e (omega (arith, ones-add m n, ap (λ (x : ℕ). ones m * x) (four n)))
+ones-add m (suc n) = let e : suc n + m ≡ suc (n + m) = omega arith in
+    rw e (omega (arith, ones-add m n, ap (λ (x : ℕ). ones m * x) (four n)))
 
 -- ---- the word of a side, n digits and a number j
 
@@ -44,7 +47,8 @@ module _ (s : ℕ) {n : ℕ} {ds : List ℕ} (short : n ≤ 24) (are : AreDigits
   all = j ∷ pad (26 - n) ds
 
   all-digits : AreDigits 27 all
-  all-digits = let e : suc (26 - n + n) ≡ 27 = omega arith in subst (λ (m : ℕ). AreDigits m all) e (more (omega arith) (pad-digits (26 - n) are))
+  all-digits = let e : suc (26 - n + n) ≡ 27 = omega arith in
+      subst (λ (m : ℕ). AreDigits m all) e (more (omega arith) (pad-digits (26 - n) are))
 
   unit-is : 4 * 2 ^ (2 * (26 - n)) ≡ unit
   unit-is = let e : 2 * suc (26 - n) ≡ 54 - 2 * n = omega arith in sym (four (26 - n)) ∙ ap (λ (m : ℕ). 2 ^ m) e
@@ -54,7 +58,8 @@ module _ (s : ℕ) {n : ℕ} {ds : List ℕ} (short : n ≤ 24) (are : AreDigits
   padded a es i = omega (arith, pad-onto a (26 - n) es, ap (λ (x : ℕ). onto a es * x) unit-is)
 
   filled : 2 ^ (2 * n) * unit ≡ 2 ^ 54
-  filled = let e : 2 * n + (54 - 2 * n) ≡ 54 = omega arith in sym (pow-add 2 (2 * n) (54 - 2 * n)) ∙ ap (λ (m : ℕ). 2 ^ m) e
+  filled = let e : 2 * n + (54 - 2 * n) ≡ 54 = omega arith in sym (pow-add 2 (2 * n) (54 - 2 * n))
+      ∙ ap (λ (m : ℕ). 2 ^ m) e
 
   -- other digits and another number in the same place
   pub word-onto : {es : List ℕ} → AreDigits n es → (i : ℕ) → wordOf s n (path es) + i ≡ onto above es * unit + i
@@ -86,7 +91,8 @@ module _ (s : ℕ) {n : ℕ} {ds : List ℕ} (short : n ≤ 24) (are : AreDigits
 
   -- ---- over a seam
 
-  pub flipped : (c : ℕ) → OneToThree c → bitXor word (c * marks (other c) word) ≡ wordOf s n (path (each (flip c) ds)) + flip c j
+  pub flipped : (c : ℕ) → OneToThree c → bitXor word (c * marks (other c) word) ≡ wordOf s n (path (each (flip c) ds))
+      + flip c j
   unfolding onto
   flipped c hc =
       (λ i. bitXor (word-all i) (c * marks-all (other c) i))
@@ -127,15 +133,18 @@ module _ (s : ℕ) {n : ℕ} {ds : List ℕ} (short : n ≤ 24) (are : AreDigits
         ap (λ (y : ℕ). bitAnd (bitXor (3 * y) (3 * y + unit)) (ones 28)) m
         ∙ (λ i. bitAnd (bitXor (a i) (b i)) (c i))
         ∙ ap (λ (y : ℕ). bitAnd y (ones (suc n) * unit + ones (27 - n)))
-        (xor-block (54 - 2 * n) (3 * q) (3 * q + 1) (3 * o) (3 * o) low low ∙ ap (λ (y : ℕ). bitXor (3 * q) (3 * q + 1) * unit + y) (xor-self (3 * o)))
+        (xor-block (54 - 2 * n) (3 * q) (3 * q + 1) (3 * o) (3 * o) low low
+        ∙ ap (λ (y : ℕ). bitXor (3 * q) (3 * q + 1) * unit + y) (xor-self (3 * o)))
         ∙ and-block (54 - 2 * n) (bitXor (3 * q) (3 * q + 1)) (ones (suc n)) 0 (ones (27 - n)) (pow-pos (54 - 2 * n)) d
         ∙ ap (λ (y : ℕ). x * unit + y) (and-zero-l (ones (27 - n)))
         ∙ omega arith
 
-    -- the step that leaves the side is told by its span; the other changes the word by k at each place of the span, and the number by any l
+    -- the step that leaves the side is told by its span; the other changes the word by k at each place of the span, and
+    -- the number by any l
     abbrev pub Steps : Move (List ℕ) → Type 0
     Steps (inside es) =
-        (span word unit k < 2 ^ 54) × ((l : ℕ) → l < 4 → bitXor word (k * span word unit k + l) ≡ onto above es * unit + bitXor j l)
+        (span word unit k < 2 ^ 54) × ((l : ℕ) → l < 4 → bitXor word (k * span word unit k + l) ≡ onto above es * unit
+        + bitXor j l)
     Steps outside = 2 ^ 54 ≤ span word unit k
 
     steps-by : (m : Move (List ℕ)) → Spans k above n ds x m → Steps m

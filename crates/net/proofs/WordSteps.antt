@@ -1,14 +1,15 @@
 -- The step across an edge and the walk round a corner, on words. Assumes nothing.
 use mathlib.Core.Path.{_≡_, refl, sym, _∙_, ap, subst}
 use mathlib.Core.List.{List}
-use Prim.Native.Nat.{ℕ, zero, suc, _+_, _-_, _*_, _/_, _%_, _^_, _≤_, _<_}
+use Prim.Native.Nat.{ℕ, suc, _+_, _-_, _*_, _/_, _%_, _^_, _≤_, _<_}
 use native.Mathlib.Nat.{mul-le-mul}
 use native.Mathlib.Omega.{arith}
 use lib.Bits.{bitXor, bitAnd, bitOr}
 use lib.Pow.{pow-mono, shr-shr}
 use lib.ListN.{length}
 use borrow.Author.Tests.{lt-ltb, le-ltb}
-use Rattle.words.proofs.Codes.{code-below, code-degree, code-name, code-passes, code-side, code-word, is-code, name-code, name-passes, path-code}
+use Rattle.words.proofs.Codes.{code-below, code-degree, code-name, code-passes, code-side, code-word, is-code}
+use Rattle.words.proofs.Codes.{name-code, name-passes, path-code}
 use Rattle.words.proofs.Digits.{AreDigits, digits-are, more, none, path-lt, side-top}
 use Rattle.words.proofs.WordLayout.{below-side}
 use Rattle.words.specs.Family.{codeOf}
@@ -22,10 +23,11 @@ use Rattle.net.specs.Means.Paths.{digitsOf}
 use Rattle.net.specs.Means.Marks.{marks, ones, other, some, span}
 use Rattle.net.specs.Means.Seams.{flip, seamKept, seamSide}
 use Rattle.net.specs.Means.States.{Move, cross, inside, outside}
-use Rattle.net.specs.Means.Walks.{Arrival, Place, around, arrival, arrived, edgeThere, leastName, lesser, nameAt, overSeam, placeAt, ringAt, stepOf, wordAt}
+use Rattle.net.specs.Means.Walks.{Arrival, Place, around, arrival, arrived, edgeThere, leastName, lesser, nameAt}
+use Rattle.net.specs.Means.Walks.{overSeam, placeAt, ringAt, stepOf, wordAt}
 use Rattle.net.specs.Sides.{IsSide, OneToThree, next, prev}
 use Rattle.net.proofs.CodePlaces.{code-for, digitsIn, in-digits, in-length}
-use Rattle.net.proofs.Flips.{each-length, flip-digit, flip-digits, flip-prev, flip-three}
+use Rattle.net.proofs.Flips.{each-length, flip-digit, flip-digits, flip-prev}
 use Rattle.net.proofs.LeastName.{place-code, place-digits, place-side, place-in, placeIn}
 use Rattle.net.proofs.Paths.{Kept, cross-kept, digits-of, of-digits, of-length, path-of}
 use Rattle.net.proofs.Rings.{At, around-at, ring-at}
@@ -39,15 +41,16 @@ use Rattle.net.proofs.WordMarks.{flipped, Steps, steps, word-onto}
 -- ---- a word with a number below its digits
 
 -- the number, and the code
-module _ (s : ℕ) {n : ℕ} {ds : List ℕ} (hs : IsSide s) (short : n ≤ 24) (are : AreDigits n ds) (i : ℕ) (hi : i < 4) where
-  code-is-one : IsCode n (codeOf (wordOf s n (path ds)))
-  code-is-one = path-code s n (hs .0) (hs .1) short (path ds) (path-lt are)
+module _ (s : ℕ) {n : ℕ} {ds : List ℕ} (hs : IsSide s) (short : n ≤ 24) (are : AreDigits n ds) (i : ℕ) (hi : i < 4)
+  where
+    code-is-one : IsCode n (codeOf (wordOf s n (path ds)))
+    code-is-one = path-code s n (hs .0) (hs .1) short (path ds) (path-lt are)
 
-  pub number-of : (wordOf s n (path ds) + i) % 4 ≡ i
-  number-of = omega (arith, code-passes _ .0 (code-is-one .passes) .1)
+    pub number-of : (wordOf s n (path ds) + i) % 4 ≡ i
+    number-of = omega (arith, code-passes _ .0 (code-is-one .passes) .1)
 
-  pub code-of : wordOf s n (path ds) + i - (wordOf s n (path ds) + i) % 4 ≡ wordOf s n (path ds)
-  code-of = omega (arith, number-of)
+    pub code-of : wordOf s n (path ds) + i - (wordOf s n (path ds) + i) % 4 ≡ wordOf s n (path ds)
+    code-of = omega (arith, number-of)
 
 -- a place of the walk round a corner: its name has the fields of one, and gives it back
 module _ {n : ℕ} {P : List ℕ} {q : Place} (a : At n P q) (low : n ≤ 24) where
@@ -76,7 +79,8 @@ module _ {n : ℕ} {P : List ℕ} {q : Place} (a : At n P q) (low : n ≤ 24) wh
   a-code = subst (λ (w : ℕ). IsCode n (codeOf w)) (sym word-is) (place-code a low)
 
   fields : (checkNameFields (nameOf (nameAt q)) ≡ 0) × (degreeOf (nameAt q) ≡ degreeOf (words.inside (nameAt q)))
-  fields = code-name (nameOf (nameAt q)) (a-code .passes) (rw number-is (a .a-number .0)) (rw number-is (a .a-number .1))
+  fields = code-name (nameOf (nameAt q)) (a-code .passes) (rw number-is (a .a-number .0))
+      (rw number-is (a .a-number .1))
 
   pub name-fields : checkNameFields (nameOf (nameAt q)) ≡ 0
   name-fields = fields .0
@@ -87,7 +91,12 @@ module _ {n : ℕ} {P : List ℕ} {q : Place} (a : At n P q) (low : n ≤ 24) wh
   pub name-place : placeAt (nameAt q) ≡ q
   unfolding wordAt
   name-place =
-      (λ i. record { side = sideOf (word-is i); digits = digits (word-is i) (degreeOf (word-is i)); number = number-is i })
+      (λ i. record {
+        side = sideOf (word-is i);
+        digits = digits (word-is i) (degreeOf (word-is i));
+        number =
+            number-is i;
+      })
       ∙ λ i. record { side = place-side a low i; digits = place-digits a low i; number = q .number }
 
 -- a word with the fields of a name: its place, of which it is the name
@@ -113,7 +122,8 @@ module _ (r : ℕ) (e : checkNameFields (nameOf r) ≡ 0) where
 
 -- ---- a step from a side and digits, by the span of their word
 
-module _ (s : ℕ) {n : ℕ} {ds : List ℕ} (short : n ≤ 24) (are : AreDigits n ds) (j : ℕ) (hj : j < 4) (k : ℕ) (hk : OneToThree k) where
+module _ (s : ℕ) {n : ℕ} {ds : List ℕ} (short : n ≤ 24) (are : AreDigits n ds) (j : ℕ) (hj : j < 4) (k : ℕ)
+    (hk : OneToThree k) where
   abbrev there : Arrival
   there = stepOf k s ds
 
@@ -127,7 +137,8 @@ module _ (s : ℕ) {n : ℕ} {ds : List ℕ} (short : n ≤ 24) (are : AreDigits
     step-inside h l hl = go (cross k ds) (steps s short are j hj k hk) (cross-kept k ds (hk .0) (hk .1) are)
       where
         go : (m : Move (List ℕ)) → Steps s short are j hj k hk m → Kept m n
-            → (bitXor w (k * x + l) ≡ wordOf (arrival k s ds m .side) n (path (arrival k s ds m .digits)) + bitXor j l) × (arrival k s ds m .edge ≡ k)
+            → (bitXor w (k * x + l) ≡ wordOf (arrival k s ds m .side) n (path (arrival k s ds m .digits)) + bitXor j l)
+            × (arrival k s ds m .edge ≡ k)
         go (inside es) c d = (
           (λ i. bitXor (e i) (k * x-is i + l)) ∙ c .1 l hl ∙ sym (word-onto s short are j hj d (bitXor j l)),
           refl,
@@ -170,11 +181,13 @@ pub somes-marked : (w : ℕ) → bitAnd (bitOr w (w / 2)) 6004799503160661 ≡ m
 unfolding marks ones
 somes-marked w = somes 27 w
 
-pub others-marked : (w c : ℕ) → OneToThree c → bitAnd (marks some w) (marks some (bitXor w (c * 6004799503160661))) ≡ marks (other c) w
+pub others-marked : (w c : ℕ) → OneToThree c → bitAnd (marks some w) (marks some (bitXor w (c * 6004799503160661))) ≡
+    marks (other c) w
 unfolding marks ones
 others-marked w c hc = others 27 w c hc
 
-pub spanned : (w last k : ℕ) → bitAnd (bitXor (3 * marks (other k) w) (3 * marks (other k) w + last)) 24019198012642645 ≡ span w last k
+pub spanned : (w last k : ℕ) → bitAnd (bitXor (3 * marks (other k) w) (3 * marks (other k) w + last)) 24019198012642645
+    ≡ span w last k
 unfolding span ones
 spanned w last k = refl
 
@@ -193,7 +206,8 @@ side-changed s t {n} {ds} hs low are i hi =
 side-inside : (r : ℕ) → sideOf r ≡ sideOf (words.inside r)
 side-inside r =
     let e : r / 4 ≡ words.inside r / 4 = omega arith in
-    side-top r ∙ sym (shr-shr r 2 57) ∙ ap (λ (m : ℕ). m / 2 ^ 57) e ∙ shr-shr (words.inside r) 2 57 ∙ sym (side-top (words.inside r))
+    side-top r ∙ sym (shr-shr r 2 57) ∙ ap (λ (m : ℕ). m / 2 ^ 57) e ∙ shr-shr (words.inside r) 2 57
+    ∙ sym (side-top (words.inside r))
 
 module _ (r k : ℕ) (e : checkNameFields (nameOf r) ≡ 0) (hk : OneToThree k) where
   abbrev here : Place
@@ -214,7 +228,8 @@ module _ (r k : ℕ) (e : checkNameFields (nameOf r) ≡ 0) (hk : OneToThree k) 
   pub word-here : r ≡ wordOf (here .side) (degreeOf r) (path (here .digits)) + here .number
   word-here = place-name r e ∙ name-word (at-place r e) (low-degree r e)
 
-  pub seam-word : bitXor r (c * marks (other c) r) % 2 ^ 59 + 2 ^ 59 * seamSide (here .side) k ≡ nameAt (overSeam k here)
+  pub seam-word : bitXor r (c * marks (other c) r) % 2 ^ 59 + 2 ^ 59 * seamSide (here .side) k ≡ nameAt
+      (overSeam k here)
   unfolding nameAt wordAt
   seam-word =
       let a = at-place r e in
@@ -223,7 +238,8 @@ module _ (r k : ℕ) (e : checkNameFields (nameOf r) ≡ 0) (hk : OneToThree k) 
       let i = here .number in
       let hi : i < 4 = omega (arith, a .a-number .1) in
       let f = flipped (here .side) low are i hi c hc in
-      ap (λ (w : ℕ). w % 2 ^ 59 + 2 ^ 59 * seamSide (here .side) k) (ap (λ (w : ℕ). bitXor w (c * marks (other c) w)) word-here ∙ f)
+      ap (λ (w : ℕ). w % 2 ^ 59 + 2 ^ 59 * seamSide (here .side) k)
+      (ap (λ (w : ℕ). bitXor w (c * marks (other c) w)) word-here ∙ f)
       ∙ side-changed (here .side) (seamSide (here .side) k) (a .a-side) low (flip-digits c hc are) (flip c i)
       (omega (arith, flip-digit c i hc (omega arith)))
       ∙ ap (λ (m : ℕ). wordOf (seamSide (here .side) k) m (path (each (flip c) (here .digits))) + flip c i)
@@ -249,7 +265,12 @@ module _ (t : TriangleCode) (z : checkCode t ≡ 0) (k : ℕ) (hk : OneToThree k
 
   pub numbered-place : placeAt (t .0 + k) ≡ placeIn t k
   numbered-place =
-      λ i. record { side = sideOf (inside-numbered i); digits = digits (inside-numbered i) (degreeOf (inside-numbered i)); number = number-numbered i }
+      λ i. record {
+        side = sideOf (inside-numbered i);
+        digits =
+            digits (inside-numbered i) (degreeOf (inside-numbered i));
+        number = number-numbered i;
+      }
 
   a-code-here : IsCode (degreeOf (t .0)) t
   a-code-here = is-code t z
@@ -270,16 +291,19 @@ module _ (t : TriangleCode) (z : checkCode t ≡ 0) (k : ℕ) (hk : OneToThree k
   as-word = omega (arith, code-word a-code-here)
 
   as-long : length (to .digits) ≡ degreeOf (t .0)
-  as-long = step-beside k s (digitsIn t) hk (code-side a-code-here) (in-digits a-code-here) .degree ∙ in-length a-code-here
+  as-long = step-beside k s (digitsIn t) hk (code-side a-code-here) (in-digits a-code-here) .degree
+      ∙ in-length a-code-here
 
   module _ {x : ℕ} (g : x ≡ span (t .0) (2 ^ (54 - 2 * degreeOf (t .0))) k) where
     pub across-inside : x < 2 ^ 54 → record { code = codeOf (bitXor (t .0) (k * x)); number = k } ≡ edgeThere to
     across-inside h =
         let a = step-inside s short these 0 (omega arith) k hk as-word g h 0 (omega arith) in
         let m : k * x ≡ k * x + 0 = omega arith in
-        let n : wordOf (to .side) (degreeOf (t .0)) (path (to .digits)) + bitXor 0 0 ≡ wordOf (to .side) (degreeOf (t .0)) (path (to .digits)) =
+        let n : wordOf (to .side) (degreeOf (t .0)) (path (to .digits)) + bitXor 0 0 ≡ wordOf (to .side)
+        (degreeOf (t .0)) (path (to .digits)) =
         omega arith in
-        let e = ap (bitXor (t .0)) m ∙ a .0 ∙ n ∙ ap (λ (l : ℕ). wordOf (to .side) l (path (to .digits))) (sym as-long) in
+        let e = ap (bitXor (t .0)) m ∙ a .0 ∙ n ∙ ap (λ (l : ℕ). wordOf (to .side) l (path (to .digits))) (sym as-long)
+        in
         λ i. record { code = codeOf (e i); number = sym (a .1) i }
 
     pub across-seam : (x < 2 ^ 54 → ⊥) → {r : ℕ} → r ≡ nameAt (overSeam k (placeAt (t .0 + k)))
@@ -292,13 +316,15 @@ module _ (t : TriangleCode) (z : checkCode t ≡ 0) (k : ℕ) (hk : OneToThree k
         let b = step-outside s short these 0 (omega arith) k hk as-word g h in
         let l : length es ≡ degreeOf (t .0) = each-length (flip c) (digitsIn t) ∙ in-length a-code-here in
         let e : r ≡ wordOf (seamSide s k) (degreeOf (t .0)) (path es) + flip c k =
-        f ∙ ap (λ (q : Place). nameAt (overSeam k q)) numbered-place ∙ ap (λ (m : ℕ). wordOf (seamSide s k) m (path es) + flip c k) l in
+        f ∙ ap (λ (q : Place). nameAt (overSeam k q)) numbered-place
+        ∙ ap (λ (m : ℕ). wordOf (seamSide s k) m (path es) + flip c k) l in
         let i : flip c k < 4 = omega (arith, flip-digit c k hc (hk .1)) in
         let hs = seam-side s (code-side a-code-here) k hk in
         let d = flip-digits c hc these in
         let u : r % 4 ≡ flip c k = ap (λ (y : ℕ). y % 4) e ∙ number-of (seamSide s k) hs short d (flip c k) i in
         let w : r - r % 4 ≡ wordOf (seamSide s k) (length es) (path es) =
-        ap (λ (y : ℕ). y - y % 4) e ∙ code-of (seamSide s k) hs short d (flip c k) i ∙ ap (λ (m : ℕ). wordOf (seamSide s k) m (path es)) (sym l) in
+        ap (λ (y : ℕ). y - y % 4) e ∙ code-of (seamSide s k) hs short d (flip c k) i
+        ∙ ap (λ (m : ℕ). wordOf (seamSide s k) m (path es)) (sym l) in
         (λ j. record { code = codeOf (w j); number = u j }) ∙ ap edgeThere (sym b)
 
 -- ---- for the code: round a corner
@@ -310,7 +336,8 @@ third = sound (threes λ i. same (bitXor i (next i)) (next (next i)) and same (p
 pub turn-edge : (r : ℕ) → checkNameFields (nameOf r) ≡ 0 → {k : ℕ} → k ≡ next (cornerNumber r) → OneToThree k
 turn-edge r e f = rw f (next-three (cornerNumber r) (at-place r e .a-number))
 
-module _ (r : ℕ) (e : checkNameFields (nameOf r) ≡ 0) {k x : ℕ} (f : k ≡ next (cornerNumber r)) (g : x ≡ span r (2 ^ (54 - 2 * degreeOf r)) k) where
+module _ (r : ℕ) (e : checkNameFields (nameOf r) ≡ 0) {k x : ℕ} (f : k ≡ next (cornerNumber r))
+    (g : x ≡ span r (2 ^ (54 - 2 * degreeOf r)) k) where
   abbrev q : Place
   q = placeAt r
 
@@ -336,9 +363,11 @@ module _ (r : ℕ) (e : checkNameFields (nameOf r) ≡ 0) {k x : ℕ} (f : k ≡
       let s = step-inside (q .side) low are i hi k edge (word-here r k e edge) g h k (omega (arith, edge .1)) in
       let t = third i (a .a-number) in
       let m : k * (x + 1) ≡ k * x + k = omega arith in
-      let n : bitXor i k ≡ next (stepOf k (q .side) (q .digits) .edge) = ap (bitXor i) f ∙ t .0 ∙ ap next (sym (s .1 ∙ f)) in
+      let n : bitXor i k ≡ next (stepOf k (q .side) (q .digits) .edge) = ap (bitXor i) f ∙ t .0
+      ∙ ap next (sym (s .1 ∙ f)) in
       let b = name-word (at-next r e) low in
-      ap (bitXor r) m ∙ s .0 ∙ ap (λ (y : ℕ). wordOf (stepOf k (q .side) (q .digits) .side) (degreeOf r) (path (stepOf k (q .side) (q .digits) .digits)) + y) n
+      ap (bitXor r) m ∙ s .0 ∙ ap (λ (y : ℕ). wordOf (stepOf k (q .side) (q .digits) .side) (degreeOf r)
+      (path (stepOf k (q .side) (q .digits) .digits)) + y) n
       ∙ rw f (sym b)
 
   pub turn-over : (x < 2 ^ 54 → ⊥) → nameAt (overSeam k q) ≡ nameAt (around q)
@@ -350,9 +379,11 @@ module _ (r : ℕ) (e : checkNameFields (nameOf r) ≡ 0) {k x : ℕ} (f : k ≡
       let hc = seam-kept (q .side) (a .a-side) k edge in
       let t = third i (a .a-number) in
       let n : flip c i ≡ next (flip c k) =
-      ap (flip c) (sym (t .1)) ∙ flip-prev c hc (next i) (next-three i (a .a-number)) ∙ ap (λ (m : ℕ). next (flip c m)) (sym f) in
+      ap (flip c) (sym (t .1)) ∙ flip-prev c hc (next i) (next-three i (a .a-number))
+      ∙ ap (λ (m : ℕ). next (flip c m)) (sym f) in
       let p : overSeam k q ≡ arrived (stepOf k (q .side) (q .digits)) =
-      (λ j. record { side = seamSide (q .side) k; digits = each (flip c) (q .digits); number = n j }) ∙ ap arrived (sym s) in
+      (λ j. record { side = seamSide (q .side) k; digits = each (flip c) (q .digits); number = n j })
+      ∙ ap arrived (sym s) in
       ap nameAt (p ∙ ap (λ (m : ℕ). arrived (stepOf m (q .side) (q .digits))) f)
 
 -- a word that is the name of a place round the corner: its fields, its last digit, its place
@@ -378,7 +409,8 @@ module _ (r : ℕ) (e : checkNameFields (nameOf r) ≡ 0) (i : ℕ) where
 
   module _ {t : ℕ} (f : t ≡ nameAt (ringAt (placeAt r) i)) where
     pub word-walk : t - t % 4 ≡ wordAt (ringAt (placeAt r) i)
-    word-walk = word-place t (fields-there at-walk (low-degree r e) f) ∙ ap wordAt (place-there at-walk (low-degree r e) f)
+    word-walk = word-place t (fields-there at-walk (low-degree r e) f)
+        ∙ ap wordAt (place-there at-walk (low-degree r e) f)
 
     pub next-walk : {u : ℕ} → u ≡ nameAt (around (placeAt t)) → u ≡ nameAt (ringAt (placeAt r) (suc i))
     unfolding ringAt
@@ -398,7 +430,8 @@ least-none m q e = rw e
 
 pub least-more : (m : ℕ) (q : Place) → (m ≡ 0 → ⊥) → lesser (nameAt q) (leastName (m - 1) (around q)) ≡ leastName m q
 unfolding leastName
-least-more m q = not-zero (λ m. lesser (nameAt q) (leastName (m - 1) (around q)) ≡ leastName m q) (λ m. let e : suc m - 1 ≡ m = omega arith in rw e) m
+least-more m q = not-zero (λ m. lesser (nameAt q) (leastName (m - 1) (around q)) ≡ leastName m q)
+    (λ m. let e : suc m - 1 ≡ m = omega arith in rw e) m
 
 -- ---- for the code: the word of a side, a degree, a path and a number
 

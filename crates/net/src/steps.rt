@@ -12,7 +12,8 @@ ghost use Rattle.net.specs.Sides.{OneToThree};
 ghost use Rattle.net.specs.Corners.{nameOf};
 ghost use Rattle.net.specs.Refusals.{over};
 ghost use Rattle.net.specs.Means.Marks.{some, other, marks, span};
-ghost use Rattle.net.specs.Means.Walks.{stepFrom, edgeThere, placeAt, overSeam, around, lesser, nameAt, leastName, ringWords};
+ghost use Rattle.net.specs.Means.Walks.{stepFrom, edgeThere, placeAt, overSeam, around, lesser, nameAt};
+ghost use Rattle.net.specs.Means.Walks.{leastName, ringWords};
 
 // ---- digits that are marked
 
@@ -55,8 +56,8 @@ fn over_seam(r: u64, k: u64) -> u64
 }
 
 impl Edge {
-    // The same edge of the triangle across it. Since i xor j is k for {i, j, k} = {1, 2, 3}, a step inside a side changes
-    // each digit of its span by k.
+    // The same edge, of the triangle across it. A step inside a side changes each digit of its span by k, since i xor j
+    // is k for {i, j, k} = {1, 2, 3}.
     pub fn neighbour(self) -> Edge
         requires { ⌜ (checkCode (self .code) ≡ 0) × OneToThree (self .number) ⌝ }
         ensures { λ r. ⌜ r ≡ edgeThere (stepFrom self) ⌝ }

@@ -2,7 +2,7 @@
 ghost use mathlib.Core.Path.{_≡_};
 ghost use Prim.Native.Nat.{_+_, _-_, _*_, _^_, _<_, _≤_};
 ghost use lib.ListN.{take};
-ghost use Rattle.words.specs.Words.{bits, aOf, degreeOf, zeroBits, cornerNumber, digits, beyond, sideOf, path, wordOf, inside};
+ghost use Rattle.words.specs.Words.{bits, aOf, degreeOf, digits, beyond, sideOf, path, wordOf};
 ghost use Rattle.words.specs.Refusals.{refusal, wordRows, checkCode, checkNameFields};
 ghost use Rattle.words.specs.Family.{codeOf, codeAnswer, parentAnswer, childAnswer};
 

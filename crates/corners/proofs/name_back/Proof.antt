@@ -98,7 +98,11 @@ add-t13 c =
     let k = c .before .before in
     let e = k .corner-at .ensures in
     let d = k .before .before .before .before .before .before .before in
-    rw (c .before .word-of .ensures) (omega (arith, made-fits _ (n d) _ _ (found (k .before .before) .0) (low d) (e .0) (e .1)))
+    rw (c .before .word-of .ensures) (omega (
+      arith,
+      made-fits _ (n d) _ _ (found (k .before .before) .0) (low d) (e .0)
+          (e .1),
+    ))
 
 least-name-requires : tie.Need-least-name-requires
 least-name-requires c κs =
@@ -113,9 +117,11 @@ returns-5 c =
     let k = w .before in
     let p = k .before in
     let d = p .before .before .before .before .before .before in
-    back-answers (n d) (ws d) _ (k .corner-at .result) _ (low d) (long d) (added (p .before .before .before)) (found (p .before) .0) (found (p .before) .1)
+    back-answers (n d) (ws d) _ (k .corner-at .result) _ (low d) (long d) (added (p .before .before .before))
+    (found (p .before) .0) (found (p .before) .1)
     (p .point-on .ensures) (k .corner-at .ensures)
-    (c .least-name .ensures ∙ ap (λ (x : ℕ). nameOf (leastName 5 (placeAt (x + k .corner-at .result .number)))) (w .word-of .ensures))
+    (c .least-name .ensures ∙ ap (λ (x : ℕ). nameOf (leastName 5 (placeAt (x + k .corner-at .result .number))))
+    (w .word-of .ensures))
 
 pub name-back-spec : {M : Type 1} → statement M
 name-back-spec =

@@ -1,4 +1,5 @@
--- The refusals in turn; how many places the corner's weights give, and the walk from the name (RingCalls). Assumes nothing.
+-- The refusals in turn; how many places the corner's weights give, and the walk from the name (RingCalls). Assumes
+-- nothing.
 use borrow.Author.Needs.{needs}
 use mathlib.Core.Path.{_≡_, sym, _∙_, ap}
 use native.Mathlib.Omega.{arith}
@@ -31,7 +32,8 @@ code-inside-requires : tie.Need-code-inside-requires
 code-inside-requires c κs = name-means _ .0 (passes (c .before)) .0
 
 point-of-requires : tie.Need-point-of-requires
-point-of-requires c κs = let z = passes (c .before .before) in (rw (c .code-inside .ensures) (code-passes _ z), name-number _ z)
+point-of-requires c κs = let z = passes (c .before .before) in
+    (rw (c .code-inside .ensures) (code-passes _ z), name-number _ z)
 
 ring-count-requires : tie.Need-ring-count-requires
 ring-count-requires c κs = search needs
@@ -55,7 +57,8 @@ returns-3 c =
     let d = p .before .before in
     let r = d .before .before .before .before .args .r in
     ring-answers r (passes (d .before)) _ _ _ _ (d .if2 .left)
-    (p .point-of .ensures ∙ ap (λ (t : TriangleCode). pointOf (cornerNumber (r .0)) (stateOf (digitsIn t))) (p .before .code-inside .ensures))
+    (p .point-of .ensures ∙ ap (λ (t : TriangleCode). pointOf (cornerNumber (r .0)) (stateOf (digitsIn t)))
+    (p .before .code-inside .ensures))
     (m .ring-count .ensures) (w .write-ring .ensures)
 
 pub ring-spec : {M : Type 1} → statement M

@@ -30,7 +30,9 @@ same-length c = search needs
 returns-3 : tie.Need-returns-3
 returns-3 c =
     let w = c .before .before in
-    answering-lent (weights-passes _ _ _ .1 (none (w .before .before .before), omega arith)) (refl, w .write-corner .ensures)
+    answering-lent (weights-passes _ _ _ .1 (none (w .before .before .before), omega arith))
+    (refl, w .write-corner .ensures)
 
 pub weights-of-spec : {M : Type 1} → statement M
-weights-of-spec = tie.close (tie.spec refuse-numbered-requires returns returns-2 write-corner-requires same-length returns-3)
+weights-of-spec = tie.close (tie.spec refuse-numbered-requires returns returns-2 write-corner-requires same-length
+    returns-3)

@@ -48,8 +48,11 @@ returns-3 c =
     let w = c .before .before in
     let d = w .before .before in
     let a = d .before .before .before .before .before .args in
-    answering-lent (name-weights-passes _ _ .1 (none (d .before .before), omega arith))
-    (refl, w .write-corner .ensures ∙ ap (λ (t : TriangleCode). over (corner t (cornerNumber (a .r .0))) (now (a .out))) (d .code-inside .ensures))
+    answering-lent (name-weights-passes _ _ .1 (none (d .before .before), omega arith)) (
+      refl,
+      w .write-corner .ensures ∙ ap (λ (t : TriangleCode).
+          over (corner t (cornerNumber (a .r .0))) (now (a .out))) (d .code-inside .ensures),
+    )
 
 pub weights-of-name-spec : {M : Type 1} → statement M
 weights-of-name-spec =

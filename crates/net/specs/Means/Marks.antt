@@ -20,11 +20,13 @@ some (suc d) = 1
 abbrev pub other : (c d : ℕ) → ℕ
 other c d = cond (eqb d c) 0 (some d)
 
--- What f makes of each of the 27 pairs of bits below a word's degree: its digits, two pairs of zero bits, the corner number.
+-- What f makes of each of the 27 pairs of bits below a word's degree: its digits, two pairs of zero bits, the corner
+-- number.
 unfoldable pub marks : (ℕ → ℕ) → (w : ℕ) → ℕ
 marks f w = path (each f (digitsOf 27 w))
 
--- 1 at each digit that the step across edge k changes, where `last` has its 1 at the last digit: from there up to the first that is 0 or k, that one
--- with them, or to the first place above all digits. Where a digit is neither it is 3 here, and the 1 that is added to the last is carried on.
+-- 1 at each digit that the step across edge k changes, where `last` is 1 at the last digit: from there up to the first
+-- that is 0 or k, that one with them; with none such, up to the first place above all digits. (Each digit that is
+-- neither is 3 here, so that the 1 that is added at the last is carried over it.)
 unfoldable pub span : (w last k : ℕ) → ℕ
 span w last k = bitAnd (bitXor (3 * marks (other k) w) (3 * marks (other k) w + last)) (ones 28)

@@ -42,7 +42,9 @@ pub record Place : Type 0 where
 
 -- the place that a word has by its fields
 abbrev pub placeAt : ℕ → Place
-placeAt r = let w = words.inside r in record { side = sideOf w; digits = digits w (degreeOf w); number = cornerNumber r }
+placeAt r =
+    let w = words.inside r in
+    record { side = sideOf w; digits = digits w (degreeOf w); number = cornerNumber r }
 
 -- over the seam of edge k every digit, and the number, is renumbered
 abbrev pub overSeam : ℕ → Place → Place

@@ -2,7 +2,7 @@
 use borrow.Author.Needs.{needs}
 use mathlib.Core.Path.{_≡_, _∙_, ap}
 use native.Mathlib.Omega.{arith}
-use Prim.Native.Nat.{ℕ, _-_, _*_, _^_, _≤_}
+use Prim.Native.Nat.{ℕ, _-_, _*_, _^_}
 use Rattle.words.proofs.Codes.{code-degree, is-code}
 use Rattle.words.specs.Words.{degreeOf}
 use Rattle.net.specs.Means.Marks.{span}
@@ -14,20 +14,31 @@ last-of-requires : tie.Need-last-of-requires
 last-of-requires c κs = code-degree (is-code (c .before .args .self .code) (c .before .pre .0))
 
 span-of-requires : tie.Need-span-of-requires
-span-of-requires c κs = (c .before .before .pre .1, rw (c .last-of .ensures) (last-low (degreeOf (c .before .before .args .self .code .0))))
+span-of-requires c κs = (
+  c .before .before .pre .1,
+  rw (c .last-of .ensures)
+      (last-low (degreeOf (c .before .before .args .self .code .0))),
+)
 
 mul-t9 : tie.Need-mul-t9
-mul-t9 c = omega (arith, times-fit {x = c .before .span-of .result} (c .before .before .before .before .pre .1) (omega (arith, c .if1 .taken)))
+mul-t9 c = omega (
+  arith,
+  times-fit {x = c .before .span-of .result} (c .before .before .before .before .pre .1)
+      (omega (arith, c .if1 .taken)),
+)
 
 -- the span, where the last digit stands
 spans : (c : tie.After-span-of) → let s = c .before .before .before in
-    c .span-of .result ≡ span (s .args .self .code .0) (2 ^ (54 - 2 * degreeOf (s .args .self .code .0))) (s .args .self .number)
-spans c = let s = c .before .before .before in c .span-of .ensures ∙ ap (λ (l : ℕ). span (s .args .self .code .0) l (s .args .self .number)) (c .before .last-of .ensures)
+    c .span-of .result ≡ span (s .args .self .code .0) (2 ^ (54 - 2 * degreeOf (s .args .self .code .0)))
+    (s .args .self .number)
+spans c = let s = c .before .before .before in c .span-of .ensures
+    ∙ ap (λ (l : ℕ). span (s .args .self .code .0) l (s .args .self .number)) (c .before .last-of .ensures)
 
 returns : tie.Need-returns
 returns c =
     let s = c .before .before .before .before in
-    across-inside (s .args .self .code) (s .pre .0) (s .args .self .number) (s .pre .1) (spans (c .before)) (c .if1 .taken)
+    across-inside (s .args .self .code) (s .pre .0) (s .args .self .number) (s .pre .1) (spans (c .before))
+    (c .if1 .taken)
 
 add-over-seam : tie.Need-add-over-seam
 add-over-seam c =
@@ -45,7 +56,8 @@ sub-t12 c = search needs
 returns-2 : tie.Need-returns-2
 returns-2 c =
     let s = c .before .before .before .before .before in
-    across-seam (s .args .self .code) (s .pre .0) (s .args .self .number) (s .pre .1) (spans (c .before .before)) (λ h. omega (arith, h, c .before .if1 .left)) (c .over-seam .ensures)
+    across-seam (s .args .self .code) (s .pre .0) (s .args .self .number) (s .pre .1) (spans (c .before .before))
+    (λ h. omega (arith, h, c .before .if1 .left)) (c .over-seam .ensures)
 
 pub neighbour-spec : {M : Type 1} → statement M
 neighbour-spec =

@@ -1,11 +1,13 @@
--- `least_of` by recursion on m: the next word has a name's fields, and its place is the next round the corner (WordSteps). Assumes nothing.
+-- `least_of` by recursion on m: the next word has a name's fields, and its place is the next round the corner
+-- (WordSteps). Assumes nothing.
 use mathlib.Core.Path.{_∙_, ap}
 use native.Mathlib.Omega.{arith}
 use Prim.Native.Nat.{ℕ, _-_, _<_}
 use borrow.Fn.Kinds.{In}
 use borrow.Fn.PlainCycle.{Measures, is, falls, and}
-use Rattle.net.specs.Means.Walks.{Place, leastName, lesser, placeAt}
-use Rattle.net.proofs.WordSteps.{at-next, fields-there, last-there, least-more, least-none, low-degree, place-name, place-there}
+use Rattle.net.specs.Means.Walks.{leastName, lesser, placeAt}
+use Rattle.net.proofs.WordSteps.{at-next, fields-there, last-there, least-more, least-none, low-degree}
+use Rattle.net.proofs.WordSteps.{place-name, place-there}
 use Rattle.net.proofs.steps.least_of.Reads as least-of
 use Rattle.net.proofs.steps.least_of.Kinds as least-of-kinds
 use Rattle.net.proofs.steps.+least_of.Lts-least_of as least-of-lts
@@ -25,7 +27,14 @@ least-of-below t =
     and 0 least-of-kinds.ps (falls 0 least-of-kinds.ps _<_ μ-least-of t) least-of.Pre
 
 abbrev calls : ℕ → least-of-lts.Claims
-calls t = (turned-reads.Asked, turned-reads.Learnt, least-of-below t, least-of.Post, lesser-of-reads.Asked, lesser-of-reads.Learnt)
+calls t = (
+  turned-reads.Asked,
+  turned-reads.Learnt,
+  least-of-below t,
+  least-of.Post,
+  lesser-of-reads.Asked,
+  lesser-of-reads.Learnt,
+)
 
 least-of-returns : (t : ℕ) → least-of-lts.Need-returns (calls t) (least-of-at t) least-of.Post
 least-of-returns t c = place-name (c .before .args .r) (c .before .pre .1 .0) ∙ least-none _ _ (c .if1 .taken)
@@ -54,8 +63,10 @@ least-of-returns-2 t c =
     let s = d .before .before in
     let r = s .args .r in
     let p = s .pre .1 in
-    let e = c .before .least-of .ensures ∙ ap (leastName (s .args .m - 1)) (place-there (at-next r (p .0)) (low-degree r (p .0)) (d .turned .ensures)) in
-    c .lesser-of .ensures ∙ (λ i. lesser (place-name r (p .0) i) (e i)) ∙ least-more (s .args .m) (placeAt r) (d .before .if1 .left)
+    let e = c .before .least-of .ensures ∙ ap (leastName (s .args .m - 1))
+    (place-there (at-next r (p .0)) (low-degree r (p .0)) (d .turned .ensures)) in
+    c .lesser-of .ensures ∙ (λ i. lesser (place-name r (p .0) i) (e i))
+    ∙ least-more (s .args .m) (placeAt r) (d .before .if1 .left)
 
 pub +least-of-spec : {M : Type 1} → statement M
 +least-of-spec = close μ-least-of λ t. least-of-lts.spec (calls t) (least-of-at t)

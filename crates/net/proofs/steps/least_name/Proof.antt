@@ -1,4 +1,5 @@
--- `net::steps::least_name` meets its contract: a word with a name's fields has a degree of at most 24 (WordSteps). Assumes nothing.
+-- `net::steps::least_name` meets its contract: a word with a name's fields has a degree of at most 24 (WordSteps).
+-- Assumes nothing.
 use borrow.Author.Needs.{needs}
 use mathlib.Core.Path.{ap}
 use Rattle.net.specs.Corners.{nameOf}

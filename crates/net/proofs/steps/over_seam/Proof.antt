@@ -1,6 +1,6 @@
 -- `net::steps::over_seam` meets its contract: the word renumbered, and its side exchanged (WordSteps). Assumes nothing.
 use borrow.Author.Needs.{needs}
-use mathlib.Core.Path.{_≡_, _∙_, ap}
+use mathlib.Core.Path.{_∙_, ap}
 use native.Mathlib.Omega.{arith}
 use Prim.Native.Nat.{ℕ, _+_, _*_, _%_, _^_, _<_}
 use lib.Bits.{bitXor}
@@ -22,7 +22,8 @@ seam-kept-requires c κs = search needs
 kept : (c : tie.After-seam-kept) → OneToThree (c .seam-kept .result)
 kept c =
     let s = c .before .before in
-    rw (c .seam-kept .ensures, c .before .side-of .ensures) (seam-kept _ (side-is (s .args .r) (s .args .k) (s .pre .0) (s .pre .1)) (s .args .k) (s .pre .1))
+    rw (c .seam-kept .ensures, c .before .side-of .ensures) (seam-kept _
+    (side-is (s .args .r) (s .args .k) (s .pre .0) (s .pre .1)) (s .args .k) (s .pre .1))
 
 others-of-requires : tie.Need-others-of-requires
 others-of-requires c κs = kept c
@@ -43,7 +44,8 @@ seam-side-requires c κs =
 low : (c : tie.After-seam-side) → c .seam-side .result < 24
 low c =
     let s = c .before .before .before .before in
-    rw (c .seam-side .ensures, c .before .before .before .side-of .ensures) (seam-side _ (side-is (s .args .r) (s .args .k) (s .pre .0) (s .pre .1)) (s .args .k) (s .pre .1) .1)
+    rw (c .seam-side .ensures, c .before .before .before .side-of .ensures)
+    (seam-side _ (side-is (s .args .r) (s .args .k) (s .pre .0) (s .pre .1)) (s .args .k) (s .pre .1) .1)
 
 mul-result : tie.Need-mul-result
 mul-result c = omega (arith, low c)

@@ -1,4 +1,5 @@
--- `net::steps::span_of` meets its contract; marks of 27 digits, three times, and the last leave room in 64 bits (WordSteps). Assumes nothing.
+-- `net::steps::span_of` meets its contract; marks of 27 digits, three times, and the last leave room in 64 bits
+-- (WordSteps). Assumes nothing.
 use borrow.Author.Needs.{needs}
 use native.Mathlib.Omega.{arith}
 use Prim.Native.Nat.{_^_, _<_}

@@ -23,12 +23,18 @@ add-result : tie.Need-add-result
 add-result c = search needs
 
 mul-result : tie.Need-mul-result
-mul-result c = omega (arith, times-fit {x = c .before .span-of .result + 1} (edge (c .before .before)) (omega (arith, c .if1 .taken)))
+mul-result c = omega (
+  arith,
+  times-fit {x = c .before .span-of .result + 1} (edge (c .before .before))
+      (omega (arith, c .if1 .taken)),
+)
 
 -- the span, where the last digit stands
 spans : (c : tie.After-span-of)
-    → c .span-of .result ≡ span (c .before .before .args .r) (2 ^ (54 - 2 * degreeOf (c .before .before .args .r))) (c .before .next-of .result)
-spans c = c .span-of .ensures ∙ ap (λ (l : ℕ). span (c .before .before .args .r) l (c .before .next-of .result)) (c .before .before .pre .1)
+    → c .span-of .result ≡ span (c .before .before .args .r) (2 ^ (54 - 2 * degreeOf (c .before .before .args .r)))
+    (c .before .next-of .result)
+spans c = c .span-of .ensures ∙ ap (λ (l : ℕ). span (c .before .before .args .r) l (c .before .next-of .result))
+    (c .before .before .pre .1)
 
 returns : tie.Need-returns
 returns c =
@@ -42,7 +48,8 @@ returns-2 : tie.Need-returns-2
 returns-2 c =
     let n = c .before .before .before in
     c .over-seam .ensures
-    ∙ turn-over (n .before .args .r) (n .before .pre .0) (n .next-of .ensures) (spans (c .before .before)) (λ h. omega (arith, h, c .before .if1 .left))
+    ∙ turn-over (n .before .args .r) (n .before .pre .0) (n .next-of .ensures) (spans (c .before .before))
+    (λ h. omega (arith, h, c .before .if1 .left))
 
 pub turned-spec : {M : Type 1} → statement M
 turned-spec =

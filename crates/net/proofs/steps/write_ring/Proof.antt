@@ -1,17 +1,17 @@
 -- `net::steps::write_ring` meets its contract. The invariant: the first k places have the words of the walk's first k
 -- places, the others are as they came, and q is the name at the last of them. Assumes nothing.
-use mathlib.Core.Path.{_≡_, refl, sym, _∙_, ap}
-use mathlib.Core.List.{List, _++_}
+use mathlib.Core.Path.{_≡_, refl, _∙_}
+use mathlib.Core.List.{_++_}
 use Prim.Native.Nat.{ℕ, suc, _+_, _-_, _%_, _≤_}
 use denote.Ref.{now}
 use lib.ListN.{length, take, drop, length-set}
 use native.Mathlib.Omega.{arith}
-use Rattle.words.specs.Words.{degreeOf}
 use Rattle.words.specs.Refusals.{checkNameFields}
 use Rattle.net.specs.Corners.{nameOf}
 use Rattle.net.specs.Means.Walks.{nameAt, placeAt, ringAt, ringWords}
 use Rattle.net.proofs.RingLists.{ring-first, ring-last, ring-next}
-use Rattle.net.proofs.WordSteps.{at-walk, fields-there, last-there, low-degree, next-walk, place-name, word-place, word-walk}
+use Rattle.net.proofs.WordSteps.{at-walk, fields-there, last-there, low-degree, next-walk, place-name}
+use Rattle.net.proofs.WordSteps.{word-place, word-walk}
 use Rattle.net.proofs.steps.write_ring.Statement.{statement}
 use Rattle.net.proofs.steps.write_ring.Tie as tie
 
@@ -41,8 +41,14 @@ loop-holds : tie.Need-loop-holds Inv-loop μ-loop
 loop-holds c =
     let s = c .before .before in
     let r = s .args .r .0 in
-    let l : s .args .m ≤ length (now (s .args .out)) = omega (arith, s .pre .2, s .pre .3) in
-    (omega arith, s .pre .1, ring-first (s .args .m) (placeAt r) (now (s .args .out)) (s .pre .1) l (word-place r (s .pre .0)), refl, start (s .pre .0))
+    let l : s .args .m ≤ length (now (s .args .out)) = omega (arith, s .pre .2, s .pre .3) in (
+      omega arith,
+      s .pre .1,
+      ring-first (s .args .m) (placeAt r) (now (s .args .out)) (s .pre .1) l
+          (word-place r (s .pre .0)),
+      refl,
+      start (s .pre .0),
+    )
 
 turned-requires : tie.Need-turned-requires Inv-loop μ-loop
 turned-requires c κs =
@@ -103,7 +109,8 @@ returns c =
     let s = c .before .before .before .before in
     let m = s .args .m in
     let e : l .k ≡ m = omega (arith, l .inv .1) in
-    l .inv .2 ∙ rw e (ring-last m (placeAt (s .args .r .0)) (now (s .args .out)) _ (s .pre .1) (omega (arith, s .pre .2, s .pre .3)))
+    l .inv .2 ∙ rw e (ring-last m (placeAt (s .args .r .0)) (now (s .args .out)) _ (s .pre .1)
+    (omega (arith, s .pre .2, s .pre .3)))
 
 pub write-ring-spec : {M : Type 1} → statement M
 write-ring-spec =

@@ -20,7 +20,7 @@ use Rattle.net.proofs.Table.{sound, below, threes, same, less, no, _and
 -- ---- a digit and what stands above it
 
 module _ (a b x y : ℕ) (hx : x < 4) (hy : y < 4) where
-  pub xor-digit : bitXor (4 * a + x) (4 * b + y) ≡ 4 * bitXor a b + bitXor x y
+  xor-digit : bitXor (4 * a + x) (4 * b + y) ≡ 4 * bitXor a b + bitXor x y
   xor-digit = (λ i. bitXor (mul-comm 4 a i + x) (mul-comm 4 b i + y)) ∙ xor-block 2 a b x y hx hy ∙ omega arith
 
   or-digit : bitOr (4 * a + x) (4 * b + y) ≡ 4 * bitOr a b + bitOr x y

@@ -2,10 +2,9 @@
 use mathlib.Core.Path.{_≡_, refl, sym, ap, subst}
 use mathlib.Core.List.{List, [], _∷_}
 use Prim.Native.Nat.{ℕ, zero, suc, _+_, _-_, _*_, _/_, _%_, _^_, _≤_, _<_}
-use native.Mathlib.Nat.{lt-of-lt-of-le}
 use native.Mathlib.Omega.{arith}
 use lib.ListN.{length}
-use lib.Pow.{pow-add, pow-mono}
+use lib.Pow.{pow-add}
 use mathlib.Core.Bool.{Bool, true, false}
 use lib.Dec.{eqb}
 use borrow.Author.Tests.{eqb-true, eqb-false}
@@ -50,19 +49,6 @@ path-of (suc n) v h =
 
 pub of-path : {n : ℕ} {ds : List ℕ} → AreDigits n ds → digitsOf n (path ds) ≡ ds
 of-path {n} a = path-injective (digits-of n _) a (path-of n _ (path-lt a))
-
-pub digits-more : (n v : ℕ) → (n ≡ 0 → ⊥) → digitsOf n v ≡ v % 4 ∷ digitsOf (n - 1) (v / 4)
-unfolding digitsOf
-digits-more zero v f = absurd (f refl)
-digits-more (suc n) v f = let e : suc n - 1 ≡ n = omega arith in rw e
-
--- a path of at most 24 digits fits 48 bits
-pub path-48 : {n v : ℕ} → n ≤ 24 → v < 2 ^ (2 * n) → v < 2 ^ 48
-path-48 {n} h k = lt-of-lt-of-le k (pow-mono {i = 2 * n} {j = 48} (omega arith))
-
-pub quarter : (n v : ℕ) → (n ≡ 0 → ⊥) → v < 2 ^ (2 * n) → v / 4 < 2 ^ (2 * (n - 1))
-quarter zero v f h = absurd (f refl)
-quarter (suc n) v f h = let e : suc n - 1 ≡ n = omega arith in rw e (omega (arith, four n))
 
 -- ---- what a step leaves: digits, as many as before
 

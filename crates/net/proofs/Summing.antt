@@ -17,7 +17,7 @@ bits-assoc =
 by-halves : (x y : ℕ) → x / 2 ≡ y / 2 → x % 2 ≡ y % 2 → x ≡ y
 by-halves x y e f = omega arith
 
-pub xor-assoc : (a b c : ℕ) → bitXor (bitXor a b) c ≡ bitXor a (bitXor b c)
+xor-assoc : (a b c : ℕ) → bitXor (bitXor a b) c ≡ bitXor a (bitXor b c)
 xor-assoc = bin-ind (λ (a : ℕ). (b c : ℕ) → bitXor (bitXor a b) c ≡ bitXor a (bitXor b c))
     (λ b c. ap (λ (x : ℕ). bitXor x c) (xor-zero-l b) ∙ sym (xor-zero-l (bitXor b c)))
     (λ a ih b c.

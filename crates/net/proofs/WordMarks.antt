@@ -23,7 +23,7 @@ use Rattle.net.proofs.Table.{sound, below, threes, same, most, _and_}
 
 -- ---- ones
 
-pub ones-small : (n : ℕ) → ones n < 2 ^ (2 * n)
+ones-small : (n : ℕ) → ones n < 2 ^ (2 * n)
 unfolding ones
 ones-small zero = omega arith
 ones-small (suc n) = omega (arith, ones-small n, four n)

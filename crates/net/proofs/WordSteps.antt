@@ -46,15 +46,15 @@ module _ (s : ℕ) {n : ℕ} {ds : List ℕ} (hs : IsSide s) (short : n ≤ 24) 
     code-is-one : IsCode n (codeOf (wordOf s n (path ds)))
     code-is-one = path-code s n (hs .0) (hs .1) short (path ds) (path-lt are)
 
-    pub number-of : (wordOf s n (path ds) + i) % 4 ≡ i
+    number-of : (wordOf s n (path ds) + i) % 4 ≡ i
     number-of = omega (arith, code-passes _ .0 (code-is-one .passes) .1)
 
-    pub code-of : wordOf s n (path ds) + i - (wordOf s n (path ds) + i) % 4 ≡ wordOf s n (path ds)
+    code-of : wordOf s n (path ds) + i - (wordOf s n (path ds) + i) % 4 ≡ wordOf s n (path ds)
     code-of = omega (arith, number-of)
 
 -- a place of the walk round a corner: its name has the fields of one, and gives it back
 module _ {n : ℕ} {P : List ℕ} {q : Place} (a : At n P q) (low : n ≤ 24) where
-  pub digits-are-n : AreDigits n (q .digits)
+  digits-are-n : AreDigits n (q .digits)
   digits-are-n = subst (λ (m : ℕ). AreDigits m (q .digits)) (a .degree) (a .the-digits)
 
   small : q .number < 4
@@ -82,7 +82,7 @@ module _ {n : ℕ} {P : List ℕ} {q : Place} (a : At n P q) (low : n ≤ 24) wh
   fields = code-name (nameOf (nameAt q)) (a-code .passes) (rw number-is (a .a-number .0))
       (rw number-is (a .a-number .1))
 
-  pub name-fields : checkNameFields (nameOf (nameAt q)) ≡ 0
+  name-fields : checkNameFields (nameOf (nameAt q)) ≡ 0
   name-fields = fields .0
 
   pub name-degree : degreeOf (nameAt q) ≡ n
@@ -131,7 +131,7 @@ module _ (s : ℕ) {n : ℕ} {ds : List ℕ} (short : n ≤ 24) (are : AreDigits
     x-is : x ≡ span (wordOf s n (path ds) + j) (2 ^ (54 - 2 * n)) k
     x-is = f ∙ ap (λ (w : ℕ). span w (2 ^ (54 - 2 * n)) k) e
 
-    pub step-inside : x < 2 ^ 54 → (l : ℕ) → l < 4
+    step-inside : x < 2 ^ 54 → (l : ℕ) → l < 4
         → (bitXor w (k * x + l) ≡ wordOf (there .side) n (path (there .digits)) + bitXor j l) × (there .edge ≡ k)
     unfolding stepOf
     step-inside h l hl = go (cross k ds) (steps s short are j hj k hk) (cross-kept k ds (hk .0) (hk .1) are)
@@ -145,7 +145,7 @@ module _ (s : ℕ) {n : ℕ} {ds : List ℕ} (short : n ≤ 24) (are : AreDigits
         )
         go outside c d = absurd (omega (arith, x-is, c))
 
-    pub step-outside : (x < 2 ^ 54 → ⊥) → there ≡ arrival k s ds outside
+    step-outside : (x < 2 ^ 54 → ⊥) → there ≡ arrival k s ds outside
     unfolding stepOf
     step-outside h = go (cross k ds) (steps s short are j hj k hk)
       where
@@ -155,7 +155,7 @@ module _ (s : ℕ) {n : ℕ} {ds : List ℕ} (short : n ≤ 24) (are : AreDigits
 
 -- ---- for the code: numbers that fit
 
-pub marks-small : (f : ℕ → ℕ) → ((d : ℕ) → d < 4 → f d < 4) → (w : ℕ) → marks f w < 2 ^ 54
+marks-small : (f : ℕ → ℕ) → ((d : ℕ) → d < 4 → f d < 4) → (w : ℕ) → marks f w < 2 ^ 54
 unfolding marks
 marks-small f h w = path-lt (each-digits (digits-of 27 w))
   where
@@ -225,7 +225,7 @@ module _ (r k : ℕ) (e : checkNameFields (nameOf r) ≡ 0) (hk : OneToThree k) 
   hc : OneToThree c
   hc = seam-kept (here .side) (at-place r e .a-side) k hk
 
-  pub word-here : r ≡ wordOf (here .side) (degreeOf r) (path (here .digits)) + here .number
+  word-here : r ≡ wordOf (here .side) (degreeOf r) (path (here .digits)) + here .number
   word-here = place-name r e ∙ name-word (at-place r e) (low-degree r e)
 
   pub seam-word : bitXor r (c * marks (other c) r) % 2 ^ 59 + 2 ^ 59 * seamSide (here .side) k ≡ nameAt

@@ -11,7 +11,7 @@ use borrow.Author.Tests.{eqb-true, lt-ltb, le-ltb, eq-eqb}
 use Rattle.words.proofs.Codes.{code-degree, is-code}
 use Rattle.words.proofs.Refusing.{either-left, either-right, here, next, refuse-after, refuse-before, refuse-first}
 use Rattle.words.specs.Refusals.{Row, checkCode, checkNameFields, codeRows, degreeRows, nameRows, refusal}
-use Rattle.words.specs.Words.{degreeOf, digits, path, side, wordOf}
+use Rattle.words.specs.Words.{degreeOf, wordOf}
 use Rattle.words.specs.declared.CornerName.{CornerName}
 use Rattle.words.specs.declared.TriangleCode.{TriangleCode}
 use Rattle.net.specs.Corners.{nameOf, corner, named}
@@ -19,7 +19,6 @@ use Rattle.corners.specs.Answers.{Answer, BackAnswer, CrossAnswer, Lent,
 use Rattle.net.specs.Division.{cornerOf, sum}
 use Rattle.net.specs.Means.Paths.{digitsOf}
 use Rattle.net.specs.Means.Spreads.{pointIn, spread}
-use Rattle.net.specs.Means.States.{across}
 use Rattle.net.specs.Means.Walks.{Place, edgeThere, leastName, placeAt, stepFrom}
 use Rattle.net.specs.Names.{IsName}
 use Rattle.net.specs.Refusals.{canonical, canonicalRows, checkName, listRows, notCanonical, onOneSide, onSide, oneToThreeRows, weightRows}
@@ -34,11 +33,9 @@ use Rattle.net.proofs.Crossing.{across-is}
 use Rattle.net.proofs.LeastName.{least-is-name, place-in, placeIn}
 use Rattle.net.proofs.Loads.{sum-spread}
 use Rattle.net.proofs.Names.{one-name}
-use Rattle.net.proofs.Paths.{of-digits, of-length}
 use Rattle.corners.proofs.Refused.{back-passes, numbered-passes}
-use Rattle.net.proofs.Rings.{At}
 use Rattle.net.proofs.StateCode.{on-one, spread-of}
-use Rattle.net.proofs.WordSteps.{at-place, low-degree, made-place, numbered-place}
+use Rattle.net.proofs.WordSteps.{at-made, at-place, low-degree, made, made-place, numbered-place}
 
 -- ---- an answer from its refusal
 
@@ -189,15 +186,8 @@ back-answers n weights s k p {r} h l e hs on is found eq =
     let ws = take 12 weights in
     let twelve : length ws ≡ 12 = length-take-le 12 weights l in
     let there : spread s p ≡ ws = ap (spread s) is ∙ spread-of s ws hs twelve on in
-    let q : Place = record { side = s; digits = digitsOf n (k .path); number = k .number } in
-    let a : At n ws q =
-    record {
-      a-side = hs;
-      the-digits = of-digits n (k .path);
-      degree = of-length n (k .path);
-      a-number = found .1;
-      corner = found .2 ∙ there;
-    } in
+    let q = made s n (k .path) (k .number) hs h (found .0) (found .1) in
+    let a = at-made s n (k .path) (k .number) hs h (found .0) (found .1) (found .2 ∙ there) in
     let f : r ≡ nameOf (leastName 5 q) = eq ∙ ap (λ (q : Place). nameOf (leastName 5 q))
     (made-place s n (k .path) (k .number) hs h (found .0) (found .1)) in
     answering (back-passes n weights .1 (h, l, eqb-true _ _ e, on-one ws s hs on))

@@ -75,20 +75,25 @@ fn difference(x: i64, y: i64) -> i64
     x - y
 }
 
-// m·1836311903/1134903170, rounded down: the fraction is the one of Fibonacci's next below φ.
+// The fraction TOP/BOTTOM is one of Fibonacci's next below φ.
+const TOP: u64 = 1836311903;
+
+const BOTTOM: u64 = 1134903170;
+
+// m·TOP/BOTTOM, rounded down.
 fn times_fraction(m: u64) -> u64
     requires { ⌜ m ≤ 2 ^ 42 ⌝ }
     ensures { λ r. ⌜ r ≡ m * 1836311903 / 1134903170 ⌝ }
 {
-    m / 1134903170 * 1836311903 + m % 1134903170 * 1836311903 / 1134903170
+    m / BOTTOM * TOP + m % BOTTOM * TOP / BOTTOM
 }
 
-// Whether m is clear: what is left of it is so far from the next whole number that mφ is below that too.
+// Whether m is clear: m·TOP/BOTTOM is so far below the next whole number that mφ is below it too.
 fn is_clear(m: u64) -> bool
     requires { ⌜ m ≤ 2 ^ 42 ⌝ }
     ensures { λ r. ⌜ Decides r (m * 1836311903 % 1134903170 + 2048 ≤ 1134903170) ⌝ }
 {
-    m % 1134903170 * 1836311903 % 1134903170 + 2048 <= 1134903170
+    m % BOTTOM * TOP % BOTTOM + 2048 <= BOTTOM
 }
 
 impl Golden {

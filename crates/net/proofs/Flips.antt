@@ -77,9 +77,13 @@ pub flip-digit : (c d : ℕ) → OneToThree c → d ≤ 3 → flip c d ≤ 3
 flip-digit c zero l h = omega arith
 flip-digit c (suc d) l h = let f = flip-three c l (suc d) (omega arith) in omega arith
 
+pub each-digits : (f : ℕ → ℕ) → ((d : ℕ) → d ≤ 3 → f d ≤ 3) → {n : ℕ} {ds : List ℕ} → AreDigits n ds
+    → AreDigits n (each f ds)
+each-digits f h none = none
+each-digits f h (more {d = d} l a) = more (h d l) (each-digits f h a)
+
 pub flip-digits : {n : ℕ} (c : ℕ) → OneToThree c → {ds : List ℕ} → AreDigits n ds → AreDigits n (each (flip c) ds)
-flip-digits c l none = none
-flip-digits c l (more {d = d} h a) = more (flip-digit c d l h) (flip-digits c l a)
+flip-digits c l = each-digits (flip c) (λ d. flip-digit c d l)
 
 pub each-length : (f : ℕ → ℕ) (ds : List ℕ) → length (each f ds) ≡ length ds
 each-length f [] = refl

@@ -6,9 +6,8 @@ use native.Mathlib.Nat.{pow-suc, add-zero, add-suc, add-mul, mul-assoc, mod-lt, 
 use native.Mathlib.Omega.{arith}
 use lib.Pow.{high, ones-lt, ones-split, pow-add, pow-pos, shr-shr, split}
 use lib.Bits.{bitAnd, bitOr, or-block, and-block, and-mask, and-zero-r, or-lt, or-zero-l, or-zero-r}
-use Rattle.net.specs.Means.Gathers.{gather, lowBit, highBit}
+use Rattle.net.specs.Means.Gathers.{gather, lowBit}
 use Rattle.net.proofs.Paths.{four}
-use Rattle.net.proofs.Table.{sound, below, same}
 
 -- ---- the bits of some digits
 
@@ -32,6 +31,9 @@ gather-short (suc n) (suc m) v l h =
     ap (λ (x : ℕ). x * 2 + v % 4 % 2) (gather-short n m (v / 4) (omega arith) (omega (arith, four n)))
 
 -- the higher bits are the lower ones of half the path
+abbrev pub highBit : ℕ → ℕ
+highBit d = d / 2
+
 pub gather-high : (n v : ℕ) → gather lowBit n (v / 2) ≡ gather highBit n v
 unfolding gather
 gather-high zero v = refl
@@ -152,10 +154,7 @@ first (suc m) v =
     let f : masks 1 (suc m) ≡ masks 1 m * 4 + 1 = omega arith in
     (λ i. bitAnd (e i) (f i))
     ∙ and-block 2 (v / 4) (masks 1 m) (v % 4) 1 (omega arith) (omega arith)
-    ∙ omega (arith, first m (v / 4), last (v % 4) (omega arith))
-  where
-    last : (d : ℕ) → d < 4 → bitAnd d 1 ≡ d % 2
-    last = sound (below 4 λ d. same (bitAnd d 1) (d % 2)) refl
+    ∙ omega (arith, first m (v / 4), and-mask (v % 4) 1)
 
 -- as the code has it
 abbrev pub gathered : ℕ → ℕ

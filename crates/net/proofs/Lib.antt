@@ -22,8 +22,8 @@ pub mod RingCodes
 pub mod Canonical
 pub mod Demand3
 pub mod SeamCode
-pub mod Marking
-pub mod WordMarks
+pub mod Flagging
+pub mod WordFlags
 pub mod WordSteps
 pub mod Gathering
 pub mod Summing

@@ -47,7 +47,7 @@ non-zeros [] = refl
 non-zeros (zero ∷ P) = omega (arith, non-zeros P)
 non-zeros (suc x ∷ P) = omega (arith, non-zeros P)
 
-prev-next : (n : ℕ) → OneToThree n → prev (next n) ≡ n
+pub prev-next : (n : ℕ) → OneToThree n → prev (next n) ≡ n
 prev-next = three (λ n. prev (next n) ≡ n) refl refl refl
 
 next-next : (n : ℕ) → OneToThree n → next (next n) ≡ prev n

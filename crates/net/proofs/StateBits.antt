@@ -9,10 +9,10 @@ use lib.Pow.{pow-mono}
 use lib.Bits.{bitXor, bitAnd, bitOr, xor-block, and-block, or-block, xor-shr, xor-mod, xor-lt, and-lt}
 use Rattle.net.specs.Means.States.{stateOf, step}
 use Rattle.net.specs.Means.Paths.{digitsOf}
-use Rattle.net.specs.Means.Gathers.{gather, lowBit, highBit}
+use Rattle.net.specs.Means.Gathers.{gather, lowBit}
 use Rattle.net.specs.declared.State.{State}
 use Rattle.net.specs.declared.State.the-variants.{Up, Down}
-use Rattle.net.proofs.Gathering.{gather-short, gather-high}
+use Rattle.net.proofs.Gathering.{gather-high, gather-short, highBit}
 use Rattle.net.proofs.StateCorners.{down-same, up-same}
 use Rattle.net.proofs.Summing.{xor-zero-same}
 use Rattle.net.proofs.Table.{sound, below, same, less, _then_}

@@ -10,7 +10,7 @@ use lib.ListN.{length}
 use borrow.Author.Tests.{lt-ltb, le-ltb}
 use Rattle.words.proofs.Codes.{code-below, code-degree, code-name, code-passes, code-side, code-word, is-code}
 use Rattle.words.proofs.Codes.{name-code, name-passes, path-code}
-use Rattle.words.proofs.Digits.{AreDigits, digits-are, more, none, path-lt, side-top}
+use Rattle.words.proofs.Digits.{AreDigits, digits-are, path-lt, side-top}
 use Rattle.words.proofs.WordLayout.{below-side}
 use Rattle.words.specs.Family.{codeOf}
 use Rattle.words.specs.Refusals.{IsCode, checkCode, checkNameFields}
@@ -20,83 +20,81 @@ use Rattle.words.specs.declared.TriangleCode.{TriangleCode}
 use Rattle.net.specs.Corners.{named, nameOf}
 use Rattle.net.specs.Division.{cornerOf, each}
 use Rattle.net.specs.Means.Paths.{digitsOf}
-use Rattle.net.specs.Means.Marks.{marks, ones, other, some, span}
+use Rattle.net.specs.Means.Spreads.{sign}
+use Rattle.net.specs.Means.Flags.{flags, ones, other, spanOf}
 use Rattle.net.specs.Means.Seams.{flip, seamKept, seamSide}
 use Rattle.net.specs.Means.States.{Move, cross, inside, outside}
 use Rattle.net.specs.Means.Walks.{Arrival, Place, around, arrival, arrived, edgeThere, leastName, lesser, nameAt}
 use Rattle.net.specs.Means.Walks.{overSeam, placeAt, ringAt, stepOf, wordAt}
-use Rattle.net.specs.Sides.{IsSide, OneToThree, next, prev}
-use Rattle.net.proofs.CodePlaces.{code-for, digitsIn, in-digits, in-length}
-use Rattle.net.proofs.Flips.{each-length, flip-digit, flip-digits, flip-prev}
+use Rattle.net.specs.Sides.{IsSide, OneToThree, next}
+use Rattle.net.proofs.CodePlaces.{code-for, codeFor, digitsIn, in-digits, in-length}
+use Rattle.net.proofs.Flips.{each-digits, each-length, flip-digit, flip-digits, flip-prev, flip-three}
 use Rattle.net.proofs.LeastName.{place-code, place-digits, place-side, place-in, placeIn}
 use Rattle.net.proofs.Paths.{Kept, cross-kept, digits-of, of-digits, of-length, path-of}
-use Rattle.net.proofs.Rings.{At, around-at, ring-at}
+use Rattle.net.proofs.Rings.{At, around-at, prev-next, ring-at}
 use Rattle.net.proofs.SeamCode.{not-zero}
 use Rattle.net.proofs.SharedVertices.{seam-kept, seam-side}
 use Rattle.net.proofs.Stepping.{next-three, step-beside}
-use Rattle.net.proofs.Marking.{others, somes}
-use Rattle.net.proofs.Table.{_and_, below, less, same, sound, threes}
-use Rattle.net.proofs.WordMarks.{flipped, Steps, steps, word-onto}
+use Rattle.net.proofs.Flagging.{other-low, others, somes}
+use Rattle.net.proofs.Table.{same, sound, threes}
+use Rattle.net.proofs.WordFlags.{flipped, Steps, steps, word-onto}
 
 -- ---- a word with a number below its digits
 
--- the number, and the code
-module _ (s : ℕ) {n : ℕ} {ds : List ℕ} (hs : IsSide s) (short : n ≤ 24) (are : AreDigits n ds) (i : ℕ) (hi : i < 4)
-  where
-    code-is-one : IsCode n (codeOf (wordOf s n (path ds)))
-    code-is-one = path-code s n (hs .0) (hs .1) short (path ds) (path-lt are)
+-- a code with a number: it has the fields of a name, and gives back the number and the code
+module _ (t : TriangleCode) (z : checkCode t ≡ 0) (k : ℕ) (hk : OneToThree k) where
+  number-of : cornerNumber (t .0 + k) ≡ k
+  number-of = omega (arith, code-passes t .0 z .1)
 
-    number-of : (wordOf s n (path ds) + i) % 4 ≡ i
-    number-of = omega (arith, code-passes _ .0 (code-is-one .passes) .1)
+  code-of : words.inside (t .0 + k) ≡ t .0
+  code-of = omega (arith, code-passes t .0 z .1)
 
-    code-of : wordOf s n (path ds) + i - (wordOf s n (path ds) + i) % 4 ≡ wordOf s n (path ds)
-    code-of = omega (arith, number-of)
+  numbered-name : (checkNameFields (nameOf (t .0 + k)) ≡ 0) × (degreeOf (t .0 + k) ≡ degreeOf (words.inside (t .0 + k)))
+  numbered-name =
+      code-name (nameOf (t .0 + k)) (subst (λ (w : ℕ). checkCode (codeOf w) ≡ 0) (sym code-of) z)
+      (rw number-of (hk .0)) (rw number-of (hk .1))
+
+  pub numbered-fields : checkNameFields (nameOf (t .0 + k)) ≡ 0
+  numbered-fields = numbered-name .0
+
+  numbered-degree : degreeOf (t .0 + k) ≡ degreeOf (t .0)
+  numbered-degree = numbered-name .1 ∙ ap degreeOf code-of
+
+  pub numbered-fits : t .0 + k < 2 ^ 64
+  numbered-fits = omega (arith, code-passes t .0 z .1, code-below (is-code t z))
+
+  pub numbered-place : placeAt (t .0 + k) ≡ placeIn t k
+  numbered-place = λ i.
+      let w = code-of i in
+      record { side = sideOf w; digits = digits w (degreeOf w); number = number-of i }
 
 -- a place of the walk round a corner: its name has the fields of one, and gives it back
 module _ {n : ℕ} {P : List ℕ} {q : Place} (a : At n P q) (low : n ≤ 24) where
-  digits-are-n : AreDigits n (q .digits)
+  pub digits-are-n : AreDigits n (q .digits)
   digits-are-n = subst (λ (m : ℕ). AreDigits m (q .digits)) (a .degree) (a .the-digits)
 
-  small : q .number < 4
-  small = omega (arith, a .a-number .1)
+  abbrev code : TriangleCode
+  code = codeFor (q .side) (q .digits)
+
+  passes : checkCode code ≡ 0
+  passes = place-code a low .passes
 
   pub name-word : nameAt q ≡ wordOf (q .side) n (path (q .digits)) + q .number
   unfolding nameAt wordAt
   name-word = ap (λ (m : ℕ). wordOf (q .side) m (path (q .digits)) + q .number) (a .degree)
 
-  number-is : cornerNumber (nameAt q) ≡ q .number
-  number-is = ap cornerNumber name-word ∙ number-of (q .side) (a .a-side) low digits-are-n (q .number) small
-
-  word-is : words.inside (nameAt q) ≡ wordAt q
-  unfolding wordAt
-  word-is =
-      ap words.inside name-word
-      ∙ code-of (q .side) (a .a-side) low digits-are-n (q .number) small
-      ∙ ap (λ (m : ℕ). wordOf (q .side) m (path (q .digits))) (sym (a .degree))
-
-  a-code : IsCode n (codeOf (words.inside (nameAt q)))
-  unfolding wordAt
-  a-code = subst (λ (w : ℕ). IsCode n (codeOf w)) (sym word-is) (place-code a low)
-
-  fields : (checkNameFields (nameOf (nameAt q)) ≡ 0) × (degreeOf (nameAt q) ≡ degreeOf (words.inside (nameAt q)))
-  fields = code-name (nameOf (nameAt q)) (a-code .passes) (rw number-is (a .a-number .0))
-      (rw number-is (a .a-number .1))
-
-  name-fields : checkNameFields (nameOf (nameAt q)) ≡ 0
-  name-fields = fields .0
+  pub name-fields : checkNameFields (nameOf (nameAt q)) ≡ 0
+  unfolding nameAt wordAt
+  name-fields = numbered-fields code passes (q .number) (a .a-number)
 
   pub name-degree : degreeOf (nameAt q) ≡ n
-  name-degree = fields .1 ∙ a-code .degreeIs
+  unfolding nameAt wordAt
+  name-degree = numbered-degree code passes (q .number) (a .a-number) ∙ place-code a low .degreeIs
 
   pub name-place : placeAt (nameAt q) ≡ q
-  unfolding wordAt
+  unfolding nameAt wordAt
   name-place =
-      (λ i. record {
-        side = sideOf (word-is i);
-        digits = digits (word-is i) (degreeOf (word-is i));
-        number =
-            number-is i;
-      })
+      numbered-place code passes (q .number) (a .a-number)
       ∙ λ i. record { side = place-side a low i; digits = place-digits a low i; number = q .number }
 
 -- a word with the fields of a name: its place, of which it is the name
@@ -110,28 +108,31 @@ module _ (r : ℕ) (e : checkNameFields (nameOf r) ≡ 0) where
   pub at-place : At (degreeOf r) (named (nameOf r)) (placeAt r)
   at-place = let p = name-passes (nameOf r) .0 e in place-in a-code-in (p .2, p .3)
 
+  -- the word of a place is the name less the number
+  pub word-place : words.inside r ≡ wordAt (placeAt r)
+  unfolding wordAt
+  word-place = ap (λ (t : TriangleCode). t .0) (code-for a-code-in)
+
   pub place-name : r ≡ nameAt (placeAt r)
-  unfolding nameAt wordAt
-  place-name =
-      let f : words.inside r ≡ wordAt (placeAt r) = ap (λ (t : TriangleCode). t .0) (code-for a-code-in) in
-      omega (arith, f)
+  unfolding nameAt
+  place-name = omega (arith, word-place)
 
   -- the next place round the corner
   pub at-next : At (degreeOf r) (named (nameOf r)) (around (placeAt r))
   at-next = around-at (degreeOf r) (named (nameOf r)) (placeAt r) at-place
 
--- ---- a step from a side and digits, by the span of their word
+-- ---- a step from a side and digits, by the spanOf of their word
 
 module _ (s : ℕ) {n : ℕ} {ds : List ℕ} (short : n ≤ 24) (are : AreDigits n ds) (j : ℕ) (hj : j < 4) (k : ℕ)
     (hk : OneToThree k) where
   abbrev there : Arrival
   there = stepOf k s ds
 
-  module _ {w x : ℕ} (e : w ≡ wordOf s n (path ds) + j) (f : x ≡ span w (2 ^ (54 - 2 * n)) k) where
-    x-is : x ≡ span (wordOf s n (path ds) + j) (2 ^ (54 - 2 * n)) k
-    x-is = f ∙ ap (λ (w : ℕ). span w (2 ^ (54 - 2 * n)) k) e
+  module _ {w x : ℕ} (e : w ≡ wordOf s n (path ds) + j) (f : x ≡ spanOf w (2 ^ (54 - 2 * n)) k) where
+    x-is : x ≡ spanOf (wordOf s n (path ds) + j) (2 ^ (54 - 2 * n)) k
+    x-is = f ∙ ap (λ (w : ℕ). spanOf w (2 ^ (54 - 2 * n)) k) e
 
-    step-inside : x < 2 ^ 54 → (l : ℕ) → l < 4
+    pub step-inside : x < 2 ^ 54 → (l : ℕ) → l < 4
         → (bitXor w (k * x + l) ≡ wordOf (there .side) n (path (there .digits)) + bitXor j l) × (there .edge ≡ k)
     unfolding stepOf
     step-inside h l hl = go (cross k ds) (steps s short are j hj k hk) (cross-kept k ds (hk .0) (hk .1) are)
@@ -145,7 +146,7 @@ module _ (s : ℕ) {n : ℕ} {ds : List ℕ} (short : n ≤ 24) (are : AreDigits
         )
         go outside c d = absurd (omega (arith, x-is, c))
 
-    step-outside : (x < 2 ^ 54 → ⊥) → there ≡ arrival k s ds outside
+    pub step-outside : (x < 2 ^ 54 → ⊥) → there ≡ arrival k s ds outside
     unfolding stepOf
     step-outside h = go (cross k ds) (steps s short are j hj k hk)
       where
@@ -155,41 +156,32 @@ module _ (s : ℕ) {n : ℕ} {ds : List ℕ} (short : n ≤ 24) (are : AreDigits
 
 -- ---- for the code: numbers that fit
 
-marks-small : (f : ℕ → ℕ) → ((d : ℕ) → d < 4 → f d < 4) → (w : ℕ) → marks f w < 2 ^ 54
-unfolding marks
-marks-small f h w = path-lt (each-digits (digits-of 27 w))
-  where
-    each-digits : {n : ℕ} {ds : List ℕ} → AreDigits n ds → AreDigits n (each f ds)
-    each-digits none = none
-    each-digits (more {d = d} l a) = more {d = f d} (omega (arith, h d (omega arith))) (each-digits a)
-
-pub others-small : (c : ℕ) → OneToThree c → (w : ℕ) → marks (other c) w < 2 ^ 54
-others-small c hc = marks-small (other c) (λ d l. one d l c hc)
-  where
-    one : (d : ℕ) → d < 4 → (c : ℕ) → OneToThree c → other c d < 4
-    one = sound (below 4 λ d. threes λ c. less (other c d) 4) refl
+pub others-small : (c : ℕ) → OneToThree c → (w : ℕ) → flags (other c) w < 2 ^ 54
+unfolding flags
+others-small c hc w = path-lt (each-digits (other c) (λ d l. omega (arith, other-low d (omega arith) c hc))
+    (digits-of 27 w))
 
 pub times-fit : {c x : ℕ} → OneToThree c → x ≤ 2 ^ 54 → c * x < 2 ^ 56
 times-fit hc l = omega (arith, mul-le-mul (hc .1) l)
 
-pub last-low : (n : ℕ) → 2 ^ (54 - 2 * n) ≤ 2 ^ 54
-last-low n = pow-mono {i = 54 - 2 * n} {j = 54} (omega arith)
+pub unit-small : (n : ℕ) → 2 ^ (54 - 2 * n) ≤ 2 ^ 54
+unit-small n = pow-mono {i = 54 - 2 * n} {j = 54} (omega arith)
 
--- ---- for the code: marks
+-- ---- for the code: flags
 
-pub somes-marked : (w : ℕ) → bitAnd (bitOr w (w / 2)) 6004799503160661 ≡ marks some w
-unfolding marks ones
-somes-marked w = somes 27 w
+pub somes-flagged : (w : ℕ) → bitAnd (bitOr w (w / 2)) 6004799503160661 ≡ flags sign w
+unfolding flags ones
+somes-flagged w = somes 27 w
 
-pub others-marked : (w c : ℕ) → OneToThree c → bitAnd (marks some w) (marks some (bitXor w (c * 6004799503160661))) ≡
-    marks (other c) w
-unfolding marks ones
-others-marked w c hc = others 27 w c hc
+pub others-flagged : (w c : ℕ) → OneToThree c → bitAnd (flags sign w) (flags sign (bitXor w (c * 6004799503160661))) ≡
+    flags (other c) w
+unfolding flags ones
+others-flagged w c hc = others 27 w c hc
 
-pub spanned : (w last k : ℕ) → bitAnd (bitXor (3 * marks (other k) w) (3 * marks (other k) w + last)) 24019198012642645
-    ≡ span w last k
-unfolding span ones
-spanned w last k = refl
+pub spanned : (w unit k : ℕ) → bitAnd (bitXor (3 * flags (other k) w) (3 * flags (other k) w + unit)) 24019198012642645
+    ≡ spanOf w unit k
+unfolding spanOf ones
+spanned w unit k = refl
 
 -- ---- for the code: over a seam
 
@@ -225,10 +217,10 @@ module _ (r k : ℕ) (e : checkNameFields (nameOf r) ≡ 0) (hk : OneToThree k) 
   hc : OneToThree c
   hc = seam-kept (here .side) (at-place r e .a-side) k hk
 
-  word-here : r ≡ wordOf (here .side) (degreeOf r) (path (here .digits)) + here .number
+  pub word-here : r ≡ wordOf (here .side) (degreeOf r) (path (here .digits)) + here .number
   word-here = place-name r e ∙ name-word (at-place r e) (low-degree r e)
 
-  pub seam-word : bitXor r (c * marks (other c) r) % 2 ^ 59 + 2 ^ 59 * seamSide (here .side) k ≡ nameAt
+  pub seam-word : bitXor r (c * flags (other c) r) % 2 ^ 59 + 2 ^ 59 * seamSide (here .side) k ≡ nameAt
       (overSeam k here)
   unfolding nameAt wordAt
   seam-word =
@@ -239,7 +231,7 @@ module _ (r k : ℕ) (e : checkNameFields (nameOf r) ≡ 0) (hk : OneToThree k) 
       let hi : i < 4 = omega (arith, a .a-number .1) in
       let f = flipped (here .side) low are i hi c hc in
       ap (λ (w : ℕ). w % 2 ^ 59 + 2 ^ 59 * seamSide (here .side) k)
-      (ap (λ (w : ℕ). bitXor w (c * marks (other c) w)) word-here ∙ f)
+      (ap (λ (w : ℕ). bitXor w (c * flags (other c) w)) word-here ∙ f)
       ∙ side-changed (here .side) (seamSide (here .side) k) (a .a-side) low (flip-digits c hc are) (flip c i)
       (omega (arith, flip-digit c i hc (omega arith)))
       ∙ ap (λ (m : ℕ). wordOf (seamSide (here .side) k) m (path (each (flip c) (here .digits))) + flip c i)
@@ -247,31 +239,7 @@ module _ (r k : ℕ) (e : checkNameFields (nameOf r) ≡ 0) (hk : OneToThree k) 
 
 -- ---- for the code: across an edge of a code
 
--- a code with a number
 module _ (t : TriangleCode) (z : checkCode t ≡ 0) (k : ℕ) (hk : OneToThree k) where
-  inside-numbered : words.inside (t .0 + k) ≡ t .0
-  inside-numbered = omega (arith, code-passes t .0 z .1)
-
-  number-numbered : cornerNumber (t .0 + k) ≡ k
-  number-numbered = omega (arith, code-passes t .0 z .1)
-
-  pub numbered-fits : t .0 + k < 2 ^ 64
-  numbered-fits = omega (arith, code-passes t .0 z .1, code-below (is-code t z))
-
-  pub numbered-fields : checkNameFields (nameOf (t .0 + k)) ≡ 0
-  numbered-fields =
-      code-name (nameOf (t .0 + k)) (subst (λ (w : ℕ). checkCode (codeOf w) ≡ 0) (sym inside-numbered) z)
-      (rw number-numbered (hk .0)) (rw number-numbered (hk .1)) .0
-
-  pub numbered-place : placeAt (t .0 + k) ≡ placeIn t k
-  numbered-place =
-      λ i. record {
-        side = sideOf (inside-numbered i);
-        digits =
-            digits (inside-numbered i) (degreeOf (inside-numbered i));
-        number = number-numbered i;
-      }
-
   a-code-here : IsCode (degreeOf (t .0)) t
   a-code-here = is-code t z
 
@@ -294,7 +262,7 @@ module _ (t : TriangleCode) (z : checkCode t ≡ 0) (k : ℕ) (hk : OneToThree k
   as-long = step-beside k s (digitsIn t) hk (code-side a-code-here) (in-digits a-code-here) .degree
       ∙ in-length a-code-here
 
-  module _ {x : ℕ} (g : x ≡ span (t .0) (2 ^ (54 - 2 * degreeOf (t .0))) k) where
+  module _ {x : ℕ} (g : x ≡ spanOf (t .0) (2 ^ (54 - 2 * degreeOf (t .0))) k) where
     pub across-inside : x < 2 ^ 54 → record { code = codeOf (bitXor (t .0) (k * x)); number = k } ≡ edgeThere to
     across-inside h =
         let a = step-inside s short these 0 (omega arith) k hk as-word g h 0 (omega arith) in
@@ -316,28 +284,29 @@ module _ (t : TriangleCode) (z : checkCode t ≡ 0) (k : ℕ) (hk : OneToThree k
         let b = step-outside s short these 0 (omega arith) k hk as-word g h in
         let l : length es ≡ degreeOf (t .0) = each-length (flip c) (digitsIn t) ∙ in-length a-code-here in
         let e : r ≡ wordOf (seamSide s k) (degreeOf (t .0)) (path es) + flip c k =
-        f ∙ ap (λ (q : Place). nameAt (overSeam k q)) numbered-place
+        f ∙ ap (λ (q : Place). nameAt (overSeam k q)) (numbered-place t z k hk)
         ∙ ap (λ (m : ℕ). wordOf (seamSide s k) m (path es) + flip c k) l in
-        let i : flip c k < 4 = omega (arith, flip-digit c k hc (hk .1)) in
+        let i = flip-three c hc k hk in
         let hs = seam-side s (code-side a-code-here) k hk in
-        let d = flip-digits c hc these in
-        let u : r % 4 ≡ flip c k = ap (λ (y : ℕ). y % 4) e ∙ number-of (seamSide s k) hs short d (flip c k) i in
+        let p = path-code (seamSide s k) (degreeOf (t .0)) (hs .0) (hs .1) short (path es)
+        (path-lt (flip-digits c hc these)) .passes in
+        let u : r % 4 ≡ flip c k = ap (λ (y : ℕ). y % 4) e ∙ number-of _ p (flip c k) i in
         let w : r - r % 4 ≡ wordOf (seamSide s k) (length es) (path es) =
-        ap (λ (y : ℕ). y - y % 4) e ∙ code-of (seamSide s k) hs short d (flip c k) i
+        ap (λ (y : ℕ). y - y % 4) e ∙ code-of _ p (flip c k) i
         ∙ ap (λ (m : ℕ). wordOf (seamSide s k) m (path es)) (sym l) in
         (λ j. record { code = codeOf (w j); number = u j }) ∙ ap edgeThere (sym b)
 
 -- ---- for the code: round a corner
 
-third : (i : ℕ) → OneToThree i → (bitXor i (next i) ≡ next (next i)) × (prev (next i) ≡ i)
-third = sound (threes λ i. same (bitXor i (next i)) (next (next i)) and same (prev (next i)) i) refl
+third : (i : ℕ) → OneToThree i → bitXor i (next i) ≡ next (next i)
+third = sound (threes λ i. same (bitXor i (next i)) (next (next i))) refl
 
 -- the edge that follows the corner
-pub turn-edge : (r : ℕ) → checkNameFields (nameOf r) ≡ 0 → {k : ℕ} → k ≡ next (cornerNumber r) → OneToThree k
-turn-edge r e f = rw f (next-three (cornerNumber r) (at-place r e .a-number))
+pub around-edge : (r : ℕ) → checkNameFields (nameOf r) ≡ 0 → {k : ℕ} → k ≡ next (cornerNumber r) → OneToThree k
+around-edge r e f = rw f (next-three (cornerNumber r) (at-place r e .a-number))
 
 module _ (r : ℕ) (e : checkNameFields (nameOf r) ≡ 0) {k x : ℕ} (f : k ≡ next (cornerNumber r))
-    (g : x ≡ span r (2 ^ (54 - 2 * degreeOf r)) k) where
+    (g : x ≡ spanOf r (2 ^ (54 - 2 * degreeOf r)) k) where
   abbrev q : Place
   q = placeAt r
 
@@ -345,7 +314,7 @@ module _ (r : ℕ) (e : checkNameFields (nameOf r) ≡ 0) {k x : ℕ} (f : k ≡
   a = at-place r e
 
   edge : OneToThree k
-  edge = turn-edge r e f
+  edge = around-edge r e f
 
   low : degreeOf r ≤ 24
   low = low-degree r e
@@ -356,51 +325,44 @@ module _ (r : ℕ) (e : checkNameFields (nameOf r) ≡ 0) {k x : ℕ} (f : k ≡
   hi : q .number < 4
   hi = omega (arith, a .a-number .1)
 
-  pub turn-inside : x < 2 ^ 54 → bitXor r (k * (x + 1)) ≡ nameAt (around q)
+  pub around-inside : x < 2 ^ 54 → bitXor r (k * (x + 1)) ≡ nameAt (around q)
   unfolding around
-  turn-inside h =
+  around-inside h =
       let i = cornerNumber r in
       let s = step-inside (q .side) low are i hi k edge (word-here r k e edge) g h k (omega (arith, edge .1)) in
-      let t = third i (a .a-number) in
       let m : k * (x + 1) ≡ k * x + k = omega arith in
-      let n : bitXor i k ≡ next (stepOf k (q .side) (q .digits) .edge) = ap (bitXor i) f ∙ t .0
+      let n : bitXor i k ≡ next (stepOf k (q .side) (q .digits) .edge) = ap (bitXor i) f ∙ third i (a .a-number)
       ∙ ap next (sym (s .1 ∙ f)) in
       let b = name-word (at-next r e) low in
       ap (bitXor r) m ∙ s .0 ∙ ap (λ (y : ℕ). wordOf (stepOf k (q .side) (q .digits) .side) (degreeOf r)
       (path (stepOf k (q .side) (q .digits) .digits)) + y) n
       ∙ rw f (sym b)
 
-  pub turn-over : (x < 2 ^ 54 → ⊥) → nameAt (overSeam k q) ≡ nameAt (around q)
+  pub around-over : (x < 2 ^ 54 → ⊥) → nameAt (overSeam k q) ≡ nameAt (around q)
   unfolding around
-  turn-over h =
+  around-over h =
       let i = cornerNumber r in
       let c = seamKept (q .side) k in
       let s = step-outside (q .side) low are i hi k edge (word-here r k e edge) g h in
       let hc = seam-kept (q .side) (a .a-side) k edge in
-      let t = third i (a .a-number) in
       let n : flip c i ≡ next (flip c k) =
-      ap (flip c) (sym (t .1)) ∙ flip-prev c hc (next i) (next-three i (a .a-number))
+      ap (flip c) (sym (prev-next i (a .a-number))) ∙ flip-prev c hc (next i) (next-three i (a .a-number))
       ∙ ap (λ (m : ℕ). next (flip c m)) (sym f) in
       let p : overSeam k q ≡ arrived (stepOf k (q .side) (q .digits)) =
       (λ j. record { side = seamSide (q .side) k; digits = each (flip c) (q .digits); number = n j })
       ∙ ap arrived (sym s) in
       ap nameAt (p ∙ ap (λ (m : ℕ). arrived (stepOf m (q .side) (q .digits))) f)
 
--- a word that is the name of a place round the corner: its fields, its last digit, its place
+-- a word that is the name of a place round the corner: its fields, its unit, its place
 module _ {n : ℕ} {P : List ℕ} {q : Place} (a : At n P q) (low : n ≤ 24) {t : ℕ} (f : t ≡ nameAt q) where
   pub fields-there : checkNameFields (nameOf t) ≡ 0
   fields-there = rw f (name-fields a low)
 
-  pub last-there : {last : ℕ} → last ≡ 2 ^ (54 - 2 * n) → last ≡ 2 ^ (54 - 2 * degreeOf t)
-  last-there g = g ∙ ap (λ (m : ℕ). 2 ^ (54 - 2 * m)) (sym (ap degreeOf f ∙ name-degree a low))
+  pub unit-there : {unit : ℕ} → unit ≡ 2 ^ (54 - 2 * n) → unit ≡ 2 ^ (54 - 2 * degreeOf t)
+  unit-there g = g ∙ ap (λ (m : ℕ). 2 ^ (54 - 2 * m)) (sym (ap degreeOf f ∙ name-degree a low))
 
   pub place-there : placeAt t ≡ q
   place-there = ap placeAt f ∙ name-place a low
-
--- the word of a place is the name less the number
-pub word-place : (r : ℕ) → checkNameFields (nameOf r) ≡ 0 → r - r % 4 ≡ wordAt (placeAt r)
-unfolding wordAt
-word-place r e = ap (λ (t : TriangleCode). t .0) (code-for (name-code (nameOf r) e))
 
 -- the walk, place by place
 module _ (r : ℕ) (e : checkNameFields (nameOf r) ≡ 0) (i : ℕ) where
@@ -439,17 +401,17 @@ module _ (s n v i : ℕ) (hs : IsSide s) (low : n ≤ 24) (hv : v < 2 ^ (2 * n))
   abbrev pub made : Place
   made = record { side = s; digits = digitsOf n v; number = i }
 
-  at-made : At n (cornerOf s (digitsOf n v) i) made
-  at-made = record { a-side = hs; the-digits = of-digits n v; degree = of-length n v; a-number = hi; corner = refl }
+  pub at-made : {P : List ℕ} → cornerOf s (digitsOf n v) i ≡ P → At n P made
+  at-made e = record { a-side = hs; the-digits = of-digits n v; degree = of-length n v; a-number = hi; corner = e }
 
   made-name : wordOf s n v + i ≡ nameAt made
-  made-name = ap (λ (u : ℕ). wordOf s n u + i) (sym (path-of n v hv)) ∙ sym (name-word at-made low)
+  made-name = ap (λ (u : ℕ). wordOf s n u + i) (sym (path-of n v hv)) ∙ sym (name-word (at-made refl) low)
 
   pub made-fits : wordOf s n v + i < 2 ^ 64
   made-fits = numbered-fits (codeOf (wordOf s n v)) (path-code s n (hs .0) (hs .1) low v hv .passes) i hi
 
   pub made-fields : checkNameFields (nameOf (wordOf s n v + i)) ≡ 0
-  made-fields = rw made-name (name-fields at-made low)
+  made-fields = rw made-name (name-fields (at-made refl) low)
 
   pub made-place : placeAt (wordOf s n v + i) ≡ made
-  made-place = ap placeAt made-name ∙ name-place at-made low
+  made-place = ap placeAt made-name ∙ name-place (at-made refl) low

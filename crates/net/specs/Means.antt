@@ -6,4 +6,4 @@ pub mod Gathers
 pub mod Seams
 pub mod Spreads
 pub mod Walks
-pub mod Marks
+pub mod Flags

@@ -4,7 +4,6 @@ use crate::State;
 ghost use mathlib.Core.Path.{_≡_};
 ghost use Prim.Native.Nat.{_*_, _/_, _^_, _<_, _≤_};
 ghost use lib.Bits.{bitXor};
-ghost use Rattle.words.specs.Words.{path};
 ghost use Rattle.net.specs.Sides.{OneToThree};
 ghost use Rattle.net.specs.Means.States.{stateOf, pointOf, parity, lastOf, halves, Low};
 ghost use Rattle.net.specs.Means.Paths.{digitsOf, pathUp};
@@ -125,7 +124,7 @@ fn gathered(v: u64) -> u64
     (e | (e / 65536)) & 0xFFFF_FFFF
 }
 
-// Each bit summed with all bits above it.
+// Each bit summed with all bits above it: the one number whose bits differ from the next above just where z has 1.
 fn parities(z: u64) -> u64
     requires { ⌜ z < 2 ^ 32 ⌝ }
     ensures { λ r. ⌜ bitXor r (r / 2) ≡ z ⌝ }

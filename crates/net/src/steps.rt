@@ -11,53 +11,66 @@ ghost use Rattle.words.specs.Refusals.{checkCode, checkNameFields};
 ghost use Rattle.net.specs.Sides.{OneToThree};
 ghost use Rattle.net.specs.Corners.{nameOf};
 ghost use Rattle.net.specs.Refusals.{over};
-ghost use Rattle.net.specs.Means.Marks.{some, other, marks, span};
+ghost use Rattle.net.specs.Means.Spreads.{sign};
+ghost use Rattle.net.specs.Means.Flags.{other, flags, spanOf};
 ghost use Rattle.net.specs.Means.Walks.{stepFrom, edgeThere, placeAt, overSeam, around, lesser, nameAt};
 ghost use Rattle.net.specs.Means.Walks.{leastName, ringWords};
 
-// ---- digits that are marked
+// 1 at each of the 27 pairs of bits below a word's degree: its digits, two pairs of zero bits, the corner number.
+const ONES: u64 = 0x15_5555_5555_5555;
 
-// 1 at each that is not 0.
+// 1 at each of these, and at the lowest bit of the degree.
+const MORE_ONES: u64 = 0x55_5555_5555_5555;
+
+// 2^54: the first number above all digits.
+const ABOVE: u64 = 18014398509481984;
+
+// 2^59: the weight of a word's side.
+const SIDE: u64 = 576460752303423488;
+
+// ---- flags at digits
+
+// 1 at each digit that is not 0.
 fn somes_of(w: u64) -> u64
-    ensures { λ r. ⌜ r ≡ marks some w ⌝ }
+    ensures { λ r. ⌜ r ≡ flags sign w ⌝ }
 {
-    (w | (w / 2)) & 0x15_5555_5555_5555
+    (w | (w / 2)) & ONES
 }
 
-// 1 at each that is neither 0 nor c.
+// 1 at each digit that is neither 0 nor c.
 fn others_of(w: u64, c: u64) -> u64
     requires { ⌜ OneToThree c ⌝ }
-    ensures { λ r. ⌜ r ≡ marks (other c) w ⌝ }
+    ensures { λ r. ⌜ r ≡ flags (other c) w ⌝ }
 {
-    somes_of(w) & somes_of(w ^ (c * 0x15_5555_5555_5555))
+    somes_of(w) & somes_of(w ^ (c * ONES))
 }
 
-// 1 at each that the step across edge k changes: from the last up to the first that is 0 or k, that one with them.
-// Where there is none, the 1 that is added to the last is carried to the place above the digits.
-fn span_of(w: u64, last: u64, k: u64) -> u64
-    requires { ⌜ OneToThree k × (last ≤ 2 ^ 54) ⌝ }
-    ensures { λ r. ⌜ r ≡ span w last k ⌝ }
+// 1 at each digit that the step across edge k changes: from the last, whose weight is the unit, up to the first that is
+// 0 or k, that one with them. Where there is none, what is added to the last is carried above all digits.
+fn span_of(w: u64, unit: u64, k: u64) -> u64
+    requires { ⌜ OneToThree k × (unit ≤ 2 ^ 54) ⌝ }
+    ensures { λ r. ⌜ r ≡ spanOf w unit k ⌝ }
 {
     let threes = 3 * others_of(w, k);
-    (threes ^ (threes + last)) & 0x55_5555_5555_5555
+    (threes ^ (threes + unit)) & MORE_ONES
 }
 
 // ---- steps
 
-// Over the seam of edge k: on the side across it, with every digit and the number renumbered.
+// Over the seam of edge k: on the side across it, with every digit, and the number in the lowest bits, renumbered.
 fn over_seam(r: u64, k: u64) -> u64
     requires { ⌜ (checkNameFields (nameOf r) ≡ 0) × OneToThree k ⌝ }
     ensures { λ q. ⌜ q ≡ nameAt (overSeam k (placeAt r)) ⌝ }
 {
     let s = words::side_of(r);
     let c = seams::seam_kept(s, k);
-    let t = r ^ (c * others_of(r, c));
-    t % 576460752303423488 + 576460752303423488 * seams::seam_side(s, k)
+    let w = r ^ (c * others_of(r, c));
+    w % SIDE + SIDE * seams::seam_side(s, k)
 }
 
 impl Edge {
     // The same edge, of the triangle across it. A step inside a side changes each digit of its span by k, since i xor j
-    // is k for {i, j, k} = {1, 2, 3}.
+    // is k for {i, j, k} = {1, 2, 3}. Over a seam the edge's number is renumbered with the digits.
     pub fn neighbour(self) -> Edge
         requires { ⌜ (checkCode (self .code) ≡ 0) × OneToThree (self .number) ⌝ }
         ensures { λ r. ⌜ r ≡ edgeThere (stepFrom self) ⌝ }
@@ -65,8 +78,8 @@ impl Edge {
         let t = self.code;
         let w = t.0;
         let k = self.number;
-        let x = span_of(w, words::last_of(w), k);
-        if x < 18014398509481984 {
+        let x = span_of(w, words::unit_of(w), k);
+        if x < ABOVE {
             return Edge {
                 code: TriangleCode(w ^ (k * x)),
                 number: k,
@@ -82,14 +95,14 @@ impl Edge {
 
 // ---- round a corner
 
-// The next triangle anticlockwise, with the corner's number there. Inside a side the number is changed by k too.
-fn turned(r: u64, last: u64) -> u64
-    requires { ⌜ (checkNameFields (nameOf r) ≡ 0) × (last ≡ 2 ^ (54 - 2 * degreeOf r)) ⌝ }
+// The next triangle anticlockwise, with the corner's number there: inside a side that is changed by k too.
+fn around(r: u64, unit: u64) -> u64
+    requires { ⌜ (checkNameFields (nameOf r) ≡ 0) × (unit ≡ 2 ^ (54 - 2 * degreeOf r)) ⌝ }
     ensures { λ q. ⌜ q ≡ nameAt (around (placeAt r)) ⌝ }
 {
     let k = seams::next_of(r % 4);
-    let x = span_of(r, last, k);
-    if x < 18014398509481984 {
+    let x = span_of(r, unit, k);
+    if x < ABOVE {
         return r ^ (k * (x + 1));
     }
     over_seam(r, k)
@@ -102,14 +115,14 @@ fn lesser_of(a: u64, b: u64) -> u64
 }
 
 // The least name here and in the m triangles that follow round the corner.
-fn least_of(m: u64, r: u64, last: u64) -> u64
-    requires { ⌜ (checkNameFields (nameOf r) ≡ 0) × (last ≡ 2 ^ (54 - 2 * degreeOf r)) ⌝ }
+fn least_of(m: u64, r: u64, unit: u64) -> u64
+    requires { ⌜ (checkNameFields (nameOf r) ≡ 0) × (unit ≡ 2 ^ (54 - 2 * degreeOf r)) ⌝ }
     ensures { λ q. ⌜ q ≡ leastName m (placeAt r) ⌝ }
 {
     if m == 0 {
         return r;
     }
-    lesser_of(r, least_of(m - 1, turned(r, last), last))
+    lesser_of(r, least_of(m - 1, around(r, unit), unit))
 }
 
 // The canonical name of the corner that a word with a name's fields has.
@@ -118,23 +131,23 @@ pub fn least_name(r: CornerName) -> CornerName
     ensures { λ q. ⌜ q ≡ nameOf (leastName 5 (placeAt (r .0))) ⌝ }
 {
     let w = r.0;
-    CornerName(least_of(5, w, words::last_of(w)))
+    CornerName(least_of(5, w, words::unit_of(w)))
 }
 
 // The codes of m triangles round the corner that a name names, from its own on, over the front of a list; later places
 // are unchanged.
 pub fn write_ring(r: CornerName, m: u64, out: &mut [u64])
-    requires { ⌜ (checkNameFields r ≡ 0) × (1 ≤ m) × (m ≤ 6) × (6 ≤ length (now out)) ⌝ }
+    requires { ⌜ (checkNameFields r ≡ 0) × (1 ≤ m) × (m ≤ length (now out)) ⌝ }
     ensures { λ _. ⌜ now (out .exit) ≡ over (ringWords m (placeAt (r .0))) (now (out .entry)) ⌝ }
 {
     let mut q = r.0;
-    let last = words::last_of(q);
+    let unit = words::unit_of(q);
     let count = m as usize;
     out[0] = q - q % 4;
-    let mut k = 1;
-    while k < count {
-        q = turned(q, last);
-        out[k] = q - q % 4;
-        k += 1;
+    let mut i = 1;
+    while i < count {
+        q = around(q, unit);
+        out[i] = q - q % 4;
+        i += 1;
     }
 }

@@ -3,12 +3,11 @@ use mathlib.Core.Path.{_≡_, _∙_, refl, sym, ap}
 use mathlib.Core.Logic.{_↔_}
 use mathlib.Core.Bool.{false, not}
 use mathlib.Core.List.{List}
-use Prim.Native.Nat.{ℕ, _+_, _-_, _*_, _/_, _%_, _^_, _≤_, _<_}
+use Prim.Native.Nat.{ℕ, _-_, _*_, _/_, _%_, _^_, _≤_, _<_}
 use native.Mathlib.Nat.{pos-of-ne-zero}
 use native.Mathlib.Omega.{arith}
 use lib.Dec.{eqb}
 use lib.ListN.{take}
-use lib.Pow.{mod-pow-add}
 use borrow.Author.Tests.{ltb-false, eqb-true, eqb-false, not-false, le-ltb, eq-eqb, ne-eqb}
 use Rattle.words.specs.Words.{aOf, degreeOf, digits, beyond, zeroBits, cornerNumber, sideOf, path, wordOf, inside}
 use Rattle.words.specs.Refusals.{_either_, refusal, wordRows, checkCode, checkNameFields, IsCode}
@@ -16,7 +15,7 @@ use Rattle.words.specs.Family.{codeOf}
 use Rattle.words.specs.declared.TriangleCode.{TriangleCode}
 use Rattle.words.specs.declared.CornerName.{CornerName}
 use Rattle.words.proofs.Refusing.{none-so, none-after, either-false}
-use Rattle.words.proofs.WordLayout.{word-is, beyond-is, low-is}
+use Rattle.words.proofs.WordLayout.{word-is, beyond-is, low-is, below-zero as layout-below-zero}
 use Rattle.words.proofs.Digits.{side-top, path-digits, AreDigits, path-lt, side-word, degree-word, digits-word}
 
 -- What both kinds of word share: refusals 1 to 3 are not given.
@@ -50,11 +49,7 @@ side-degree w e = ltb-false 24 _ (none-so (take 2 (wordRows w)) tt .0 e .0)
 
 -- all below n digits is 0: the digits beyond, and the low bits
 pub below-zero : (w n : ℕ) → n ≤ 24 → (w % 2 ^ (54 - 2 * n) ≡ 0) ↔ ((beyond w n ≡ 0) × (w % 64 ≡ 0))
-below-zero w n h =
-    let e : 54 - 2 * n ≡ 48 - 2 * n + 6 = omega arith in
-    let parts : w % 2 ^ (54 - 2 * n) ≡ beyond w n * 2 ^ 6 + w % 2 ^ 6 =
-    ap (λ (k : ℕ). w % 2 ^ k) e ∙ mod-pow-add w (48 - 2 * n) 6 in
-    (λ z. (omega (arith, parts), omega (arith, parts)), λ z. omega (arith, parts, z .0, z .1))
+below-zero = layout-below-zero 5 24 6
 
 -- the zero bits and the corner number are 0
 pub low-zero : (w : ℕ) → ((not (eqb (zeroBits w) 0) either not (eqb (cornerNumber w) 0)) ≡ false) ↔ (w % 64 ≡ 0)

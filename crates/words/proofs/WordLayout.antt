@@ -63,10 +63,22 @@ module _ (d m l : ℕ) where
   unit-low n h = let e : 2 * m + l - 2 * n ≡ 2 * m - 2 * n + l = omega arith in ap (λ (k : ℕ). 2 ^ k) e ∙ pow-add 2 (2 * m - 2 * n) l
 
   -- n digits times their unit fill all below the degree
-  unit-high : (n : ℕ) → n ≤ m → 2 ^ (2 * n) * unit m l n ≡ 2 ^ (2 * m + l)
+  pub unit-high : (n : ℕ) → n ≤ m → 2 ^ (2 * n) * unit m l n ≡ 2 ^ (2 * m + l)
   unit-high n h =
       let e : 2 * n + (2 * m + l - 2 * n) ≡ 2 * m + l = omega arith in
       sym (pow-add 2 (2 * n) (2 * m + l - 2 * n)) ∙ ap (λ (k : ℕ). 2 ^ k) e
+
+  -- all below n digits is 0: the digits beyond, and the low bits
+  pub below-zero : (w n : ℕ) → n ≤ m
+      → (w % unit m l n ≡ 0) ↔ ((w / 2 ^ l % 2 ^ (2 * m - 2 * n) ≡ 0) × (w % 2 ^ l ≡ 0))
+  below-zero w n h =
+      let b = w / 2 ^ l % 2 ^ (2 * m - 2 * n) in
+      let e : 2 * m + l - 2 * n ≡ 2 * m - 2 * n + l = omega arith in
+      let parts : w % unit m l n ≡ b * 2 ^ l + w % 2 ^ l =
+      ap (λ (k : ℕ). w % 2 ^ k) e ∙ mod-pow-add w (2 * m - 2 * n) l in (
+        λ z. (omega (arith, parts, le-mul-of-pos-right b (pow-pos l)), omega (arith, parts)),
+        λ z. omega (arith, parts, ap (λ (x : ℕ). x * 2 ^ l) (z .0), z .1),
+      )
 
   top : 2 ^ (2 * m + l + d) ≡ 2 ^ (2 * m + l) * 2 ^ d
   top = pow-add 2 (2 * m + l) d
@@ -122,8 +134,7 @@ module _ (d m l : ℕ) where
       let P = 2 ^ (2 * n) in
       let B = 2 ^ (2 * m + l) in
       let H = 2 ^ (2 * m + l + d) in
-      let z : w % U ≡ 0 =
-      rw (unit-low n n≤) (mod-mul w (pow-pos (2 * m - 2 * n)) (pow-pos l) ∙ omega (arith, ap (λ (k : ℕ). k * 2 ^ l) beyond)) in
+      let z : w % U ≡ 0 = below-zero w n n≤ .1 (beyond, low) in
       let a : w / U * U + w % U ≡ w = div-add-mod' w U in
       let b : w / U / P * P + w / U % P ≡ w / U = div-add-mod' (w / U) P in
       let c : w / U / P ≡ w / B = div-div-eq-div-mul w U P ∙ ap (λ (k : ℕ). w / k) (omega (arith, unit-high n n≤)) in

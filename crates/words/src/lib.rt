@@ -71,8 +71,8 @@ pub fn word_of(s: u64, n: u64, v: u64) -> u64
     s * 576460752303423488 + n * 18014398509481984 + v * power(54 - 2 * n)
 }
 
-// Where the last of a word's digits stands: 2 to its place.
-pub fn last_of(w: u64) -> u64
+// The weight of the last of a word's digits: 2 to its place; 2^54 where it has none.
+pub fn unit_of(w: u64) -> u64
     requires { ⌜ degreeOf w ≤ 24 ⌝ }
     ensures { λ r. ⌜ r ≡ 2 ^ (54 - 2 * degreeOf w) ⌝ }
 {
@@ -90,7 +90,7 @@ fn beyond_of(w: u64) -> u64
 // ---- checking
 
 // Refusals 1 and 2, by what stands above the digits.
-fn check_side(w: u64) -> u64
+fn check_above(w: u64) -> u64
     ensures { λ r. ⌜ r ≡ refusal (take 2 (wordRows w)) ⌝ }
 {
     let n = degree_of(w);
@@ -111,7 +111,7 @@ fn check_side(w: u64) -> u64
 fn check_word(w: u64) -> u64
     ensures { λ r. ⌜ r ≡ refusal (wordRows w) ⌝ }
 {
-    let f = check_side(w);
+    let f = check_above(w);
     if f != 0 {
         return f;
     }
@@ -145,11 +145,11 @@ impl TriangleCode {
         ensures { λ r. ⌜ r ≡ checkCode self ⌝ }
     {
         let w = self.0;
-        let f = check_side(w);
+        let f = check_above(w);
         if f != 0 {
             return f;
         }
-        if w % last_of(w) == 0 {
+        if w % unit_of(w) == 0 {
             return 0;
         }
         if beyond_of(w) != 0 {

@@ -44,7 +44,7 @@ write-ring-requires c κs =
     let d = m .before .before .before in
     let p = m .before .point-of .result in
     let n = m .ring-count .ensures in
-    (name-means _ .0 (passes (d .before)) .0, count-least p n, count-most p n, d .if2 .left)
+    (name-means _ .0 (passes (d .before)) .0, count-least p n, omega (arith, count-most p n, d .if2 .left))
 
 same-length : tie.Need-same-length
 same-length c = search needs

@@ -13,6 +13,18 @@ use Rattle.net.specs.Means.States.{Move, inside, outside, cross}
 use Rattle.net.specs.Means.Seams.{seamSide, seamKept, flip}
 use Rattle.net.specs.declared.Edge.{Edge}
 
+-- a triangle and the number that a corner has in it
+pub record Place : Type 0 where
+  pub side : ℕ
+  pub digits : List ℕ
+  pub number : ℕ
+
+-- over the seam of edge k every digit, and the number, is renumbered
+abbrev pub overSeam : ℕ → Place → Place
+overSeam k q =
+    let c = seamKept (q .side) k in
+    record { side = seamSide (q .side) k; digits = each (flip c) (q .digits); number = flip c (q .number) }
+
 -- where a step arrives: a triangle, and the number of the shared edge there
 pub record Arrival : Type 0 where
   pub side : ℕ
@@ -22,7 +34,9 @@ pub record Arrival : Type 0 where
 -- inside the side the edge keeps its number; over a seam every digit, and the edge, is renumbered
 abbrev pub arrival : (k s : ℕ) → List ℕ → Move (List ℕ) → Arrival
 arrival k s ds (inside es) = record { side = s; digits = es; edge = k }
-arrival k s ds outside = record { side = seamSide s k; digits = each (flip (seamKept s k)) ds; edge = flip (seamKept s k) k }
+arrival k s ds outside =
+    let q = overSeam k (record { side = s; digits = ds; number = k }) in
+    record { side = q .side; digits = q .digits; edge = q .number }
 
 unfoldable pub stepOf : (k s : ℕ) → List ℕ → Arrival
 stepOf k s ds = arrival k s ds (cross k ds)
@@ -34,23 +48,11 @@ stepFrom e = let w = e .code .0 in stepOf (e .number) (sideOf w) (digits w (degr
 abbrev pub edgeThere : Arrival → Edge
 edgeThere r = record { code = codeOf (wordOf (r .side) (length (r .digits)) (path (r .digits))); number = r .edge }
 
--- a triangle and the number that a corner has in it
-pub record Place : Type 0 where
-  pub side : ℕ
-  pub digits : List ℕ
-  pub number : ℕ
-
 -- the place that a word has by its fields
 abbrev pub placeAt : ℕ → Place
 placeAt r =
     let w = words.inside r in
     record { side = sideOf w; digits = digits w (degreeOf w); number = cornerNumber r }
-
--- over the seam of edge k every digit, and the number, is renumbered
-abbrev pub overSeam : ℕ → Place → Place
-overSeam k q =
-    let c = seamKept (q .side) k in
-    record { side = seamSide (q .side) k; digits = each (flip c) (q .digits); number = flip c (q .number) }
 
 -- anticlockwise: across the edge that follows the corner's number, to the triangle where the corner follows that edge's number
 abbrev pub arrived : Arrival → Place

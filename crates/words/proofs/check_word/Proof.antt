@@ -12,13 +12,13 @@ use borrow.Author.Needs.{needs}
 use Rattle.words.proofs.check_word.Statement.{statement}
 use Rattle.words.proofs.check_word.Tie as tie
 
-check-side-requires : tie.Need-check-side-requires
-check-side-requires c κs = search needs
+check-above-requires : tie.Need-check-above-requires
+check-above-requires c κs = search needs
 
 returns : tie.Need-returns
 returns c =
     let w = c .before .before .args .w in
-    refuse-before (take 2 (wordRows w)) _ tt tt (c .before .check-side .ensures) (c .if1 .taken)
+    refuse-before (take 2 (wordRows w)) _ tt tt (c .before .check-above .ensures) (c .if1 .taken)
 
 beyond-of-requires : tie.Need-beyond-of-requires
 beyond-of-requires c κs = side-degree (c .before .before .args .w) (omega arith)
@@ -36,4 +36,4 @@ returns-3 c =
     (next (ap not (eq-eqb (beyond w (degreeOf w)) 0 (cc))) nothing)
 
 pub check-word-spec : {M : Type 1} → statement M
-check-word-spec = tie.close (tie.spec check-side-requires returns beyond-of-requires returns-2 returns-3)
+check-word-spec = tie.close (tie.spec check-above-requires returns beyond-of-requires returns-2 returns-3)

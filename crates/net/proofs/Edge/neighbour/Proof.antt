@@ -5,19 +5,20 @@ use native.Mathlib.Omega.{arith}
 use Prim.Native.Nat.{ℕ, _-_, _*_, _^_}
 use Rattle.words.proofs.Codes.{code-degree, is-code}
 use Rattle.words.specs.Words.{degreeOf}
-use Rattle.net.specs.Means.Marks.{span}
-use Rattle.net.proofs.WordSteps.{across-inside, across-seam, last-low, numbered-fields, numbered-fits, times-fit}
+use Rattle.net.specs.Means.Flags.{spanOf}
+use Rattle.net.proofs.WordSteps.{across-inside, across-seam, unit-small, numbered-fields, numbered-fits}
+use Rattle.net.proofs.WordSteps.{times-fit}
 use Rattle.net.proofs.Edge.neighbour.Statement.{statement}
 use Rattle.net.proofs.Edge.neighbour.Tie as tie
 
-last-of-requires : tie.Need-last-of-requires
-last-of-requires c κs = code-degree (is-code (c .before .args .self .code) (c .before .pre .0))
+unit-of-requires : tie.Need-unit-of-requires
+unit-of-requires c κs = code-degree (is-code (c .before .args .self .code) (c .before .pre .0))
 
 span-of-requires : tie.Need-span-of-requires
 span-of-requires c κs = (
   c .before .before .pre .1,
-  rw (c .last-of .ensures)
-      (last-low (degreeOf (c .before .before .args .self .code .0))),
+  rw (c .unit-of .ensures)
+      (unit-small (degreeOf (c .before .before .args .self .code .0))),
 )
 
 mul-t9 : tie.Need-mul-t9
@@ -27,12 +28,12 @@ mul-t9 c = omega (
       (omega (arith, c .if1 .taken)),
 )
 
--- the span, where the last digit stands
+-- the spanOf, where the last digit stands
 spans : (c : tie.After-span-of) → let s = c .before .before .before in
-    c .span-of .result ≡ span (s .args .self .code .0) (2 ^ (54 - 2 * degreeOf (s .args .self .code .0)))
+    c .span-of .result ≡ spanOf (s .args .self .code .0) (2 ^ (54 - 2 * degreeOf (s .args .self .code .0)))
     (s .args .self .number)
 spans c = let s = c .before .before .before in c .span-of .ensures
-    ∙ ap (λ (l : ℕ). span (s .args .self .code .0) l (s .args .self .number)) (c .before .last-of .ensures)
+    ∙ ap (λ (l : ℕ). spanOf (s .args .self .code .0) l (s .args .self .number)) (c .before .unit-of .ensures)
 
 returns : tie.Need-returns
 returns c =
@@ -63,7 +64,7 @@ pub neighbour-spec : {M : Type 1} → statement M
 neighbour-spec =
     tie.close
     (tie.spec
-    last-of-requires
+    unit-of-requires
     span-of-requires
     mul-t9
     returns

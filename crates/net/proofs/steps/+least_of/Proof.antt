@@ -6,13 +6,13 @@ use Prim.Native.Nat.{ℕ, _-_, _<_}
 use borrow.Fn.Kinds.{In}
 use borrow.Fn.PlainCycle.{Measures, is, falls, and}
 use Rattle.net.specs.Means.Walks.{leastName, lesser, placeAt}
-use Rattle.net.proofs.WordSteps.{at-next, fields-there, last-there, least-more, least-none, low-degree}
+use Rattle.net.proofs.WordSteps.{at-next, fields-there, unit-there, least-more, least-none, low-degree}
 use Rattle.net.proofs.WordSteps.{place-name, place-there}
 use Rattle.net.proofs.steps.least_of.Reads as least-of
 use Rattle.net.proofs.steps.least_of.Kinds as least-of-kinds
 use Rattle.net.proofs.steps.+least_of.Lts-least_of as least-of-lts
 use Rattle.net.proofs.steps.lesser_of.Reads as lesser-of-reads
-use Rattle.net.proofs.steps.turned.Reads as turned-reads
+use Rattle.net.proofs.steps.around.Reads as around-reads
 use Rattle.net.proofs.steps.+least_of.{statement}
 use Rattle.net.proofs.steps.+least_of.Tie.{close}
 
@@ -28,8 +28,8 @@ least-of-below t =
 
 abbrev calls : ℕ → least-of-lts.Claims
 calls t = (
-  turned-reads.Asked,
-  turned-reads.Learnt,
+  around-reads.Asked,
+  around-reads.Learnt,
   least-of-below t,
   least-of.Post,
   lesser-of-reads.Asked,
@@ -42,8 +42,8 @@ least-of-returns t c = place-name (c .before .args .r) (c .before .pre .1 .0) �
 least-of-sub-least-of : (t : ℕ) → least-of-lts.Need-sub-least-of (calls t) (least-of-at t) least-of.Post
 least-of-sub-least-of t c = omega arith
 
-least-of-turned-requires : (t : ℕ) → least-of-lts.Need-turned-requires (calls t) (least-of-at t) least-of.Post
-least-of-turned-requires t c κs = c .before .pre .1
+least-of-around-requires : (t : ℕ) → least-of-lts.Need-around-requires (calls t) (least-of-at t) least-of.Post
+least-of-around-requires t c κs = c .before .pre .1
 
 least-of-least-of-requires : (t : ℕ) → least-of-lts.Need-least-of-requires (calls t) (least-of-at t) least-of.Post
 least-of-least-of-requires t c κs =
@@ -52,7 +52,7 @@ least-of-least-of-requires t c κs =
     let p = s .pre .1 in
     let a = at-next r (p .0) in
     let l = low-degree r (p .0) in
-    (omega arith, (fields-there a l (c .turned .ensures), last-there a l (c .turned .ensures) (p .1)))
+    (omega arith, (fields-there a l (c .around .ensures), unit-there a l (c .around .ensures) (p .1)))
 
 least-of-lesser-of-requires : (t : ℕ) → least-of-lts.Need-lesser-of-requires (calls t) (least-of-at t) least-of.Post
 least-of-lesser-of-requires t c κs = tt
@@ -64,7 +64,7 @@ least-of-returns-2 t c =
     let r = s .args .r in
     let p = s .pre .1 in
     let e = c .before .least-of .ensures ∙ ap (leastName (s .args .m - 1))
-    (place-there (at-next r (p .0)) (low-degree r (p .0)) (d .turned .ensures)) in
+    (place-there (at-next r (p .0)) (low-degree r (p .0)) (d .around .ensures)) in
     c .lesser-of .ensures ∙ (λ i. lesser (place-name r (p .0) i) (e i))
     ∙ least-more (s .args .m) (placeAt r) (d .before .if1 .left)
 
@@ -73,7 +73,7 @@ pub +least-of-spec : {M : Type 1} → statement M
     least-of.Post
     (least-of-returns t)
     (least-of-sub-least-of t)
-    (least-of-turned-requires t)
+    (least-of-around-requires t)
     (least-of-least-of-requires t)
     (least-of-lesser-of-requires t)
     (least-of-returns-2 t)

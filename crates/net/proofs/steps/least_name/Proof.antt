@@ -7,8 +7,8 @@ use Rattle.net.proofs.WordSteps.{low-degree}
 use Rattle.net.proofs.steps.least_name.Statement.{statement}
 use Rattle.net.proofs.steps.least_name.Tie as tie
 
-last-of-requires : tie.Need-last-of-requires
-last-of-requires c κs = low-degree (c .args .r .0) (c .pre)
+unit-of-requires : tie.Need-unit-of-requires
+unit-of-requires c κs = low-degree (c .args .r .0) (c .pre)
 
 least-of-requires : tie.Need-least-of-requires
 least-of-requires c κs = search needs
@@ -17,4 +17,4 @@ returns : tie.Need-returns
 returns c = ap nameOf (c .least-of .ensures)
 
 pub least-name-spec : {M : Type 1} → statement M
-least-name-spec = tie.close (tie.spec last-of-requires least-of-requires returns)
+least-name-spec = tie.close (tie.spec unit-of-requires least-of-requires returns)

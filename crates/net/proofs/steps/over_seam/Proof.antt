@@ -5,7 +5,7 @@ use native.Mathlib.Omega.{arith}
 use Prim.Native.Nat.{ℕ, _+_, _*_, _%_, _^_, _<_}
 use lib.Bits.{bitXor}
 use Rattle.net.specs.Sides.{OneToThree}
-use Rattle.net.specs.Means.Marks.{marks, other}
+use Rattle.net.specs.Means.Flags.{flags, other}
 use Rattle.net.specs.Means.Seams.{seamKept, seamSide}
 use Rattle.net.proofs.SharedVertices.{seam-kept, seam-side}
 use Rattle.net.proofs.WordSteps.{others-small, seam-word, side-here, side-is, times-fit}
@@ -28,8 +28,8 @@ kept c =
 others-of-requires : tie.Need-others-of-requires
 others-of-requires c κs = kept c
 
-mul-t : tie.Need-mul-t
-mul-t c =
+mul-w : tie.Need-mul-w
+mul-w c =
     let k = c .before .seam-kept .result in
     let m : c .others-of .result < 2 ^ 54 =
     rw (c .others-of .ensures) (others-small k (kept (c .before)) (c .before .before .before .args .r)) in
@@ -60,7 +60,7 @@ returns c =
     let r = s .args .r in
     let e = k .before .side-of .ensures ∙ side-here r (s .args .k) (s .pre .0) (s .pre .1) in
     let f = k .seam-kept .ensures ∙ ap (λ (n : ℕ). seamKept n (s .args .k)) e in
-    let g = c .before .others-of .ensures ∙ ap (λ (n : ℕ). marks (other n) r) f in
+    let g = c .before .others-of .ensures ∙ ap (λ (n : ℕ). flags (other n) r) f in
     let h = c .seam-side .ensures ∙ ap (λ (n : ℕ). seamSide n (s .args .k)) e in
     (λ i. bitXor r (f i * g i) % 2 ^ 59 + 2 ^ 59 * h i) ∙ seam-word r (s .args .k) (s .pre .0) (s .pre .1)
 
@@ -71,7 +71,7 @@ over-seam-spec =
     side-of-requires
     seam-kept-requires
     others-of-requires
-    mul-t
+    mul-w
     seam-side-requires
     mul-result
     add-result

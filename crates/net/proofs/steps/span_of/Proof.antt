@@ -1,4 +1,4 @@
--- `net::steps::span_of` meets its contract; marks of 27 digits, three times, and the last leave room in 64 bits
+-- `net::steps::span_of` meets its contract; flags of 27 digits, three times, and the unit leave room in 64 bits
 -- (WordSteps). Assumes nothing.
 use borrow.Author.Needs.{needs}
 use native.Mathlib.Omega.{arith}
@@ -20,7 +20,7 @@ add-result : tie.Need-add-result
 add-result c = omega (arith, small c)
 
 returns : tie.Need-returns
-returns c = rw (c .others-of .ensures) (spanned (c .before .args .w) (c .before .args .last) (c .before .args .k))
+returns c = rw (c .others-of .ensures) (spanned (c .before .args .w) (c .before .args .unit) (c .before .args .k))
 
 pub span-of-spec : {M : Type 1} → statement M
 span-of-spec = tie.close (tie.spec others-of-requires mul-threes add-result returns)

@@ -15,23 +15,23 @@ use borrow.Author.Needs.{needs}
 use Rattle.words.proofs.TriangleCode.check.Statement.{statement}
 use Rattle.words.proofs.TriangleCode.check.Tie as tie
 
-check-side-requires : tie.Need-check-side-requires
-check-side-requires c κs = search needs
+check-above-requires : tie.Need-check-above-requires
+check-above-requires c κs = search needs
 
 returns : tie.Need-returns
 unfolding checkCode
 returns c =
     let w = c .before .before .args .self .0 in
-    refuse-before (take 2 (wordRows w)) _ tt tt (c .before .check-side .ensures) (c .if1 .taken)
+    refuse-before (take 2 (wordRows w)) _ tt tt (c .before .check-above .ensures) (c .if1 .taken)
 
 small : (c : tie.Else1) → degreeOf (c .before .before .args .self .0) ≤ 24
 small c = side-degree (c .before .before .args .self .0) (omega arith)
 
-last-of-requires : tie.Need-last-of-requires
-last-of-requires c κs = small c
+unit-of-requires : tie.Need-unit-of-requires
+unit-of-requires c κs = small c
 
 rem-if2 : tie.Need-rem-if2
-rem-if2 c = rw (c .last-of .ensures) (pow-pos _)
+rem-if2 c = rw (c .unit-of .ensures) (pow-pos _)
 
 returns-2 : tie.Need-returns-2
 unfolding checkCode
@@ -39,7 +39,7 @@ returns-2 c =
     let b = c .before .before in
     let w = b .before .before .args .self .0 in
     let n = degreeOf w in
-    let e : w % 2 ^ (54 - 2 * n) ≡ 0 = rw (c .before .last-of .ensures) at (c .if2 .taken) in
+    let e : w % 2 ^ (54 - 2 * n) ≡ 0 = rw (c .before .unit-of .ensures) at (c .if2 .taken) in
     let z = below-zero w n (small b) .0 e in
     refuse-after (take 2 (wordRows w)) _ tt tt (omega arith)
     (next (ap not (eq-eqb (beyond w n) 0 (z .0))) (next (low-zero w .1 (z .1)) nothing))
@@ -62,7 +62,7 @@ returns-4 c =
     let w = b .before .before .args .self .0 in
     let n = degreeOf w in
     let z : beyond w n ≡ 0 = cc in
-    let some : w % 2 ^ (54 - 2 * n) ≡ 0 → ⊥ = rw (s .before .last-of .ensures) at (s .if2 .left) in
+    let some : w % 2 ^ (54 - 2 * n) ≡ 0 → ⊥ = rw (s .before .unit-of .ensures) at (s .if2 .left) in
     refuse-after (take 2 (wordRows w)) _ tt tt (omega arith)
     (next (ap not (eq-eqb (beyond w n) 0 z))
     (here (so-unless _ (λ e. some (below-zero w n (small b) .1 (z, low-zero w .0 e))))))
@@ -71,9 +71,9 @@ pub check-spec : {M : Type 1} → statement M
 check-spec =
     tie.close
     (tie.spec
-    check-side-requires
+    check-above-requires
     returns
-    last-of-requires
+    unit-of-requires
     rem-if2
     returns-2
     beyond-of-requires

@@ -1,4 +1,4 @@
--- A word with a number below its digits: its marks, the word renumbered over a seam, and the word after a step inside a
+-- A word with a number below its digits: its flags, the word renumbered over a seam, and the word after a step inside a
 -- side. Assumes nothing.
 use mathlib.Core.Path.{_≡_, refl, sym, _∙_, ap, subst}
 use mathlib.Core.List.{List, _∷_}
@@ -6,20 +6,20 @@ use Prim.Native.Nat.{ℕ, zero, suc, _+_, _-_, _*_, _^_, _≤_, _<_}
 use native.Mathlib.Nat.{mul-assoc, mul-le-mul-right, mul-lt-mul-of-pos-right}
 use native.Mathlib.Omega.{arith}
 use lib.Bits.{bitXor, bitAnd, xor-block, and-block, and-zero-l, xor-self}
-use lib.Pow.{pow-add, pow-pos, pow-mono}
+use lib.Pow.{pow-pos, pow-mono}
 use Rattle.words.proofs.Digits.{AreDigits, more}
+use Rattle.words.proofs.WordLayout.{unit-high}
 use Rattle.words.specs.Words.{path, wordOf}
 use Rattle.net.specs.Sides.{OneToThree}
 use Rattle.net.specs.Division.{each}
 use Rattle.net.specs.Means.Paths.{digitsOf}
 use Rattle.net.specs.Means.Seams.{flip}
 use Rattle.net.specs.Means.States.{Move, cross, inside, outside}
-use Rattle.net.specs.Means.Marks.{ones, other, marks, span}
+use Rattle.net.specs.Means.Flags.{ones, other, flags, spanOf}
 use Rattle.net.proofs.Flips.{flip-digits}
-use Rattle.net.proofs.Marking.{Spans, digits-onto, flips, onto, onto-is, pad, pad-digits, pad-each, pad-onto}
-use Rattle.net.proofs.Marking.{path-onto, spanOf, spans}
+use Rattle.net.proofs.Flagging.{Spans, digits-onto, flips, onto, onto-is, pad, pad-digits, pad-each, pad-onto}
+use Rattle.net.proofs.Flagging.{at-0, other-low, path-onto, carried, spans}
 use Rattle.net.proofs.Paths.{four}
-use Rattle.net.proofs.Table.{sound, below, threes, same, most, _and_}
 
 -- ---- ones
 
@@ -58,8 +58,7 @@ module _ (s : ℕ) {n : ℕ} {ds : List ℕ} (short : n ≤ 24) (are : AreDigits
   padded a es i = omega (arith, pad-onto a (26 - n) es, ap (λ (x : ℕ). onto a es * x) unit-is)
 
   filled : 2 ^ (2 * n) * unit ≡ 2 ^ 54
-  filled = let e : 2 * n + (54 - 2 * n) ≡ 54 = omega arith in sym (pow-add 2 (2 * n) (54 - 2 * n))
-      ∙ ap (λ (m : ℕ). 2 ^ m) e
+  filled = unit-high 5 24 6 n short
 
   -- other digits and another number in the same place
   pub word-onto : {es : List ℕ} → AreDigits n es → (i : ℕ) → wordOf s n (path es) + i ≡ onto above es * unit + i
@@ -76,14 +75,14 @@ module _ (s : ℕ) {n : ℕ} {ds : List ℕ} (short : n ≤ 24) (are : AreDigits
   unfolding onto
   word-all = word-onto are j ∙ sym (padded above ds j)
 
-  marks-all : (f : ℕ → ℕ) → marks f word ≡ path (each f all)
-  unfolding marks
-  marks-all f = ap (λ (es : List ℕ). path (each f es)) (ap (digitsOf 27) word-all ∙ digits-onto above all-digits)
+  flags-all : (f : ℕ → ℕ) → flags f word ≡ path (each f all)
+  unfolding flags
+  flags-all f = ap (λ (es : List ℕ). path (each f es)) (ap (digitsOf 27) word-all ∙ digits-onto above all-digits)
 
-  marks-are : (f : ℕ → ℕ) → f 0 ≡ 0 → marks f word ≡ path (each f ds) * unit + f j
+  flags-are : (f : ℕ → ℕ) → f 0 ≡ 0 → flags f word ≡ path (each f ds) * unit + f j
   unfolding path onto
-  marks-are f z =
-      marks-all f
+  flags-are f z =
+      flags-all f
       ∙ ap (λ (es : List ℕ). 4 * path es + f j) (pad-each f z (26 - n) ds)
       ∙ ap (λ (x : ℕ). 4 * x + f j) (path-onto (pad (26 - n) (each f ds)))
       ∙ padded 0 (each f ds) (f j)
@@ -91,11 +90,11 @@ module _ (s : ℕ) {n : ℕ} {ds : List ℕ} (short : n ≤ 24) (are : AreDigits
 
   -- ---- over a seam
 
-  pub flipped : (c : ℕ) → OneToThree c → bitXor word (c * marks (other c) word) ≡ wordOf s n (path (each (flip c) ds))
+  pub flipped : (c : ℕ) → OneToThree c → bitXor word (c * flags (other c) word) ≡ wordOf s n (path (each (flip c) ds))
       + flip c j
   unfolding onto
   flipped c hc =
-      (λ i. bitXor (word-all i) (c * marks-all (other c) i))
+      (λ i. bitXor (word-all i) (c * flags-all (other c) i))
       ∙ flips above c hc all-digits
       ∙ ap (λ (es : List ℕ). 4 * onto above es + flip c j) (pad-each (flip c) refl (26 - n) ds)
       ∙ padded above (each (flip c) ds) (flip c j)
@@ -105,24 +104,18 @@ module _ (s : ℕ) {n : ℕ} {ds : List ℕ} (short : n ≤ 24) (are : AreDigits
 
   module _ (k : ℕ) (hk : OneToThree k) where
     abbrev x : ℕ
-    x = spanOf (suc n) (path (each (other k) ds))
-
-    other-0 : (k : ℕ) → OneToThree k → other k 0 ≡ 0
-    other-0 = sound (threes λ k. same (other k 0) 0) refl
-
-    other-low : (i : ℕ) → i < 4 → (k : ℕ) → OneToThree k → other k i ≤ 1
-    other-low = sound (below 4 λ i. threes λ k. most (other k i) 1) refl
+    x = carried (suc n) (path (each (other k) ds))
 
     roomy : 64 ≤ unit
     roomy = pow-mono {i = 6} {j = 54 - 2 * n} (omega arith)
 
-    span-is : span word unit k ≡ x * unit
-    unfolding span
+    span-is : spanOf word unit k ≡ x * unit
+    unfolding spanOf
     span-is =
         let q = path (each (other k) ds) in
         let o = other k j in
         let low : 3 * o < unit = omega (arith, other-low j hj k hk, roomy) in
-        let m : marks (other k) word ≡ q * unit + o = marks-are (other k) (other-0 k hk) in
+        let m : flags (other k) word ≡ q * unit + o = flags-are (other k) (at-0 k hk .0) in
         let a : 3 * (q * unit + o) ≡ 3 * q * unit + 3 * o = omega (arith, mul-assoc 3 q unit) in
         let b : 3 * (q * unit + o) + unit ≡ (3 * q + 1) * unit + 3 * o = omega (arith, mul-assoc 3 q unit) in
         let e : 27 - n + suc n ≡ 28 = omega arith in
@@ -139,13 +132,15 @@ module _ (s : ℕ) {n : ℕ} {ds : List ℕ} (short : n ≤ 24) (are : AreDigits
         ∙ ap (λ (y : ℕ). x * unit + y) (and-zero-l (ones (27 - n)))
         ∙ omega arith
 
-    -- the step that leaves the side is told by its span; the other changes the word by k at each place of the span, and
+    -- the step that leaves the side is told by its spanOf; the other changes the word by k at each place of the spanOf,
+    -- and
     -- the number by any l
     abbrev pub Steps : Move (List ℕ) → Type 0
     Steps (inside es) =
-        (span word unit k < 2 ^ 54) × ((l : ℕ) → l < 4 → bitXor word (k * span word unit k + l) ≡ onto above es * unit
+        (spanOf word unit k < 2 ^ 54) × ((l : ℕ) → l < 4 → bitXor word (k * spanOf word unit k + l) ≡ onto above es *
+        unit
         + bitXor j l)
-    Steps outside = 2 ^ 54 ≤ span word unit k
+    Steps outside = 2 ^ 54 ≤ spanOf word unit k
 
     steps-by : (m : Move (List ℕ)) → Spans k above n ds x m → Steps m
     steps-by (inside es) h = (

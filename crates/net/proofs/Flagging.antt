@@ -6,6 +6,7 @@ use Prim.Native.Nat.{ℕ, zero, suc, _+_, _-_, _*_, _/_, _%_, _^_, _≤_, _<_}
 use native.Mathlib.Nat.{mul-comm}
 use native.Mathlib.Omega.{arith}
 use lib.Bits.{bitXor, bitAnd, bitOr, xor-block, or-block, and-block, and-zero-l, and-zero-r, xor-self, xor-zero-r}
+use lib.Pow.{pow-pos}
 use Rattle.words.proofs.Digits.{AreDigits, more, none}
 use Rattle.words.specs.Words.{path}
 use Rattle.net.specs.Sides.{OneToThree}
@@ -13,9 +14,10 @@ use Rattle.net.specs.Division.{each}
 use Rattle.net.specs.Means.Paths.{digitsOf}
 use Rattle.net.specs.Means.Seams.{flip}
 use Rattle.net.specs.Means.States.{Move, cross, inside, outside, map}
-use Rattle.net.specs.Means.Marks.{ones, some, other, marks, span}
+use Rattle.net.specs.Means.Spreads.{sign}
+use Rattle.net.specs.Means.Flags.{ones, other}
 use Rattle.net.proofs.Paths.{four, picked}
-use Rattle.net.proofs.Table.{sound, below, threes, same, less, no, _and_, _then_}
+use Rattle.net.proofs.Table.{sound, below, threes, same, less, most, no, _and_, _then_}
 
 -- ---- a digit and what stands above it
 
@@ -29,15 +31,15 @@ module _ (a b x y : ℕ) (hx : x < 4) (hy : y < 4) where
   and-digit : bitAnd (4 * a + x) (4 * b + y) ≡ 4 * bitAnd a b + bitAnd x y
   and-digit = (λ i. bitAnd (mul-comm 4 a i + x) (mul-comm 4 b i + y)) ∙ and-block 2 a b x y hx hy ∙ omega arith
 
--- ---- marks of the digits that are not 0, and of those that are not c either
+-- ---- flags of the digits that are not 0, and of those that are not c either
 
-some-bit : (d : ℕ) → d < 4 → (e : ℕ) → e < 2 → (bitAnd (bitOr d (2 * e + d / 2)) 1 ≡ some d)
+some-bit : (d : ℕ) → d < 4 → (e : ℕ) → e < 2 → (bitAnd (bitOr d (2 * e + d / 2)) 1 ≡ sign d)
     × (bitOr d (2 * e + d / 2) < 4)
 some-bit =
-    sound (below 4 λ d. below 2 λ e. same (bitAnd (bitOr d (2 * e + d / 2)) 1) (some d) and less
+    sound (below 4 λ d. below 2 λ e. same (bitAnd (bitOr d (2 * e + d / 2)) 1) (sign d) and less
     (bitOr d (2 * e + d / 2)) 4) refl
 
-pub somes : (n w : ℕ) → bitAnd (bitOr w (w / 2)) (ones n) ≡ path (each some (digitsOf n w))
+pub somes : (n w : ℕ) → bitAnd (bitOr w (w / 2)) (ones n) ≡ path (each sign (digitsOf n w))
 unfolding ones path digitsOf
 somes zero w = and-zero-r (bitOr w (w / 2))
 somes (suc n) w =
@@ -52,15 +54,18 @@ somes (suc n) w =
     ∙ and-digit (bitOr u (u / 2)) (ones n) (bitOr d (2 * e + d / 2)) 1 (t .1) (omega arith)
     ∙ λ i. 4 * somes n u i + t .0 i
 
+pub other-low : (d : ℕ) → d < 4 → (c : ℕ) → OneToThree c → other c d ≤ 1
+other-low = sound (below 4 λ d. threes λ c. most (other c d) 1) refl
+
 some-both : (d : ℕ) → d < 4 → (c : ℕ) → OneToThree c
-    → (bitAnd (some d) (some (bitXor d c)) ≡ other c d) × ((bitXor d c < 4) × ((some d < 4) × (some (bitXor d c) < 4)))
+    → (bitAnd (sign d) (sign (bitXor d c)) ≡ other c d) × ((bitXor d c < 4) × ((sign d < 4) × (sign (bitXor d c) < 4)))
 some-both =
     sound (below 4 λ d. threes λ c.
-    same (bitAnd (some d) (some (bitXor d c))) (other c d) and less (bitXor d c) 4 and less (some d) 4 and less
-    (some (bitXor d c)) 4) refl
+    same (bitAnd (sign d) (sign (bitXor d c))) (other c d) and less (bitXor d c) 4 and less (sign d) 4 and less
+    (sign (bitXor d c)) 4) refl
 
 pub others : (n w c : ℕ) → OneToThree c
-    → bitAnd (path (each some (digitsOf n w))) (path (each some (digitsOf n (bitXor w (c * ones n))))) ≡ path
+    → bitAnd (path (each sign (digitsOf n w))) (path (each sign (digitsOf n (bitXor w (c * ones n))))) ≡ path
     (each (other c) (digitsOf n w))
 unfolding ones path digitsOf
 others zero w c hc = refl
@@ -75,8 +80,8 @@ others (suc n) w c hc =
     (λ i. bitXor (a i) (m i)) ∙ xor-digit u (c * ones n) d c (omega arith) (omega (arith, hc .1)) in
     let q : bitXor w (c * (4 * ones n + 1)) / 4 ≡ b = omega (arith, x, t .1 .0) in
     let r : bitXor w (c * (4 * ones n + 1)) % 4 ≡ bitXor d c = omega (arith, x, t .1 .0) in
-    (λ i. bitAnd (4 * path (each some (digitsOf n u)) + some d) (4 * path (each some (digitsOf n (q i))) + some (r i)))
-    ∙ and-digit (path (each some (digitsOf n u))) (path (each some (digitsOf n b))) (some d) (some (bitXor d c))
+    (λ i. bitAnd (4 * path (each sign (digitsOf n u)) + sign d) (4 * path (each sign (digitsOf n (q i))) + sign (r i)))
+    ∙ and-digit (path (each sign (digitsOf n u))) (path (each sign (digitsOf n b))) (sign d) (sign (bitXor d c))
     (t .1 .1 .0) (t .1 .1 .1)
     ∙ λ i. 4 * others n u c hc i + t .0 i
 
@@ -145,11 +150,11 @@ flips a c hc (more {d = d} {ds = ds} h is) =
 
 -- ---- inside a side: the digits up to the first that is 0 or k, that one with them, are each changed by k
 
--- the span of marks x
-abbrev pub spanOf : (n x : ℕ) → ℕ
-spanOf n x = bitAnd (bitXor (3 * x) (3 * x + 1)) (ones n)
+-- the spanOf of flags x
+abbrev pub carried : (n x : ℕ) → ℕ
+carried n x = bitAnd (bitXor (3 * x) (3 * x + 1)) (ones n)
 
-stops : (n x : ℕ) → spanOf (suc n) (4 * x + 0) ≡ 1
+stops : (n x : ℕ) → carried (suc n) (4 * x + 0) ≡ 1
 unfolding ones
 stops n x =
     let a : 3 * (4 * x + 0) ≡ 4 * (3 * x) + 0 = omega arith in
@@ -160,7 +165,7 @@ stops n x =
     ∙ and-digit 0 (ones n) 1 1 (omega arith) (omega arith)
     ∙ ap (λ (y : ℕ). 4 * y + 1) (and-zero-l (ones n))
 
-goes-on : (n x : ℕ) → spanOf (suc n) (4 * x + 1) ≡ 4 * spanOf n x + 1
+goes-on : (n x : ℕ) → carried (suc n) (4 * x + 1) ≡ 4 * carried n x + 1
 unfolding ones
 goes-on n x =
     let a : 3 * (4 * x + 1) ≡ 4 * (3 * x) + 3 = omega arith in
@@ -169,12 +174,12 @@ goes-on n x =
     ∙ ap (λ (y : ℕ). bitAnd y (4 * ones n + 1)) (xor-digit (3 * x) (3 * x + 1) 3 0 (omega arith) (omega arith))
     ∙ and-digit (bitXor (3 * x) (3 * x + 1)) (ones n) 3 1 (omega arith) (omega arith)
 
--- what a span x is of a step from n digits
+-- what a spanOf x is of a step from n digits
 abbrev pub Spans : (k a n : ℕ) → List ℕ → (x : ℕ) → Move (List ℕ) → Type 0
 Spans k a n ds x (inside es) = (x < 2 ^ (2 * n)) × (bitXor (onto a ds) (k * x) ≡ onto a es)
 Spans k a n ds x outside = 2 ^ (2 * n) ≤ x
 
-at-0 : (k : ℕ) → OneToThree k → (other k 0 ≡ 0) × (bitXor 0 k ≡ k)
+pub at-0 : (k : ℕ) → OneToThree k → (other k 0 ≡ 0) × (bitXor 0 k ≡ k)
 at-0 = sound (threes λ k. same (other k 0) 0 and same (bitXor 0 k) k) refl
 
 at-k : (k : ℕ) → OneToThree k → (other k k ≡ 0) × (bitXor k k ≡ 0)
@@ -191,49 +196,45 @@ module _ (k a n d : ℕ) (ds : List ℕ) (hk : OneToThree k) (hd : d < 4) where
   m = path (each (other k) ds)
 
   here : (e : ℕ) → other k d ≡ 0 → bitXor d k ≡ e → Spans k a (suc n) (d ∷ ds)
-      (spanOf (suc (suc n)) (4 * m + other k d)) (inside (e ∷ ds))
+      (carried (suc (suc n)) (4 * m + other k d)) (inside (e ∷ ds))
   unfolding onto
   here e o x =
-      let s : spanOf (suc (suc n)) (4 * m + other k d) ≡ 1 = ap (λ (y : ℕ). spanOf (suc (suc n)) (4 * m + y)) o
+      let s : carried (suc (suc n)) (4 * m + other k d) ≡ 1 = ap (λ (y : ℕ). carried (suc (suc n)) (4 * m + y)) o
       ∙ stops (suc n) m in
       let f : k * 1 ≡ 4 * 0 + k = omega arith in (
-        omega (arith, s, four n, pow-one n),
+        omega (arith, s, four n, pow-pos (2 * n)),
         ap (λ (y : ℕ). bitXor (4 * onto a ds + d) (k * y)) s
             ∙ ap (bitXor (4 * onto a ds + d)) f
             ∙ xor-digit (onto a ds) 0 d k hd (omega (arith, hk .1))
             ∙ λ i. 4 * xor-zero-r (onto a ds) i + x i,
       )
-    where
-      pow-one : (n : ℕ) → 0 < 2 ^ (2 * n)
-      pow-one zero = omega arith
-      pow-one (suc n) = omega (arith, four n, pow-one n)
 
-  further : other k d ≡ 1 → bitXor d k ≡ 6 - k - d → (c : Move (List ℕ)) → Spans k a n ds (spanOf (suc n) m) c
-      → Spans k a (suc n) (d ∷ ds) (spanOf (suc (suc n)) (4 * m + other k d)) (map (λ es. (6 - k - d) ∷ es) c)
+  further : other k d ≡ 1 → bitXor d k ≡ 6 - k - d → (c : Move (List ℕ)) → Spans k a n ds (carried (suc n) m) c
+      → Spans k a (suc n) (d ∷ ds) (carried (suc (suc n)) (4 * m + other k d)) (map (λ es. (6 - k - d) ∷ es) c)
   unfolding onto
   further o x (inside es) ih =
-      let s : spanOf (suc (suc n)) (4 * m + other k d) ≡ 4 * spanOf (suc n) m + 1 =
-      ap (λ (y : ℕ). spanOf (suc (suc n)) (4 * m + y)) o ∙ goes-on (suc n) m in
-      let f : k * (4 * spanOf (suc n) m + 1) ≡ 4 * (k * spanOf (suc n) m) + k = omega arith in (
+      let s : carried (suc (suc n)) (4 * m + other k d) ≡ 4 * carried (suc n) m + 1 =
+      ap (λ (y : ℕ). carried (suc (suc n)) (4 * m + y)) o ∙ goes-on (suc n) m in
+      let f : k * (4 * carried (suc n) m + 1) ≡ 4 * (k * carried (suc n) m) + k = omega arith in (
         omega (arith, s, four n, ih .0),
         ap (λ (y : ℕ). bitXor (4 * onto a ds + d) (k * y)) s
             ∙ ap (bitXor (4 * onto a ds + d)) f
-            ∙ xor-digit (onto a ds) (k * spanOf (suc n) m) d k hd (omega (arith, hk .1))
+            ∙ xor-digit (onto a ds) (k * carried (suc n) m) d k hd (omega (arith, hk .1))
             ∙ λ i. 4 * ih .1 i + x i,
       )
   further o x outside ih =
-      let s : spanOf (suc (suc n)) (4 * m + other k d) ≡ 4 * spanOf (suc n) m + 1 =
-      ap (λ (y : ℕ). spanOf (suc (suc n)) (4 * m + y)) o ∙ goes-on (suc n) m in
+      let s : carried (suc (suc n)) (4 * m + other k d) ≡ 4 * carried (suc n) m + 1 =
+      ap (λ (y : ℕ). carried (suc (suc n)) (4 * m + y)) o ∙ goes-on (suc n) m in
       omega (arith, s, four n, ih)
 
 pub spans : (k a : ℕ) → OneToThree k → {n : ℕ} {ds : List ℕ} → AreDigits n ds
-    → Spans k a n ds (spanOf (suc n) (path (each (other k) ds))) (cross k ds)
+    → Spans k a n ds (carried (suc n) (path (each (other k) ds))) (cross k ds)
 unfolding cross path ones
 spans k a hk none = omega arith
 spans k a hk (more {n = n} {d = d} {ds = ds} h is) =
-    picked (Spans k a (suc n) (d ∷ ds) (spanOf (suc (suc n)) (4 * path (each (other k) ds) + other k d))) d 0
+    picked (Spans k a (suc n) (d ∷ ds) (carried (suc (suc n)) (4 * path (each (other k) ds) + other k d))) d 0
     (λ e. let t = at-0 k hk in here k a n d ds hk (omega arith) k (rw e (t .0)) (rw e (t .1)))
-    (λ z. picked (Spans k a (suc n) (d ∷ ds) (spanOf (suc (suc n)) (4 * path (each (other k) ds) + other k d))) d k
+    (λ z. picked (Spans k a (suc n) (d ∷ ds) (carried (suc (suc n)) (4 * path (each (other k) ds) + other k d))) d k
     (λ e. let t = at-k k hk in here k a n d ds hk (omega arith) 0 (rw e (t .0)) (rw e (t .1)))
     (λ f. let t = at-other d (omega arith) k hk z f in further k a n d ds hk (omega arith) (t .0) (t .1) (cross k ds)
     (spans k a hk is)))

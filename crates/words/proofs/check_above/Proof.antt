@@ -7,8 +7,8 @@ use Rattle.words.specs.Words.{aOf, degreeOf}
 use Rattle.words.specs.Refusals.{wordRows}
 use Rattle.words.proofs.Refusing.{here, next, nothing, refuse-first, either-left, either-right, either-false}
 use borrow.Author.Needs.{needs}
-use Rattle.words.proofs.check_side.Statement.{statement}
-use Rattle.words.proofs.check_side.Tie as tie
+use Rattle.words.proofs.check_above.Statement.{statement}
+use Rattle.words.proofs.check_above.Tie as tie
 
 degree-of-requires : tie.Need-degree-of-requires
 degree-of-requires c κs = search needs
@@ -41,5 +41,5 @@ returns-4 c =
     (next (le-ltb 24 (degreeOf w) (omega arith))
     (next (either-false _ _ .1 (ne-eqb (aOf w) 0 (omega arith), le-ltb 5 (aOf w) (omega arith))) nothing))
 
-pub check-side-spec : {M : Type 1} → statement M
-check-side-spec = tie.close (tie.spec degree-of-requires a-of-requires returns returns-2 returns-3 returns-4)
+pub check-above-spec : {M : Type 1} → statement M
+check-above-spec = tie.close (tie.spec degree-of-requires a-of-requires returns returns-2 returns-3 returns-4)

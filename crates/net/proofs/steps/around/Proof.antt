@@ -1,23 +1,23 @@
--- `net::steps::turned` meets its contract, inside the side and over the seam (WordSteps). Assumes nothing.
+-- `net::steps::around` meets its contract, inside the side and over the seam (WordSteps). Assumes nothing.
 use borrow.Author.Needs.{needs}
 use mathlib.Core.Path.{_≡_, _∙_, ap}
 use native.Mathlib.Omega.{arith}
 use Prim.Native.Nat.{ℕ, _+_, _-_, _*_, _^_}
 use Rattle.words.specs.Words.{degreeOf}
 use Rattle.net.specs.Sides.{OneToThree}
-use Rattle.net.specs.Means.Marks.{span}
-use Rattle.net.proofs.WordSteps.{last-low, times-fit, turn-edge, turn-inside, turn-over}
-use Rattle.net.proofs.steps.turned.Statement.{statement}
-use Rattle.net.proofs.steps.turned.Tie as tie
+use Rattle.net.specs.Means.Flags.{spanOf}
+use Rattle.net.proofs.WordSteps.{unit-small, times-fit, around-edge, around-inside, around-over}
+use Rattle.net.proofs.steps.around.Statement.{statement}
+use Rattle.net.proofs.steps.around.Tie as tie
 
 next-of-requires : tie.Need-next-of-requires
 next-of-requires c κs = search needs
 
 edge : (c : tie.After-next-of) → OneToThree (c .next-of .result)
-edge c = turn-edge (c .before .args .r) (c .before .pre .0) (c .next-of .ensures)
+edge c = around-edge (c .before .args .r) (c .before .pre .0) (c .next-of .ensures)
 
 span-of-requires : tie.Need-span-of-requires
-span-of-requires c κs = (edge c, rw (c .before .pre .1) (last-low (degreeOf (c .before .args .r))))
+span-of-requires c κs = (edge c, rw (c .before .pre .1) (unit-small (degreeOf (c .before .args .r))))
 
 add-result : tie.Need-add-result
 add-result c = search needs
@@ -29,17 +29,17 @@ mul-result c = omega (
       (omega (arith, c .if1 .taken)),
 )
 
--- the span, where the last digit stands
+-- the spanOf, where the unit digit stands
 spans : (c : tie.After-span-of)
-    → c .span-of .result ≡ span (c .before .before .args .r) (2 ^ (54 - 2 * degreeOf (c .before .before .args .r)))
+    → c .span-of .result ≡ spanOf (c .before .before .args .r) (2 ^ (54 - 2 * degreeOf (c .before .before .args .r)))
     (c .before .next-of .result)
-spans c = c .span-of .ensures ∙ ap (λ (l : ℕ). span (c .before .before .args .r) l (c .before .next-of .result))
+spans c = c .span-of .ensures ∙ ap (λ (l : ℕ). spanOf (c .before .before .args .r) l (c .before .next-of .result))
     (c .before .before .pre .1)
 
 returns : tie.Need-returns
 returns c =
     let n = c .before .before in
-    turn-inside (n .before .args .r) (n .before .pre .0) (n .next-of .ensures) (spans (c .before)) (c .if1 .taken)
+    around-inside (n .before .args .r) (n .before .pre .0) (n .next-of .ensures) (spans (c .before)) (c .if1 .taken)
 
 over-seam-requires : tie.Need-over-seam-requires
 over-seam-requires c κs = (c .before .before .before .pre .0, edge (c .before .before))
@@ -48,11 +48,11 @@ returns-2 : tie.Need-returns-2
 returns-2 c =
     let n = c .before .before .before in
     c .over-seam .ensures
-    ∙ turn-over (n .before .args .r) (n .before .pre .0) (n .next-of .ensures) (spans (c .before .before))
+    ∙ around-over (n .before .args .r) (n .before .pre .0) (n .next-of .ensures) (spans (c .before .before))
     (λ h. omega (arith, h, c .before .if1 .left))
 
-pub turned-spec : {M : Type 1} → statement M
-turned-spec =
+pub around-spec : {M : Type 1} → statement M
+around-spec =
     tie.close
     (tie.spec
     next-of-requires

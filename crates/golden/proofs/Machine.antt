@@ -32,6 +32,10 @@ again-is z h = toZ-ofZ (fits z h)
 pub again-of : {r z : ℤ} → r ≡ z → natAbs z < 2 ^ 63 → again r ≡ z
 again-of {r} {z} e h = ap again e ∙ again-is z h
 
+-- the size of z, which `magnitude` takes of z as it is read back
+pub size-is : (z : ℤ) {m : ℕ} → natAbs z < 2 ^ 63 → m ≡ natAbs (again z) → m ≡ natAbs z
+size-is z h e = e ∙ ap natAbs (again-is z h)
+
 -- what a test of a local says, which is of the number as it is read back
 pub below : (z : ℤ) {y : ℤ} → natAbs z < 2 ^ 63 → ltZ (again z) y ≡ true → z <ℤ y
 below z {y} h e =

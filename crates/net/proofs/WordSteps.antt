@@ -5,12 +5,12 @@ use Prim.Native.Nat.{ℕ, suc, _+_, _-_, _*_, _/_, _%_, _^_, _≤_, _<_}
 use native.Mathlib.Nat.{mul-le-mul}
 use native.Mathlib.Omega.{arith}
 use lib.Bits.{bitXor, bitAnd, bitOr}
-use lib.Pow.{pow-mono, shr-shr}
+use lib.Pow.{pow-mono}
 use lib.ListN.{length}
 use borrow.Author.Tests.{lt-ltb, le-ltb}
-use Rattle.words.proofs.Codes.{code-below, code-degree, code-name, code-passes, code-side, code-word, is-code}
-use Rattle.words.proofs.Codes.{name-code, name-passes, path-code}
-use Rattle.words.proofs.Digits.{AreDigits, digits-are, path-lt, side-top}
+use Rattle.words.proofs.Codes.{code-below, code-degree, code-name, code-passes, code-side, code-word, inside-side}
+use Rattle.words.proofs.Codes.{is-code, name-code, name-passes, path-code}
+use Rattle.words.proofs.Digits.{AreDigits, digits-are, path-lt}
 use Rattle.words.proofs.WordLayout.{below-side}
 use Rattle.words.specs.Family.{codeOf}
 use Rattle.words.specs.Refusals.{IsCode, checkCode, checkNameFields}
@@ -195,12 +195,6 @@ side-changed s t {n} {ds} hs low are i hi =
     let y : (n * 2 ^ 54 + path ds * 2 ^ (54 - 2 * n)) % 64 ≡ 0 = unfold wordOf in omega (arith, z) in
     omega (arith, b, y)
 
-side-inside : (r : ℕ) → sideOf r ≡ sideOf (words.inside r)
-side-inside r =
-    let e : r / 4 ≡ words.inside r / 4 = omega arith in
-    side-top r ∙ sym (shr-shr r 2 57) ∙ ap (λ (m : ℕ). m / 2 ^ 57) e ∙ shr-shr (words.inside r) 2 57
-    ∙ sym (side-top (words.inside r))
-
 module _ (r k : ℕ) (e : checkNameFields (nameOf r) ≡ 0) (hk : OneToThree k) where
   abbrev here : Place
   here = placeAt r
@@ -209,7 +203,7 @@ module _ (r k : ℕ) (e : checkNameFields (nameOf r) ≡ 0) (hk : OneToThree k) 
   c = seamKept (here .side) k
 
   pub side-here : sideOf r ≡ here .side
-  side-here = side-inside r
+  side-here = sym (inside-side r)
 
   pub side-is : IsSide (sideOf r)
   side-is = rw side-here (at-place r e .a-side)

@@ -8,6 +8,7 @@ use native.Mathlib.Nat.{pos-of-ne-zero}
 use native.Mathlib.Omega.{arith}
 use lib.Dec.{eqb}
 use lib.ListN.{take}
+use lib.Pow.{shr-shr}
 use borrow.Author.Tests.{ltb-false, eqb-true, eqb-false, not-false, le-ltb, eq-eqb, ne-eqb}
 use Rattle.words.specs.Words.{aOf, degreeOf, digits, beyond, zeroBits, cornerNumber, sideOf, path, wordOf, inside}
 use Rattle.words.specs.Refusals.{_either_, refusal, wordRows, checkCode, checkNameFields, IsCode}
@@ -92,6 +93,13 @@ bits-clear u e = omega arith
 
 inside-bits : (w : ℕ) → zeroBits (inside w) ≡ zeroBits w
 inside-bits w = let e : inside w / 2 ^ 2 ≡ w / 2 ^ 2 = omega arith in ap (λ (x : ℕ). x % 2 ^ 4) e
+
+-- the code inside a word has its side
+pub inside-side : (w : ℕ) → sideOf (inside w) ≡ sideOf w
+inside-side w =
+    let e : inside w / 4 ≡ w / 4 = omega arith in
+    side-top (inside w) ∙ sym (shr-shr (inside w) 2 57) ∙ ap (λ (m : ℕ). m / 2 ^ 57) e ∙ shr-shr w 2 57
+    ∙ sym (side-top w)
 
 inside-degree : (w : ℕ) → zeroBits w ≡ 0 → degreeOf (inside w) ≡ degreeOf w
 inside-degree w z = omega arith

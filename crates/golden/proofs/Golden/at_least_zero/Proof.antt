@@ -10,7 +10,7 @@ use lib.Signed.{_≤ℤ_, _<ℤ_}
 use Rattle.golden.specs.Decisions.{Decides}
 use Rattle.golden.specs.Order.{wOf}
 use Rattle.golden.proofs.Magnitudes.{abs-add, abs-mul}
-use Rattle.golden.proofs.Machine.{again, again-is, below, not-below}
+use Rattle.golden.proofs.Machine.{again-is, below, not-below, size-is}
 use Rattle.golden.proofs.Signs.{pos-pos, neg-neg, pos-neg, neg-pos}
 use Rattle.golden.proofs.Golden.at_least_zero.Statement.{statement}
 use Rattle.golden.proofs.Golden.at_least_zero.Tie as tie
@@ -23,15 +23,10 @@ w-small c =
 
 -- the two sizes, what is asked of `at_least_root_five`, and what it says
 a-is : (c : tie.After-magnitude) → c .magnitude .result ≡ natAbs (c .before .before .w .result)
-a-is c =
-    let e : c .magnitude .result ≡ natAbs (again (c .before .before .w .result)) = c .magnitude .ensures in
-    rw (again-is (c .before .before .w .result) (omega (arith, w-small (c .before .before)))) at e
+a-is c = size-is (c .before .before .w .result) (omega (arith, w-small (c .before .before))) (c .magnitude .ensures)
 
 b-is : (c : tie.After-magnitude2) → c .magnitude2 .result ≡ natAbs (c .before .before .before .before .args .self .v)
-b-is c =
-    let v = c .before .before .before .before .args .self .v in
-    let e : c .magnitude2 .result ≡ natAbs (again v) = c .magnitude2 .ensures in
-    rw (again-is v (omega arith)) at e
+b-is c = size-is (c .before .before .before .before .args .self .v) (omega arith) (c .magnitude2 .ensures)
 
 asked : (c : tie.After-magnitude2) → (c .before .magnitude .result < 2 ^ 60) × (c .magnitude2 .result < 2 ^ 60)
 asked c = rw (a-is (c .before), b-is c) (omega (arith, w-small (c .before .before .before)))

@@ -8,7 +8,7 @@ use Rattle.golden.specs.declared.Golden.{Golden}
 use Rattle.golden.specs.Numbers.{golden}
 use Rattle.golden.specs.Drawing.{NotAbove}
 use Rattle.golden.proofs.Magnitudes.{abs-add, abs-neg, abs-above, pos-abs, neg-of-abs}
-use Rattle.golden.proofs.Machine.{again, again-is, again-of, below, not-below}
+use Rattle.golden.proofs.Machine.{again, again-is, again-of, below, not-below, size-is}
 use Rattle.golden.proofs.GoldenRing.{φ-path}
 use Rattle.golden.proofs.Floors.{top, bottom, Close, close-pos, close-neg}
 use Rattle.golden.proofs.Golden.close_below.Statement.{statement}
@@ -29,9 +29,7 @@ module _ (c : tie.After-times-fraction) where
   q = c .times-fraction .result
 
   m-is : m ≡ natAbs (x .v)
-  m-is =
-      let e : m ≡ natAbs (again (x .v)) = c .before .magnitude .ensures in
-      rw (again-is (x .v) (omega arith)) at e
+  m-is = size-is (x .v) (omega arith) (c .before .magnitude .ensures)
 
   m-small : m ≤ 2 ^ 42
   m-small = rw m-is (omega arith)
@@ -61,8 +59,7 @@ magnitude-requires c κs = rw (again-is (c .before .before .args .self .v) (omeg
 times-fraction-requires : tie.Need-times-fraction-requires
 times-fraction-requires c κs =
     let v = c .before .before .before .args .self .v in
-    let e : c .magnitude .result ≡ natAbs (again v) = c .magnitude .ensures in
-    omega (arith, rw (again-is v (omega arith)) at e)
+    omega (arith, size-is v (omega arith) (c .magnitude .ensures))
 
 add-signed : tie.Need-add-signed
 add-signed c = omega (arith, q-small (c .before))

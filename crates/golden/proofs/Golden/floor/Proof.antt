@@ -11,7 +11,7 @@ use Rattle.golden.specs.Order.{NonNeg}
 use Rattle.golden.specs.Drawing.{NotAbove, IsFloor}
 use Rattle.golden.specs.declared.Golden.{Golden}
 use Rattle.golden.proofs.Magnitudes.{abs-add, abs-neg}
-use Rattle.golden.proofs.Machine.{again, again-fit, again-is, fits}
+use Rattle.golden.proofs.Machine.{again, again-fit, again-is, fits, size-is}
 use Rattle.golden.proofs.Floors.{greatest-of, greatest-next}
 use Rattle.golden.proofs.Golden.floor.Statement.{statement}
 use Rattle.golden.proofs.Golden.floor.Tie as tie
@@ -22,10 +22,7 @@ magnitude-requires : tie.Need-magnitude-requires
 magnitude-requires c κs = rw (again-is (c .before .args .self .v) (omega arith)) (omega arith)
 
 m-is : (c : tie.After-magnitude) → c .magnitude .result ≡ natAbs (c .before .before .args .self .v)
-m-is c =
-    let v = c .before .before .args .self .v in
-    let e : c .magnitude .result ≡ natAbs (again v) = c .magnitude .ensures in
-    rw (again-is v (omega arith)) at e
+m-is c = size-is (c .before .before .args .self .v) (omega arith) (c .magnitude .ensures)
 
 is-clear-requires : tie.Need-is-clear-requires
 is-clear-requires c κs = rw (m-is c) (omega arith)

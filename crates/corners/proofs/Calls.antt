@@ -21,7 +21,8 @@ use Rattle.net.specs.Means.Paths.{digitsOf}
 use Rattle.net.specs.Means.Spreads.{pointIn, spread}
 use Rattle.net.specs.Means.Walks.{Place, edgeThere, leastName, placeAt, stepFrom}
 use Rattle.net.specs.Names.{IsName}
-use Rattle.net.specs.Refusals.{canonical, canonicalRows, checkName, listRows, notCanonical, onOneSide, onSide, oneToThreeRows, weightRows}
+use Rattle.net.specs.Refusals.{canonical, canonicalRows, checkName, listRows, notCanonical, onOneSide, onSide}
+use Rattle.net.specs.Refusals.{oneToThreeRows, weightRows}
 use Rattle.corners.specs.Refusals.{refuseBack, refuseNameWeights, refuseNumbered, refuseRing, refuseWeights}
 use Rattle.net.specs.Sides.{IsSide, OneToThree}
 use Rattle.net.specs.Steps.{Across}
@@ -67,7 +68,8 @@ module _ (t : TriangleCode) (i : ℕ) where
 
   pub numbered-high : checkCode t ≡ 0 → 3 < i → 5 ≡ refuseNumbered t i
   unfolding refuseNumbered checkCode
-  numbered-high z h = refuse-after (codeRows t) (oneToThreeRows i) tt tt z (here (either-right (eqb i 0) _ (lt-ltb 3 i h)))
+  numbered-high z h = refuse-after (codeRows t) (oneToThreeRows i) tt tt z
+      (here (either-right (eqb i 0) _ (lt-ltb 3 i h)))
 
 -- ---- crossing
 
@@ -115,11 +117,16 @@ module _ (r : CornerName) (z : checkNameFields r ≡ 0) where
       no-true false f = refl
 
       not-so : (f : ℕ) → f ≡ 0 → notCanonical f r ≡ true
-      not-so zero e = no-true (canonical r) (λ e. n (ap (λ (q : CornerName). q .0) (one-name least-name (canonical-is r z .0 e))))
+      not-so zero e = no-true (canonical r) (λ e. n (ap (λ (q : CornerName). q .0)
+          (one-name least-name (canonical-is r z .0 e))))
       not-so (suc f) e = absurd (omega arith)
 
   pub name-passing : least ≡ r .0 → 0 ≡ checkName r
-  name-passing e = sym (name-means r .1 (z, subst (λ (w : ℕ). IsName (degreeOf (r .0)) (named r) (nameOf w)) e least-name))
+  name-passing e = sym (name-means r .1 (
+    z,
+    subst (λ (w : ℕ). IsName (degreeOf (r .0)) (named r) (nameOf w)) e
+        least-name,
+  ))
 
 pub name-first : (r : CornerName) {k : ℕ} → k ≡ checkNameFields r → (k ≡ 0 → ⊥) → k ≡ checkName r
 unfolding checkName checkNameFields
@@ -127,13 +134,16 @@ name-first r e n = refuse-before (nameRows r) _ tt tt e n
 
 -- ---- lists
 
-pub weights-first : (t : TriangleCode) (i : ℕ) (out : List ℕ) {k : ℕ} → k ≡ refuseNumbered t i → (k ≡ 0 → ⊥) → k ≡ refuseWeights t i out
+pub weights-first : (t : TriangleCode) (i : ℕ) (out : List ℕ) {k : ℕ} → k ≡ refuseNumbered t i
+    → (k ≡ 0 → ⊥) → k ≡ refuseWeights t i out
 unfolding refuseNumbered refuseWeights
 weights-first t i out e n = refuse-before (codeRows t ++ oneToThreeRows i) (listRows 12 out) tt tt e n
 
-pub weights-nine : (t : TriangleCode) (i : ℕ) (out : List ℕ) → refuseNumbered t i ≡ 0 → length out < 12 → 9 ≡ refuseWeights t i out
+pub weights-nine : (t : TriangleCode) (i : ℕ) (out : List ℕ) → refuseNumbered t i ≡ 0 → length out < 12
+    → 9 ≡ refuseWeights t i out
 unfolding refuseNumbered refuseWeights
-weights-nine t i out z h = refuse-after (codeRows t ++ oneToThreeRows i) (listRows 12 out) tt tt z (here (lt-ltb (length out) 12 h))
+weights-nine t i out z h = refuse-after (codeRows t ++ oneToThreeRows i) (listRows 12 out) tt tt z
+    (here (lt-ltb (length out) 12 h))
 
 module _ (r : CornerName) (out : List ℕ) where
   pub name-weights-first : {k : ℕ} → k ≡ checkName r → (k ≡ 0 → ⊥) → k ≡ refuseNameWeights r out
@@ -169,19 +179,24 @@ module _ (n : ℕ) (weights : List ℕ) where
   module _ (h : n ≤ 24) (l : 12 ≤ length weights) where
     pub back-sum : eqb (sum (take 12 weights)) (2 ^ n) ≡ false → 11 ≡ refuseBack n weights
     unfolding refuseBack
-    back-sum e = refuse-first rows tt (next (le-ltb 24 n h) (next (le-ltb (length weights) 12 l) (here (either-left _ _ (ap not e)))))
+    back-sum e = refuse-first rows tt (next (le-ltb 24 n h)
+        (next (le-ltb (length weights) 12 l) (here (either-left _ _ (ap not e)))))
 
     pub back-side : onOneSide (take 12 weights) ≡ false → 11 ≡ refuseBack n weights
     unfolding refuseBack
-    back-side e = refuse-first rows tt (next (le-ltb 24 n h) (next (le-ltb (length weights) 12 l) (here (either-right (not (eqb (sum (take 12 weights)) (2 ^ n))) _ (ap not e)))))
+    back-side e = refuse-first rows tt (next (le-ltb 24 n h)
+        (next (le-ltb (length weights) 12 l) (here (either-right (not (eqb (sum (take 12 weights)) (2 ^ n))) _
+        (ap not e)))))
 
 -- the name of the corner with twelve weights, from the side that they lie on and a triangle there that has the corner
 pub back-answers : (n : ℕ) (weights : List ℕ) (s : ℕ) (k : Corner) (p : Point) {r : CornerName} → n ≤ 24
     → 12 ≤ length weights
     → eqb (sum (take 12 weights)) (2 ^ n) ≡ true → IsSide s → onSide s 0 (take 12 weights) ≡ true
     → p ≡ pointIn s (take 12 weights)
-    → (k .path < 2 ^ (2 * n)) × OneToThree (k .number) × (cornerOf s (digitsOf n (k .path)) (k .number) ≡ spread s p)
-    → r ≡ nameOf (leastName 5 (placeAt (wordOf s n (k .path) + k .number))) → BackAnswer n weights (nameAnswer 0 r)
+    → (k .path < 2 ^ (2 * n)) × OneToThree (k .number) × (cornerOf s (digitsOf n (k .path)) (k .number)
+    ≡ spread s p)
+    → r ≡ nameOf (leastName 5 (placeAt (wordOf s n (k .path) + k .number)))
+    → BackAnswer n weights (nameAnswer 0 r)
 back-answers n weights s k p {r} h l e hs on is found eq =
     let ws = take 12 weights in
     let twelve : length ws ≡ 12 = length-take-le 12 weights l in
@@ -194,8 +209,10 @@ back-answers n weights s k p {r} h l e hs on is found eq =
     (record { number = refl; is = subst (IsName n ws) (sym f) (least-is-name n ws q a h) })
 
 -- the three weights of a side on which all twelve lie add to their sum
-pub back-total : (n : ℕ) (weights : List ℕ) (s : ℕ) (p : Point) → 12 ≤ length weights → eqb (sum (take 12 weights)) (2 ^ n) ≡ true → IsSide s
+pub back-total : (n : ℕ) (weights : List ℕ) (s : ℕ) (p : Point) → 12 ≤ length weights
+    → eqb (sum (take 12 weights)) (2 ^ n) ≡ true → IsSide s
     → onSide s 0 (take 12 weights) ≡ true → p ≡ pointIn s (take 12 weights) → p .w1 + p .w2 + p .w3 ≡ 2 ^ n
 back-total n weights s p l e hs on is =
     let ws = take 12 weights in
-    sym (sum-spread s p hs) ∙ ap sum (ap (spread s) is ∙ spread-of s ws hs (length-take-le 12 weights l) on) ∙ eqb-true _ _ e
+    sym (sum-spread s p hs) ∙ ap sum (ap (spread s) is ∙ spread-of s ws hs (length-take-le 12 weights l) on)
+    ∙ eqb-true _ _ e

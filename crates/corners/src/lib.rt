@@ -6,7 +6,8 @@ use words::TriangleCode;
 ghost use mathlib.Core.Path.{_≡_};
 ghost use Rattle.net.specs.Refusals.{checkName};
 ghost use Rattle.corners.specs.Refusals.{refuseNumbered};
-ghost use Rattle.corners.specs.Answers.{CrossAnswer, WeightsAnswer, NameWeightsAnswer, NamingAnswer, BackAnswer, RingAnswer};
+ghost use Rattle.corners.specs.Answers.{CrossAnswer, WeightsAnswer, NameWeightsAnswer, NamingAnswer};
+ghost use Rattle.corners.specs.Answers.{BackAnswer, RingAnswer};
 
 // A neighbour's code and the number of the shared edge there, or a refusal's number with zeros.
 pub struct StepAnswer {

@@ -45,7 +45,8 @@ module _ (n : ℕ) (d : Direction) (out : List ℕ) where
       6 h))
 
 -- the lists of the sides, one after the other, are as long as they are together
-side-lengths : (m j : ℕ) (f : ℕ → List ℕ) → length (joined m (4 + j) f) + sumSides j (λ s. length (f s)) ≡ sumSides
+side-lengths : (m j : ℕ) (f : ℕ → List ℕ) → length (joined m (4 + j) f) + sumSides j (λ s. length (f s))
+    ≡ sumSides
     (j + m) (λ s. length (f s))
 unfolding joined sumSides
 side-lengths zero j f = let e : j + 0 ≡ j = omega arith in rw e (omega arith)
@@ -59,7 +60,8 @@ unfolding sumSides
 sum-same zero f g h = refl
 sum-same (suc m) f g h = omega (arith, sum-same m f g h, h (4 + m))
 
-pub words-count : (n : ℕ) (d : Direction) → length (allWords d n 4) ≡ sumSides 20 (λ s. length (holders n (sideDets d
+pub words-count : (n : ℕ) (d : Direction) → length (allWords d n 4)
+    ≡ sumSides 20 (λ s. length (holders n (sideDets d
     s) 0))
 unfolding allWords sideWords sumSides
 words-count n d =
@@ -74,7 +76,8 @@ not-zero n d z e = allowed n d z .some (rw e refl)
 pub six : (n : ℕ) (d : Direction) → refuseFile n d ≡ 0 → length (allWords d n 4) ≤ 6
 six n d z = omega (arith, at-most-six n d (not-zero n d z), words-count n d)
 
-pub listed-answer : (n : ℕ) (d : Direction) (out : List ℕ) (r : ℕ) (new : List ℕ) → refuseFile n d ≡ 0 → 6 ≤ length out
+pub listed-answer : (n : ℕ) (d : Direction) (out : List ℕ) (r : ℕ) (new : List ℕ) → refuseFile n d ≡ 0
+    → 6 ≤ length out
     → Puts 0 (allWords d n 4) out r new → ListAnswer n d out (countAnswer 0 r) new
 listed-answer n d out r new z l p =
     let c : r ≡ length (allWords d n 4) = omega (arith, p .count) in

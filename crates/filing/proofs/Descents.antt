@@ -23,17 +23,20 @@ module _ (D : Determinants) where
   unfolding leastChild first
   least-1 a b p e q f = simp (← p, e, ← q, f)
 
-  pub least-2 : (a b c : Bool) → a ≡ test 0 → a ≡ false → b ≡ test 1 → b ≡ false → c ≡ test 2 → c ≡ true → 2 ≡ leastChild D
+  pub least-2 : (a b c : Bool) → a ≡ test 0 → a ≡ false → b ≡ test 1 → b ≡ false → c ≡ test 2
+      → c ≡ true → 2 ≡ leastChild D
   unfolding leastChild first
   least-2 a b c p e q f r g = simp (← p, e, ← q, f, ← r, g)
 
-  pub least-3 : (a b c : Bool) → a ≡ test 0 → a ≡ false → b ≡ test 1 → b ≡ false → c ≡ test 2 → c ≡ false → 3 ≡ leastChild D
+  pub least-3 : (a b c : Bool) → a ≡ test 0 → a ≡ false → b ≡ test 1 → b ≡ false → c ≡ test 2
+      → c ≡ false → 3 ≡ leastChild D
   unfolding leastChild first
   least-3 a b c p e q f r g = simp (← p, e, ← q, f, ← r, g)
 
 -- ---- the path, one digit further
 
-pub path-down : (n v d : ℕ) → (n ≡ 0 → ⊥) → n ≤ 24 → d < 4 → v < 2 ^ (2 * (24 - n)) → 4 * v + d < 2 ^ (2 * (24 - (n - 1)))
+pub path-down : (n v d : ℕ) → (n ≡ 0 → ⊥) → n ≤ 24 → d < 4 → v < 2 ^ (2 * (24 - n))
+    → 4 * v + d < 2 ^ (2 * (24 - (n - 1)))
 path-down n v d f l h k =
     let e : 24 - (n - 1) ≡ suc (24 - n) = omega arith in
     rw e (omega (arith, four (24 - n)))

@@ -21,12 +21,14 @@ found : (d : Direction) → First (λ s. holds (sideDets d s)) 4 23 (leastFrom d
 unfolding leastFrom
 found d =
     let c = cover d in
-    first-is 19 4 (λ s. holds (sideDets d s)) (c .0) (omega (arith, c .1 .0)) (omega (arith, c .1 .1)) (holds-test (sideDets d (c .0)) (c .2))
+    first-is 19 4 (λ s. holds (sideDets d s)) (c .0) (omega (arith, c .1 .0)) (omega (arith, c .1 .1))
+    (holds-test (sideDets d (c .0)) (c .2))
 
 pub found-side : (d : Direction) → IsSide (leastFrom d 4)
 found-side d = (omega (arith, found d .low), omega (arith, found d .high))
 
-pub found-code : (n : ℕ) (d : Direction) → n ≤ 24 → IsFiled n d (codeOf (wordOf (leastFrom d 4) n (descent n (sideDets d (leastFrom d 4)) 0)))
+pub found-code : (n : ℕ) (d : Direction) → n ≤ 24 → IsFiled n d
+    (codeOf (wordOf (leastFrom d 4) n (descent n (sideDets d (leastFrom d 4)) 0)))
 unfolding sideDets
 found-code n d h =
     descent-filed n d (leastFrom d 4) (found-side d) h (test-holds (sideDets d (leastFrom d 4)) (found d .passes))

@@ -19,7 +19,8 @@ use Rattle.golden.proofs.IntegerSolver.{ℤ-ring}
 use Rattle.golden.proofs.IntegerOrder.{le-or-ltℤ, le-antisym, split, difs, pos-of}
 use Rattle.golden.proofs.Magnitudes.{abs-above, pos-abs, neg-of-abs}
 use Rattle.golden.proofs.GoldenRing.{φ-path, φ-ring, scale, of-addφ}
-use Rattle.golden.proofs.GoldenOrder.{nonneg-by, add-nonneg, antisym, nonNeg, is-nonneg, not-nonneg, nonneg-or-not}
+use Rattle.golden.proofs.GoldenOrder.{nonneg-by, add-nonneg, antisym, nonNeg, is-nonneg, not-nonneg}
+use Rattle.golden.proofs.GoldenOrder.{nonneg-or-not}
 use Rattle.golden.proofs.GoldenProduct.{whole-nonneg, *φ-nonneg}
 use Rattle.golden.proofs.Quotients.{divide-nonneg}
 
@@ -36,22 +37,31 @@ bottom = 1134903170
 pub lower : {s t : ℤ} (x : Golden) → s ≤ℤ t → NotAbove t x → NotAbove s x
 lower {s} {t} x h k = pos-of h λ n e.
     let p : (x +φ negφ (whole t)) +φ whole (pos n) ≡ x +φ negφ (whole s) =
-    ap (λ (z : Golden). (x +φ negφ z) +φ whole (pos n)) (ap whole e ∙ of-addφ s (pos n)) ∙ solve φ-ring (x ∷ whole s ∷ whole (pos n) ∷ []) ((var 0 ⊝ (var 1 ⊕ var 2)) ⊕ var 2) (var 0 ⊝ var 1) refl in
+    ap (λ (z : Golden). (x +φ negφ z) +φ whole (pos n)) (ap whole e ∙ of-addφ s (pos n))
+    ∙ solve φ-ring (x ∷ whole s ∷ whole (pos n) ∷ []) ((var 0 ⊝ (var 1 ⊕ var 2)) ⊕ var 2)
+    (var 0 ⊝ var 1) refl in
     nonneg-by p (add-nonneg _ _ k (whole-nonneg n))
 
 -- t is the greatest where t + 1 is above
 pub greatest-of : (x : Golden) {t : ℤ} → NotAbove t x → (NotAbove (t +ℤ pos 1) x → ⊥) → IsFloor x t
-greatest-of x {t} h k = record { notAbove = h; greatest = λ s n. ⊎-elim (λ l. l) (λ l. absurd (k (lower x (next l) n))) (le-or-ltℤ s t) }
+greatest-of x {t} h k = record {
+  notAbove = h;
+  greatest = λ s n.
+      ⊎-elim (λ l. l) (λ l. absurd (k (lower x (next l) n))) (le-or-ltℤ s t);
+}
   where
     next : {s : ℤ} → t <ℤ s → (t +ℤ pos 1) ≤ℤ s
     next {s} l = split s λ p n x. split t λ q m y. simp (x, y, difs) (omega (arith, simp (x, y, difs) at l))
 
-pub greatest-next : (x : Golden) (t : ℤ) → NotAbove (t +ℤ pos 1) x → (NotAbove (t +ℤ pos 2) x → ⊥) → IsFloor x (t +ℤ pos 1)
+pub greatest-next : (x : Golden) (t : ℤ) → NotAbove (t +ℤ pos 1) x → (NotAbove (t +ℤ pos 2) x → ⊥)
+    → IsFloor x (t +ℤ pos 1)
 greatest-next x t h k = greatest-of x h (λ n. k (subst (λ (z : ℤ). NotAbove z x) (+ℤ-assoc t (pos 1) (pos 1)) n))
 
 -- as a test that antt computes, with `unfolding _+φ_ negφ`
-pub floor-test : (x : Golden) (t : ℤ) → T (nonNeg (x +φ negφ (whole t))) → T (not (nonNeg (x +φ negφ (whole (t +ℤ pos 1))))) → IsFloor x t
-floor-test x t yes-t no-next = greatest-of x (is-nonneg (x +φ negφ (whole t)) yes-t) (not-nonneg (x +φ negφ (whole (t +ℤ pos 1))) no-next)
+pub floor-test : (x : Golden) (t : ℤ) → T (nonNeg (x +φ negφ (whole t)))
+    → T (not (nonNeg (x +φ negφ (whole (t +ℤ pos 1))))) → IsFloor x t
+floor-test x t yes-t no-next = greatest-of x (is-nonneg (x +φ negφ (whole t)) yes-t)
+    (not-nonneg (x +φ negφ (whole (t +ℤ pos 1))) no-next)
 
 -- there is no other
 pub floor-one : {x : Golden} {s t : ℤ} → IsFloor x s → IsFloor x t → s ≡ t
@@ -84,7 +94,8 @@ less {u} s d v e = φ-path
     (solve ℤ-ring (v ∷ []) (var 0 ⊝ lit 0) (var 0) refl)
 
 -- q is m·top/bottom rounded down, and what is left stays 2048 below k·bottom: always where k is 2
-module _ (m q k : ℕ) (m≤ : m ≤ 2 ^ 42) (is : q ≡ m * top / bottom) (room : m * top % bottom + 2048 ≤ k * bottom) where
+module _ (m q k : ℕ) (m≤ : m ≤ 2 ^ 42) (is : q ≡ m * top / bottom)
+    (room : m * top % bottom + 2048 ≤ k * bottom) where
   abbrev rest : ℕ
   rest = m * top % bottom
 
@@ -149,7 +160,8 @@ module _ (m q k : ℕ) (m≤ : m ≤ 2 ^ 42) (is : q ≡ m * top / bottom) (room
       let far : u ≡ low +ℤ pos k +ℤ negℤ (pos (q + k)) = split u λ p n x. simp (x, difs) (omega arith) in (
         nonneg-by (sym (less low (negℤ (pos q)) (pos m) near)) not-below,
         λ h.
-            let over = less (low +ℤ pos k) (negℤ (pos (q + k))) (pos m) far ∙ φ-path refl (sym (negℤ-negℤ (pos m))) in
+            let over = less (low +ℤ pos k) (negℤ (pos (q + k))) (pos m) far
+            ∙ φ-path refl (sym (negℤ-negℤ (pos m))) in
             let z : q + k ≡ 0 = no (antisym _ not-close (nonneg-by over h) .0) in
             omega arith,
       )
@@ -163,7 +175,8 @@ module _ (m q k : ℕ) (m≤ : m ≤ 2 ^ 42) (is : q ≡ m * top / bottom) (room
       let far : u ≡ low +ℤ pos k +ℤ pos q = split u λ p n x. simp (x, difs) (omega arith) in (
         nonneg-by (sym (less low (pos (q + k)) (negℤ (pos m)) near)) not-close,
         λ h.
-            let over = less (low +ℤ pos k) (pos q) (negℤ (pos m)) far ∙ φ-path (sym (negℤ-negℤ (pos q))) refl in
+            let over = less (low +ℤ pos k) (pos q) (negℤ (pos m)) far
+            ∙ φ-path (sym (negℤ-negℤ (pos q))) refl in
             let z : m ≡ 0 = no (antisym (golden (negℤ (pos q)) (pos m)) not-below (nonneg-by over h) .1) in
             omega arith,
       )

@@ -1,5 +1,5 @@
-// Numbers u + vφ, with φ the positive root of φ² = φ + 1: their sign, decided exactly, and the whole number t for drawing.
-// Each function asks that its numbers are small enough for 64 bits; the crates above prove it of theirs.
+// Numbers u + vφ, with φ the positive root of φ² = φ + 1: their sign, decided exactly, and the whole number t for
+// drawing. Each function asks that its numbers are small enough for 64 bits; the crates above prove it of theirs.
 ghost use mathlib.Core.Path.{_≡_};
 ghost use Prim.Native.Nat.{_+_, _*_, _/_, _%_, _<_, _≤_, _^_};
 ghost use lib.IntN.{pos, negℤ, natAbs, _+ℤ_, _*ℤ_};
@@ -14,8 +14,9 @@ pub struct Golden {
     pub v: i64,
 }
 
-// Whether a is at least b√5. With a' = 5b - 2a and b' = a - 2b, a'² - 5b'² = 5b² - a²: the opposite question of a pair less than
-// a quarter as large. So no two large numbers are multiplied, and the calls go no deeper than the numbers have pairs of bits.
+// Whether a is at least b√5. With a' = 5b - 2a and b' = a - 2b, a'² - 5b'² = 5b² - a²: the opposite question of a
+// pair less than a quarter as large. So no two large numbers are multiplied, and the calls go no deeper than the
+// numbers have pairs of bits.
 fn at_least_root_five(a: u64, b: u64) -> bool
     requires { ⌜ (a < 2 ^ 60) × (b < 2 ^ 60) ⌝ }
     ensures { λ r. ⌜ Decides r (5 * (b * b) ≤ a * a) ⌝ }
@@ -149,7 +150,8 @@ impl Golden {
     // A whole number that is not above u + vφ, and is less than k below it: k is 2, or 1 where |v| is clear.
     fn close_below(self, k: u64) -> i64
         requires { ⌜
-            Below (2 ^ 42 + 1) self × (k ≤ 2) × (natAbs (self .v) * 1836311903 % 1134903170 + 2048 ≤ k * 1134903170)
+            Below (2 ^ 42 + 1) self × (k ≤ 2) × (natAbs (self .v) * 1836311903 % 1134903170
+            + 2048 ≤ k * 1134903170)
             ⌝ }
         ensures { λ r. ⌜ NotAbove r self × (NotAbove (r +ℤ pos k) self → ⊥) × (natAbs r < 2 ^ 45) ⌝ }
     {

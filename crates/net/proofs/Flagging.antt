@@ -58,7 +58,8 @@ pub other-low : (d : ℕ) → d < 4 → (c : ℕ) → OneToThree c → other c d
 other-low = sound (below 4 λ d. threes λ c. most (other c d) 1) refl
 
 some-both : (d : ℕ) → d < 4 → (c : ℕ) → OneToThree c
-    → (bitAnd (sign d) (sign (bitXor d c)) ≡ other c d) × ((bitXor d c < 4) × ((sign d < 4) × (sign (bitXor d c) < 4)))
+    → (bitAnd (sign d) (sign (bitXor d c)) ≡ other c d) × ((bitXor d c < 4)
+    × ((sign d < 4) × (sign (bitXor d c) < 4)))
 some-both =
     sound (below 4 λ d. threes λ c.
     same (bitAnd (sign d) (sign (bitXor d c))) (other c d) and less (bitXor d c) 4 and less (sign d) 4 and less
@@ -133,7 +134,8 @@ path-onto (d ∷ ds) = ap (λ (x : ℕ). 4 * x + d) (path-onto ds)
 
 -- ---- over a seam: a digit that is neither 0 nor c is changed by c
 
-changed : (d : ℕ) → d < 4 → (c : ℕ) → OneToThree c → (bitXor d (c * other c d) ≡ flip c d) × (c * other c d < 4)
+changed : (d : ℕ) → d < 4 → (c : ℕ) → OneToThree c → (bitXor d (c * other c d) ≡ flip c d)
+    × (c * other c d < 4)
 changed = sound (below 4 λ d. threes λ c. same (bitXor d (c * other c d)) (flip c d) and less (c * other c d) 4) refl
 
 pub flips : (a c : ℕ) → OneToThree c → {n : ℕ} {ds : List ℕ} → AreDigits n ds
@@ -185,7 +187,8 @@ at-0 = sound (threes λ k. same (other k 0) 0 and same (bitXor 0 k) k) refl
 at-k : (k : ℕ) → OneToThree k → (other k k ≡ 0) × (bitXor k k ≡ 0)
 at-k = sound (threes λ k. same (other k k) 0 and same (bitXor k k) 0) refl
 
-at-other : (d : ℕ) → d < 4 → (k : ℕ) → OneToThree k → (d ≡ 0 → ⊥) → (d ≡ k → ⊥) → (other k d ≡ 1)
+at-other : (d : ℕ) → d < 4 → (k : ℕ) → OneToThree k → (d ≡ 0 → ⊥) → (d ≡ k → ⊥)
+    → (other k d ≡ 1)
     × (bitXor d k ≡ 6 - k - d)
 at-other = sound (below 4 λ d. threes λ k. no (same d 0) then
     (no (same d k) then (same (other k d) 1 and same (bitXor d k) (6 - k - d)))) refl
@@ -209,7 +212,8 @@ module _ (k a n d : ℕ) (ds : List ℕ) (hk : OneToThree k) (hd : d < 4) where
             ∙ λ i. 4 * xor-zero-r (onto a ds) i + x i,
       )
 
-  further : other k d ≡ 1 → bitXor d k ≡ 6 - k - d → (c : Move (List ℕ)) → Spans k a n ds (carried (suc n) m) c
+  further : other k d ≡ 1 → bitXor d k ≡ 6 - k - d → (c : Move (List ℕ))
+      → Spans k a n ds (carried (suc n) m) c
       → Spans k a (suc n) (d ∷ ds) (carried (suc (suc n)) (4 * m + other k d)) (map (λ es. (6 - k - d) ∷ es) c)
   unfolding onto
   further o x (inside es) ih =

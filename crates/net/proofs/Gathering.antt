@@ -48,7 +48,8 @@ unfolding gather
 gather-add k zero v = rw (add-zero k) (let e : v / 1 ≡ v = omega arith in omega (arith, ap (gather lowBit k) e))
 gather-add k (suc w) v =
     let n : 2 * suc w ≡ 2 + 2 * w = omega arith in
-    let f : v / 2 ^ (2 * suc w) ≡ v / 4 / 2 ^ (2 * w) = ap (λ (m : ℕ). v / 2 ^ m) n ∙ sym (shr-shr v 2 (2 * w)) in
+    let f : v / 2 ^ (2 * suc w) ≡ v / 4 / 2 ^ (2 * w) = ap (λ (m : ℕ). v / 2 ^ m) n
+    ∙ sym (shr-shr v 2 (2 * w)) in
     let g = gather lowBit k (v / 4 / 2 ^ (2 * w)) in
     let q : g * 2 ^ suc w ≡ g * 2 ^ w * 2 = ap (λ (x : ℕ). g * x) (pow-suc 2 w) ∙ omega arith in
     rw (add-suc k w, f) (omega (arith, gather-add k w (v / 4), q))

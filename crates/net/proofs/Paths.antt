@@ -57,7 +57,8 @@ Kept (inside ds) n = AreDigits n ds
 Kept outside n = Unit {0}
 
 -- what holds of the one or the other by a test
-pub picked : (P : Move (List ℕ) → Type 0) (a b : ℕ) {x y : Move (List ℕ)} → (a ≡ b → P x) → ((a ≡ b → ⊥) → P y)
+pub picked : (P : Move (List ℕ) → Type 0) (a b : ℕ) {x y : Move (List ℕ)} → (a ≡ b → P x)
+    → ((a ≡ b → ⊥) → P y)
     → P (pick (eqb a b) x y)
 picked P a b {x} {y} f g = go (eqb a b) refl
   where

@@ -1,5 +1,5 @@
--- The walk round a corner is its ring: there is no other, its triangles are all that have the corner and all different, and it closes.
--- Assumes nothing.
+-- The walk round a corner is its ring: there is no other, its triangles are all that have the corner and all different,
+-- and it closes. Assumes nothing.
 use mathlib.Core.Path.{_≡_, _∙_, refl, sym, ap, subst}
 use mathlib.Core.List.{List}
 use mathlib.Core.Logic.{⊎-elim}
@@ -20,7 +20,8 @@ use Rattle.net.specs.Sides.{OneToThree, next, prev}
 use Rattle.net.specs.Steps.{IsRing, Turn, nonZeros, ringSize}
 use Rattle.net.proofs.CodePlaces.{code-for, codeFor, digitsIn}
 use Rattle.net.proofs.Crossing.{codeAcross, corner-one, ends-only}
-use Rattle.net.proofs.LeastName.{around-first, place-code, place-corner, place-digits, place-in, place-side, placeIn, walk-all}
+use Rattle.net.proofs.LeastName.{around-first, place-code, place-corner, place-digits, place-in, place-side}
+use Rattle.net.proofs.LeastName.{placeIn, walk-all}
 use Rattle.net.proofs.Rings.{At, around-at, ring-at, ring-closes, ring-differs}
 use Rattle.net.proofs.Stepping.{next-three, prev-three, step-beside}
 use Rattle.net.proofs.Table.{three}
@@ -42,17 +43,30 @@ module _ {n : ℕ} {p : Weights} {t : TriangleCode} (c : IsCode n t) where
   turn-across : {t′ : TriangleCode} → IsCode n t′ → (x : Turn p t t′) → t′ ≡ codeAcross (next (x .i)) t
   turn-across {t′} c′ x =
       let k = next (x .i) in
-      let a : HasCorner t′ (corner t (next k)) = (next (x .j), next-three (x .j) (x .j-ok), sym (x .leg) ∙ ap (corner t) (sym (next-next (x .i) (x .i-ok)))) in
-      let b : HasCorner t′ (corner t (prev k)) = (x .j, x .j-ok, x .has′ ∙ sym (x .has) ∙ ap (corner t) (sym (prev-next (x .i) (x .i-ok)))) in
+      let a : HasCorner t′ (corner t (next k)) = (
+        next (x .j),
+        next-three (x .j) (x .j-ok),
+        sym (x .leg)
+            ∙ ap (corner t) (sym (next-next (x .i) (x .i-ok))),
+      ) in
+      let b : HasCorner t′ (corner t (prev k)) = (
+        x .j,
+        x .j-ok,
+        x .has′ ∙ sym (x .has)
+            ∙ ap (corner t) (sym (prev-next (x .i) (x .i-ok))),
+      ) in
       ⊎-elim (λ e. absurd (stays e)) (λ e. e) (ends-only c k (next-three (x .i) (x .i-ok)) t′ c′ a b)
     where
       stays : t′ ≡ t → ⊥
       stays e =
-          let f : x .i ≡ x .j = corner-one c (x .i-ok) (x .j-ok) (x .has ∙ sym (x .has′) ∙ ap (λ (u : TriangleCode). corner u (x .j)) e) in
-          let g : corner t (prev (x .i)) ≡ corner t (next (x .i)) = x .leg ∙ (λ j. corner (e j) (next (sym f j))) in
+          let f : x .i ≡ x .j = corner-one c (x .i-ok) (x .j-ok)
+          (x .has ∙ sym (x .has′) ∙ ap (λ (u : TriangleCode). corner u (x .j)) e) in
+          let g : corner t (prev (x .i)) ≡ corner t (next (x .i)) = x .leg
+          ∙ (λ j. corner (e j) (next (sym f j))) in
           next-prev (x .i) (x .i-ok) (corner-one c (prev-three (x .i) (x .i-ok)) (next-three (x .i) (x .i-ok)) g)
 
-  turn-one : {t′ t″ : TriangleCode} → IsCode n t′ → IsCode n t″ → Turn p t t′ → Turn p t t″ → t′ ≡ t″
+  turn-one : {t′ t″ : TriangleCode} → IsCode n t′ → IsCode n t″ → Turn p t t′ → Turn p t t″
+      → t′ ≡ t″
   turn-one c′ c″ x y =
       let e : x .i ≡ y .i = corner-one c (x .i-ok) (y .i-ok) (x .has ∙ sym (y .has)) in
       turn-across c′ x ∙ ap (λ (i : ℕ). codeAcross (next i) t) e ∙ sym (turn-across c″ y)
@@ -66,7 +80,8 @@ module _ {r : CornerName} {ts us : List ℕ} (x : IsRing r ts) (y : IsRing r us)
       let e : codeOf (getD ts m 0) ≡ codeOf (getD us m 0) = ap codeOf (same-at m (omega arith)) in
       let t : Turn (named r) (codeOf (getD ts m 0)) (codeOf (getD us (suc m) 0)) =
       subst (λ (u : TriangleCode). Turn (named r) u (codeOf (getD us (suc m) 0))) (sym e) (y .turns m (omega arith)) in
-      ap (λ (u : TriangleCode). u .0) (turn-one (x .codes m (omega arith)) (x .codes (suc m) h) (y .codes (suc m) (omega arith)) (x .turns m h) t)
+      ap (λ (u : TriangleCode). u .0) (turn-one (x .codes m (omega arith)) (x .codes (suc m) h)
+      (y .codes (suc m) (omega arith)) (x .turns m h) t)
 
   pub ring-one : ts ≡ us
   ring-one = ext-getD 0 ts us (x .count ∙ sym (y .count)) same-at
@@ -86,7 +101,8 @@ ring-word (suc m) q (suc j) h = ring-word m (around q) j (omega arith) ∙ ap wo
 
 module _ {n : ℕ} {P : List ℕ} (low : n ≤ 24) where
   -- one step of the walk is a turn
-  walk-turn : (q : Place) → At n P q → Turn P (codeFor (q .side) (q .digits)) (codeFor (around q .side) (around q .digits))
+  walk-turn : (q : Place) → At n P q → Turn P (codeFor (q .side) (q .digits))
+      (codeFor (around q .side) (around q .digits))
   unfolding around
   walk-turn q a =
       let k = next (q .number) in
@@ -148,10 +164,14 @@ module _ (r : CornerName) (c : IsCode (degreeOf (r .0)) (codeInside r)) (l : One
       let len = ring-length size q in
       record {
         count = len;
-        codes = λ m h. subst (λ (t : TriangleCode). IsCode n t) (sym (word-is m (omega arith))) (place-code (at m) low);
-        begins = ring-word size q 0 (size-pos (nonZeros (named r))) ∙ ap (λ (t : TriangleCode). t .0) (sym (code-for c));
-        turns = λ m h. subst (λ (t : TriangleCode). Turn (named r) t (codeOf (getD (ringWords size q) (suc m) 0))) (sym (word-is m (omega arith)))
-            (subst (λ (t : TriangleCode). Turn (named r) (code m) t) (sym (word-is (suc m) (omega arith))) (walk-step m));
+        codes = λ m h. subst (λ (t : TriangleCode). IsCode n t) (sym (word-is m (omega arith)))
+            (place-code (at m) low);
+        begins = ring-word size q 0 (size-pos (nonZeros (named r)))
+            ∙ ap (λ (t : TriangleCode). t .0) (sym (code-for c));
+        turns = λ m h. subst (λ (t : TriangleCode). Turn (named r) t (codeOf (getD (ringWords size q) (suc m) 0)))
+            (sym (word-is m (omega arith)))
+            (subst (λ (t : TriangleCode). Turn (named r) (code m) t) (sym (word-is (suc m) (omega arith)))
+            (walk-step m));
       }
 
   -- it closes, its triangles are different, and they are all that have the corner
@@ -159,7 +179,8 @@ module _ (r : CornerName) (c : IsCode (degreeOf (r .0)) (codeInside r)) (l : One
   unfolding ringAt
   closes =
       let e : suc (size - 1) ≡ size = omega (arith, size-pos (nonZeros (named r))) in
-      let f : code (suc (size - 1)) ≡ code 0 = ap code e ∙ ap (λ (p : Place). codeFor (p .side) (p .digits)) (ring-closes n (named r) q (place-in c l)) in
+      let f : code (suc (size - 1)) ≡ code 0 = ap code e
+      ∙ ap (λ (p : Place). codeFor (p .side) (p .digits)) (ring-closes n (named r) q (place-in c l)) in
       subst (λ (t : TriangleCode). Turn (named r) (code (size - 1)) t) f (walk-step (size - 1))
 
   differs : (i j : ℕ) → i < j → j < size → code i ≡ code j → ⊥
@@ -174,7 +195,8 @@ pub record Whole (r : CornerName) (ts : List ℕ) : Type 0 where
   pub differ : (i j : ℕ) → i < j → j < length ts → getD ts i 0 ≡ getD ts j 0 → ⊥
   -- they have the corner, and every triangle of the degree that has it is listed
   pub has : (i : ℕ) → i < length ts → HasCorner (codeOf (getD ts i 0)) (named r)
-  pub all : (t : TriangleCode) → IsCode (degreeOf (r .0)) t → HasCorner t (named r) → (i : ℕ) × (i < length ts) × (getD ts i 0 ≡ t .0)
+  pub all : (t : TriangleCode) → IsCode (degreeOf (r .0)) t → HasCorner t (named r)
+      → (i : ℕ) × (i < length ts) × (getD ts i 0 ≡ t .0)
   -- from the last the same step leads to the first
   pub closes : Turn (named r) (codeOf (getD ts (length ts - 1) 0)) (codeOf (getD ts 0 0))
 
@@ -185,14 +207,21 @@ module _ (r : CornerName) (c : IsCode (degreeOf (r .0)) (codeInside r)) (l : One
       let pos = size-pos (nonZeros (named r)) in
       let is = word-is r c l in
       record {
-        differ = λ i j h k e. differs r c l i j h (omega arith) (sym (is i (omega arith)) ∙ ap codeOf e ∙ is j (omega arith));
-        has = λ i h. subst (λ (t : TriangleCode). HasCorner t (named r)) (sym (is i (omega arith)))
-            (ringAt (q r c l) i .number, at r c l i .a-number, place-corner (at r c l i) (code-degree c) (ringAt (q r c l) i .number) ∙ at r c l i .corner);
+        differ = λ i j h k e. differs r c l i j h (omega arith)
+            (sym (is i (omega arith)) ∙ ap codeOf e ∙ is j (omega arith));
+        has = λ i h. subst (λ (t : TriangleCode). HasCorner t (named r)) (sym (is i (omega arith))) (
+          ringAt (q r c l) i .number,
+          at r c l i .a-number,
+          place-corner (at r c l i) (code-degree c) (ringAt (q r c l) i .number) ∙ at r c l i .corner,
+        );
         all = λ t ct ht. let x = walk-all (place-in c l) t ct ht in
             (x .0, rw len (x .1), ap (λ (u : TriangleCode). u .0) (is (x .0) (x .1) ∙ x .2));
-        closes = subst (λ (k : ℕ). Turn (named r) (codeOf (getD (ringWords (size r c l) (q r c l)) (k - 1) 0)) (codeOf (getD (ringWords (size r c l) (q r c l)) 0 0))) (sym len)
-            (subst (λ (t : TriangleCode). Turn (named r) t (codeOf (getD (ringWords (size r c l) (q r c l)) 0 0))) (sym (is (size r c l - 1) (omega arith)))
-            (subst (λ (t : TriangleCode). Turn (named r) (code r c l (size r c l - 1)) t) (sym (is 0 pos)) (closes r c l)));
+        closes = subst (λ (k : ℕ). Turn (named r) (codeOf (getD (ringWords (size r c l) (q r c l)) (k - 1) 0))
+            (codeOf (getD (ringWords (size r c l) (q r c l)) 0 0))) (sym len)
+            (subst (λ (t : TriangleCode). Turn (named r) t (codeOf (getD (ringWords (size r c l) (q r c l)) 0 0)))
+            (sym (is (size r c l - 1) (omega arith)))
+            (subst (λ (t : TriangleCode). Turn (named r) (code r c l (size r c l - 1)) t) (sym (is 0 pos))
+            (closes r c l)));
       }
 
   pub ring-whole : {ts : List ℕ} → IsRing r ts → Whole r ts

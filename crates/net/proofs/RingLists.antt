@@ -22,7 +22,8 @@ use Rattle.net.proofs.Writing.{over-more}
 -- ---- the words, place by place
 
 -- the first
-pub ring-first : (m : ℕ) (q : Place) (out : List ℕ) → 1 ≤ m → m ≤ length out → {w : ℕ} → w ≡ wordAt q
+pub ring-first : (m : ℕ) (q : Place) (out : List ℕ) → 1 ≤ m → m ≤ length out → {w : ℕ}
+    → w ≡ wordAt q
     → set out 0 w ≡ take 1 (ringWords m q) ++ drop 1 (set out 0 w)
 unfolding ringWords
 ring-first zero q out h l e = absurd (omega arith)
@@ -30,12 +31,14 @@ ring-first (suc m) q [] h l e = absurd (omega arith)
 ring-first (suc m) q (y ∷ ys) h l e = ap (λ (x : ℕ). x ∷ ys) e
 
 -- one more
-pub ring-next : (m : ℕ) (q : Place) (out : List ℕ) → m ≤ length out → (i : ℕ) → i < m → {now : List ℕ} {w : ℕ}
+pub ring-next : (m : ℕ) (q : Place) (out : List ℕ) → m ≤ length out → (i : ℕ) → i < m
+    → {now : List ℕ} {w : ℕ}
     → now ≡ take i (ringWords m q) ++ drop i out → w ≡ wordAt (ringAt q i)
     → set now i w ≡ take (i + 1) (ringWords m q) ++ drop (i + 1) out
 ring-next m q out l i h e f =
     let n = ring-length m q in
-    (λ j. set (e j) i ((f ∙ sym (ring-word m q i h)) j)) ∙ over-more (ringWords m q) out i (omega arith) (omega arith)
+    (λ j. set (e j) i ((f ∙ sym (ring-word m q i h)) j))
+    ∙ over-more (ringWords m q) out i (omega arith) (omega arith)
 
 -- all
 pub ring-last : (m : ℕ) (q : Place) (out : List ℕ) (w : ℕ) → 1 ≤ m → m ≤ length out
@@ -67,5 +70,7 @@ count-least p e = rw e (go (sign (p .w1) + sign (p .w2) + sign (p .w3)))
     go (suc zero) = omega arith
     go (suc (suc n)) = omega arith
 
-pub count-is : (s : ℕ) (ds : List ℕ) (i : ℕ) → IsSide s → ringSize (nonZeros (cornerOf s ds i)) ≡ countOf (pointOf i (stateOf ds))
-count-is s ds i h = ap ringSize (sym (non-zeros (cornerOf s ds i)) ∙ ap nonZero (corner-is s ds i) ∙ non-zero s (pointOf i (stateOf ds)) h)
+pub count-is : (s : ℕ) (ds : List ℕ) (i : ℕ) → IsSide s → ringSize (nonZeros (cornerOf s ds i))
+    ≡ countOf (pointOf i (stateOf ds))
+count-is s ds i h = ap ringSize (sym (non-zeros (cornerOf s ds i)) ∙ ap nonZero (corner-is s ds i)
+    ∙ non-zero s (pointOf i (stateOf ds)) h)

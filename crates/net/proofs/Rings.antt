@@ -19,7 +19,8 @@ use Rattle.net.specs.declared.State.the-variants.{Down, Up}
 use Rattle.net.proofs.Flips.{turn, turn-all}
 use Rattle.net.proofs.Halving.{one-list}
 use Rattle.net.proofs.InnerStep.{crossing}
-use Rattle.net.proofs.Loads.{HasAt, corner-is, same-weights, spread-one, sum-spread, weight, weight-has, weight-other, weight-own}
+use Rattle.net.proofs.Loads.{HasAt, corner-is, same-weights, spread-one, sum-spread, weight, weight-has}
+use Rattle.net.proofs.Loads.{weight-other, weight-own}
 use Rattle.net.proofs.Neighbours.{corners-differ}
 use Rattle.net.proofs.Paths.{Digits}
 use Rattle.net.proofs.RingTable.{Mark, complete, fits, mark, markAfter, marks, needs, onward, ring, ring-table}
@@ -83,30 +84,38 @@ markOf q = mark (q .side) (kindOf (stateOf (q .digits))) (q .number)
 abbrev OneState : State → State → ℕ → Type 0
 OneState a b i = pointOf i a ≡ pointOf i b → a ≡ b
 
+-- equal points have equal parts
+parts : {p q : Point} → p ≡ q → (p .w1 ≡ q .w1) × (p .w2 ≡ q .w2) × (p .w3 ≡ q .w3)
+parts e = (ap (λ (p : Point). p .w1) e, ap (λ (p : Point). p .w2) e, ap (λ (p : Point). p .w3) e)
+
 state-one : (a b : State) → kindOf a ≡ kindOf b → (i : ℕ) → OneToThree i → OneState a b i
 state-one (Up x y z) (Down u v w) e = absurd (omega arith)
 state-one (Down x y z) (Up u v w) e = absurd (omega arith)
 state-one (Up x y z) (Up u v w) e =
     three (OneState (Up x y z) (Up u v w))
-    (λ f. up-same (omega (arith, ap (λ (p : Point). p .w1) f)) (omega (arith, ap (λ (p : Point). p .w2) f)) (omega (arith, ap (λ (p : Point). p .w3) f)))
-    (λ f. up-same (omega (arith, ap (λ (p : Point). p .w1) f)) (omega (arith, ap (λ (p : Point). p .w2) f)) (omega (arith, ap (λ (p : Point). p .w3) f)))
-    (λ f. up-same (omega (arith, ap (λ (p : Point). p .w1) f)) (omega (arith, ap (λ (p : Point). p .w2) f)) (omega (arith, ap (λ (p : Point). p .w3) f)))
+    (λ f. let d = parts f in up-same (omega (arith, d .0)) (omega (arith, d .1)) (omega (arith, d .2)))
+    (λ f. let d = parts f in up-same (omega (arith, d .0)) (omega (arith, d .1)) (omega (arith, d .2)))
+    (λ f. let d = parts f in up-same (omega (arith, d .0)) (omega (arith, d .1)) (omega (arith, d .2)))
 state-one (Down x y z) (Down u v w) e =
     three (OneState (Down x y z) (Down u v w))
-    (λ f. down-same (omega (arith, ap (λ (p : Point). p .w1) f)) (omega (arith, ap (λ (p : Point). p .w2) f)) (omega (arith, ap (λ (p : Point). p .w3) f)))
-    (λ f. down-same (omega (arith, ap (λ (p : Point). p .w1) f)) (omega (arith, ap (λ (p : Point). p .w2) f)) (omega (arith, ap (λ (p : Point). p .w3) f)))
-    (λ f. down-same (omega (arith, ap (λ (p : Point). p .w1) f)) (omega (arith, ap (λ (p : Point). p .w2) f)) (omega (arith, ap (λ (p : Point). p .w3) f)))
+    (λ f. let d = parts f in down-same (omega (arith, d .0)) (omega (arith, d .1)) (omega (arith, d .2)))
+    (λ f. let d = parts f in down-same (omega (arith, d .0)) (omega (arith, d .1)) (omega (arith, d .2)))
+    (λ f. let d = parts f in down-same (omega (arith, d .0)) (omega (arith, d .1)) (omega (arith, d .2)))
 
 module _ (n : ℕ) (P : List ℕ) where
   -- two triangles with the corner and with one mark are one
-  place-one : (q r : Place) → At n P q → At n P r → q .side ≡ r .side → kindOf (stateOf (q .digits)) ≡ kindOf (stateOf (r .digits)) → q .number ≡ r .number → q ≡ r
+  place-one : (q r : Place) → At n P q → At n P r → q .side ≡ r .side
+      → kindOf (stateOf (q .digits)) ≡ kindOf (stateOf (r .digits)) → q .number ≡ r .number → q ≡ r
   place-one q r h g e f m =
       let c : cornerOf (r .side) (q .digits) (r .number) ≡ P = rw (e, m) at (h .corner) in
-      let p = spread-one (r .side) _ _ (g .a-side) (sym (corner-is (r .side) (q .digits) (r .number)) ∙ c ∙ sym (g .corner) ∙ corner-is (r .side) (r .digits) (r .number)) in
-      let d = one-list (q .digits) (r .digits) (h .degree ∙ sym (g .degree)) (h .the-digits) (g .the-digits) (state-one _ _ f (r .number) (g .a-number) p) in
+      let p = spread-one (r .side) _ _ (g .a-side) (sym (corner-is (r .side) (q .digits) (r .number)) ∙ c
+      ∙ sym (g .corner) ∙ corner-is (r .side) (r .digits) (r .number)) in
+      let d = one-list (q .digits) (r .digits) (h .degree ∙ sym (g .degree)) (h .the-digits) (g .the-digits)
+      (state-one _ _ f (r .number) (g .a-number) p) in
       λ i. record { side = e i; digits = d i; number = m i }
 
--- Where a step leads, by kind: from a down triangle to an up one, from an up one to a down one, or over the seam where its floor has nothing.
+-- Where a step leads, by kind: from a down triangle to an up one, from an up one to a down one, or over the seam where
+-- its floor has nothing.
 abbrev Kinds : ℕ → State → Move State → Type 0
 Kinds k (Up x y z) (inside b) = (kindOf b ≡ 1) × (1 ≤ weight k (point x y z))
 Kinds k (Up x y z) outside = weight k (point x y z) ≡ 0
@@ -132,7 +141,8 @@ kinds : (k : ℕ) → OneToThree k → (a : State) → Kinds k a (across k a)
 kinds = three (λ k. (a : State) → Kinds k a (across k a)) kinds-1 kinds-2 kinds-3
 
 -- an up triangle's corner n has the floor's weight on the axis that follows
-floor-next : (x y z n : ℕ) → OneToThree n → weight (next n) (pointOf n (Up x y z)) ≡ weight (next n) (point x y z)
+floor-next : (x y z n : ℕ) → OneToThree n → weight (next n) (pointOf n (Up x y z))
+    ≡ weight (next n) (point x y z)
 floor-next x y z = three (λ n. weight (next n) (pointOf n (Up x y z)) ≡ weight (next n) (point x y z)) refl refl refl
 
 turn-up : (x y z c : ℕ) → OneToThree c → kindOf (turn c (Up x y z)) ≡ 0
@@ -159,11 +169,14 @@ module _ (g : ℕ → ℕ) (n s : ℕ) (ds : List ℕ) (l : OneToThree n) (hs : 
   after : (a : State) → stateOf ds ≡ a → (m : Move (List ℕ)) → Kinds (next n) a (map stateOf m)
       → markOf (arrived (arrival (next n) s ds m)) ≡ onward g s (kindOf a) n
   after (Up x y z) e (inside es) k =
-      let w : g (cornerVertex s (next n)) ≡ 1 = link ∙ ap (λ (a : State). sign (weight (next n) (pointOf n a))) e ∙ ap sign (floor-next x y z n l) ∙ sign-pos _ (k .1) in
+      let w : g (cornerVertex s (next n)) ≡ 1 = link ∙ ap (λ (a : State). sign (weight (next n) (pointOf n a))) e
+      ∙ ap sign (floor-next x y z n l) ∙ sign-pos _ (k .1) in
       rw w (same-mark refl (k .0) (next-next n l))
   after (Up x y z) e outside k =
-      let w : g (cornerVertex s (next n)) ≡ 0 = link ∙ ap (λ (a : State). sign (weight (next n) (pointOf n a))) e ∙ ap sign (floor-next x y z n l ∙ k) in
-      rw w (same-mark refl (ap kindOf (turn-all _ (seam-kept s hs (next n) (next-three n l)) ds hd ∙ ap (turn (seamKept s (next n))) e) ∙ turn-up x y z _ (seam-kept s hs (next n) (next-three n l))) refl)
+      let w : g (cornerVertex s (next n)) ≡ 0 = link ∙ ap (λ (a : State). sign (weight (next n) (pointOf n a))) e
+      ∙ ap sign (floor-next x y z n l ∙ k) in
+      rw w (same-mark refl (ap kindOf (turn-all _ (seam-kept s hs (next n) (next-three n l)) ds hd
+      ∙ ap (turn (seamKept s (next n))) e) ∙ turn-up x y z _ (seam-kept s hs (next n) (next-three n l))) refl)
   after (Down x y z) e (inside es) k = same-mark refl k (next-next n l)
   after (Down x y z) e outside k = absurd k
 
@@ -175,7 +188,8 @@ sign-weight : (p : Point) (j : ℕ) → OneToThree j → weight j (signs p) ≡ 
 sign-weight p = three (λ j. weight j (signs p) ≡ sign (weight j p)) refl refl refl
 
 sign-at : (s : ℕ) (p : Point) → IsSide s → (v : ℕ) → sign (weightAt s p v) ≡ weightAt s (signs p) v
-sign-at s p h v = ⊎-elim at-one (λ f. ap sign (weight-other s v p f) ∙ sym (weight-other s v (signs p) f)) (has-or-not s v)
+sign-at s p h v = ⊎-elim at-one (λ f. ap sign (weight-other s v p f) ∙ sym (weight-other s v (signs p) f))
+    (has-or-not s v)
   where
     at : (i : ℕ) → OneToThree i → v ≡ cornerVertex s i → sign (weightAt s p v) ≡ weightAt s (signs p) v
     at i l e = rw e (ap sign (weight-own s p h i l) ∙ sym (sign-weight p i l) ∙ sym (weight-own s (signs p) h i l))
@@ -187,10 +201,12 @@ each-each : (f g : ℕ → ℕ) (vs : List ℕ) → each f (each g vs) ≡ each 
 each-each f g [] = refl
 each-each f g (v ∷ vs) = ap (λ (l : List ℕ). f (g v) ∷ l) (each-each f g vs)
 
-pub non-zero : (s : ℕ) (p : Point) → IsSide s → nonZero (spread s p) ≡ sign (p .w1) + sign (p .w2) + sign (p .w3)
+pub non-zero : (s : ℕ) (p : Point) → IsSide s → nonZero (spread s p) ≡ sign (p .w1) + sign (p .w2)
+    + sign (p .w3)
 unfolding spread
 non-zero s p h =
-    ap sum (each-each sign (weightAt s p) vertices ∙ each-same (λ v. sign (weightAt s p v)) (weightAt s (signs p)) (sign-at s p h) vertices) ∙ sum-spread s (signs p) h
+    ap sum (each-each sign (weightAt s p) vertices ∙ each-same (λ v. sign (weightAt s p v)) (weightAt s (signs p))
+    (sign-at s p h) vertices) ∙ sum-spread s (signs p) h
 
 -- what an up and a down triangle's corner n has: weight on its own axis, or on the two others
 up-own : (x y z n : ℕ) → OneToThree n → 1 ≤ weight n (pointOf n (Up x y z))
@@ -217,26 +233,32 @@ module _ (n : ℕ) (P : List ℕ) (q : Place) (h : At n P q) where
   here r = pointOf (r .number) (stateOf (r .digits))
 
   one-point : (r : Place) → At n P r → spread (q .side) p ≡ spread (r .side) (here r)
-  one-point r a = sym (corner-is (q .side) (q .digits) (q .number)) ∙ h .corner ∙ sym (a .corner) ∙ corner-is (r .side) (r .digits) (r .number)
+  one-point r a = sym (corner-is (q .side) (q .digits) (q .number)) ∙ h .corner ∙ sym (a .corner)
+      ∙ corner-is (r .side) (r .digits) (r .number)
 
-  link : (r : Place) → At n P r → (j : ℕ) → OneToThree j → g (cornerVertex (r .side) j) ≡ sign (weight j (here r))
+  link : (r : Place) → At n P r → (j : ℕ) → OneToThree j
+      → g (cornerVertex (r .side) j) ≡ sign (weight j (here r))
   link r a j l =
       sym (sign-at (q .side) p (h .a-side) (cornerVertex (r .side) j))
-      ∙ ap sign (same-weights (q .side) (r .side) p (here r) (one-point r a) _ (vertex-small (r .side) (a .a-side) j l) ∙ weight-own (r .side) (here r) (a .a-side) j l)
+      ∙ ap sign (same-weights (q .side) (r .side) p (here r) (one-point r a) _
+      (vertex-small (r .side) (a .a-side) j l) ∙ weight-own (r .side) (here r) (a .a-side) j l)
 
   mark-after : (r : Place) → At n P r → markOf (around r) ≡ markAfter g (markOf r)
   unfolding around stepOf
   mark-after r a =
       let l = next-three (r .number) (a .a-number) in
-      after g (r .number) (r .side) (r .digits) (a .a-number) (a .a-side) (a .the-digits) (link r a (next (r .number)) l) (stateOf (r .digits)) refl
-      (cross (next (r .number)) (r .digits)) (rw (crossing (next (r .number)) (r .digits) (l .0) (l .1) (a .the-digits)) (kinds _ l (stateOf (r .digits))))
+      after g (r .number) (r .side) (r .digits) (a .a-number) (a .a-side) (a .the-digits)
+      (link r a (next (r .number)) l) (stateOf (r .digits)) refl
+      (cross (next (r .number)) (r .digits)) (rw (crossing (next (r .number)) (r .digits) (l .0) (l .1) (a .the-digits))
+      (kinds _ l (stateOf (r .digits))))
 
   mark-at : (i : ℕ) → markOf (ringAt q i) ≡ marks g (markOf q) i
   unfolding ringAt
   mark-at zero = refl
   mark-at (suc i) = mark-after (ringAt q i) (ring-at n P q h i) ∙ ap (markAfter g) (mark-at i)
 
-  needed : (r : Place) → At n P r → (a : State) → stateOf (r .digits) ≡ a → Holds (needs g (r .side) (kindOf a) (r .number))
+  needed : (r : Place) → At n P r → (a : State) → stateOf (r .digits) ≡ a
+      → Holds (needs g (r .side) (kindOf a) (r .number))
   needed r a (Up x y z) e =
       let m = r .number in
       let f : 1 ≤ weight m (here r) = rw e (up-own x y z m (a .a-number)) in
@@ -244,12 +266,16 @@ module _ (n : ℕ) (P : List ℕ) (q : Place) (h : At n P q) where
   needed r a (Down x y z) e =
       let m = r .number in
       let f : 1 ≤ weight (next m) (here r) = rw e (down-next x y z m (a .a-number)) in
-      let k : 1 ≤ weight (prev m) (here r) = rw e (down-prev x y z m (a .a-number)) in
-      (rw (link r a (next m) (next-three m (a .a-number)), sign-pos _ f) (omega arith), rw (link r a (prev m) (prev-three m (a .a-number)), sign-pos _ k) (omega arith))
+      let k : 1 ≤ weight (prev m) (here r) = rw e (down-prev x y z m (a .a-number)) in (
+        rw (link r a (next m) (next-three m (a .a-number)), sign-pos _ f) (omega arith),
+        rw (link r a (prev m) (prev-three m (a .a-number)), sign-pos _ k) (omega arith),
+      )
 
-  fitting : (r : Place) → At n P r → Holds (fits (q .side) (signs p) (r .side) (kindOf (stateOf (r .digits))) (r .number))
+  fitting : (r : Place) → At n P r → Holds (fits (q .side) (signs p) (r .side) (kindOf (stateOf (r .digits)))
+      (r .number))
   fitting r a = (
-    λ j l f. weight-has (q .side) (r .side) p (here r) (h .a-side) (one-point r a) j l (pos-sign _ (rw (sign-weight p j l) at f)),
+    λ j l f. weight-has (q .side) (r .side) p (here r) (h .a-side) (one-point r a) j l
+        (pos-sign _ (rw (sign-weight p j l) at f)),
     needed r a (stateOf (r .digits)) refl,
   )
 
@@ -257,11 +283,14 @@ module _ (n : ℕ) (P : List ℕ) (q : Place) (h : At n P q) where
   size = ringSize (sign (p .w1) + sign (p .w2) + sign (p .w3))
 
   size-is : ringSize (nonZeros P) ≡ size
-  size-is = ap ringSize (sym (non-zeros P) ∙ ap nonZero (sym (h .corner) ∙ corner-is (q .side) (q .digits) (q .number)) ∙ non-zero (q .side) p (h .a-side))
+  size-is = ap ringSize (sym (non-zeros P) ∙ ap nonZero (sym (h .corner)
+      ∙ corner-is (q .side) (q .digits) (q .number)) ∙ non-zero (q .side) p (h .a-side))
 
   entry : Holds (ring g (markOf q) size and complete (q .side) (signs p) (markOf q) size)
   entry =
-      ring-table (q .side) (h .a-side) (sign (p .w1)) (sign-low (p .w1)) (sign (p .w2)) (sign-low (p .w2)) (sign (p .w3)) (sign-low (p .w3)) (kindOf (stateOf (q .digits))) (kind-low (stateOf (q .digits))) (q .number) (h .a-number)
+      ring-table (q .side) (h .a-side) (sign (p .w1)) (sign-low (p .w1)) (sign (p .w2)) (sign-low (p .w2))
+      (sign (p .w3)) (sign-low (p .w3)) (kindOf (stateOf (q .digits))) (kind-low (stateOf (q .digits))) (q .number)
+      (h .a-number)
       (needed q h (stateOf (q .digits)) refl)
 
   -- closing up
@@ -270,15 +299,18 @@ module _ (n : ℕ) (P : List ℕ) (q : Place) (h : At n P q) where
       let m = mark-at size in
       let e = entry .0 .0 in
       ap (ringAt q) size-is
-      ∙ place-one n P (ringAt q size) q (ring-at n P q h size) h (ap (λ (x : Mark). x .side) m ∙ e .0) (ap (λ (x : Mark). x .kind) m ∙ e .1 .0) (ap (λ (x : Mark). x .number) m ∙ e .1 .1)
+      ∙ place-one n P (ringAt q size) q (ring-at n P q h size) h (ap (λ (x : Mark). x .side) m ∙ e .0)
+      (ap (λ (x : Mark). x .kind) m ∙ e .1 .0) (ap (λ (x : Mark). x .number) m ∙ e .1 .1)
 
   -- all different: no triangle comes twice
-  number-one : (i j : ℕ) → ringAt q i .side ≡ ringAt q j .side → ringAt q i .digits ≡ ringAt q j .digits → ringAt q i .number ≡ ringAt q j .number
+  number-one : (i j : ℕ) → ringAt q i .side ≡ ringAt q j .side → ringAt q i .digits ≡ ringAt q j .digits
+      → ringAt q i .number ≡ ringAt q j .number
   number-one i j e f =
       let a = ring-at n P q h i in
       let b = ring-at n P q h j in
       let c : cornerOf (ringAt q j .side) (ringAt q j .digits) (ringAt q i .number) ≡ P = rw (e, f) at (a .corner) in
-      corners-differ (ringAt q j .side) (ringAt q j .digits) (b .a-side) _ (a .a-number) _ (b .a-number) (c ∙ sym (b .corner))
+      corners-differ (ringAt q j .side) (ringAt q j .digits) (b .a-side) _ (a .a-number) _ (b .a-number)
+      (c ∙ sym (b .corner))
 
   pub ring-differs : (i j : ℕ) → i < ringSize (nonZeros P) → j < ringSize (nonZeros P) → i < j
       → ringAt q i .side ≡ ringAt q j .side → ringAt q i .digits ≡ ringAt q j .digits → ⊥
@@ -286,7 +318,8 @@ module _ (n : ℕ) (P : List ℕ) (q : Place) (h : At n P q) where
       let k : kindOf (stateOf (ringAt q i .digits)) ≡ kindOf (stateOf (ringAt q j .digits)) = rw f refl in
       let m : markOf (ringAt q i) ≡ markOf (ringAt q j) = same-mark e k (number-one i j e f) in
       let w : marks g (markOf q) i ≡ marks g (markOf q) j = sym (mark-at i) ∙ m ∙ mark-at j in
-      entry .0 .1 i (rw size-is at hi) j (rw size-is at hj) l (ap (λ (x : Mark). x .side) w, (ap (λ (x : Mark). x .kind) w, ap (λ (x : Mark). x .number) w))
+      entry .0 .1 i (rw size-is at hi) j (rw size-is at hj) l
+      (ap (λ (x : Mark). x .side) w, (ap (λ (x : Mark). x .kind) w, ap (λ (x : Mark). x .number) w))
 
   -- all that have the corner
   pub ring-all : (t : ℕ) (es : List ℕ) → IsSide t → Digits es → length es ≡ n → HasAt t es P
@@ -297,5 +330,6 @@ module _ (n : ℕ) (P : List ℕ) (q : Place) (h : At n P q) where
       let x = entry .1 t ht (kindOf (stateOf es)) (kind-low (stateOf es)) (c .0) (c .1) (fitting r a) in
       let m = mark-at (x .0) in
       let y = place-one n P (ringAt q (x .0)) r (ring-at n P q h (x .0)) a
-      (ap (λ (z : Mark). z .side) m ∙ x .2 .0) (ap (λ (z : Mark). z .kind) m ∙ x .2 .1 .0) (ap (λ (z : Mark). z .number) m ∙ x .2 .1 .1) in
+      (ap (λ (z : Mark). z .side) m ∙ x .2 .0) (ap (λ (z : Mark). z .kind) m ∙ x .2 .1 .0)
+      (ap (λ (z : Mark). z .number) m ∙ x .2 .1 .1) in
       (x .0, rw size-is (x .1), ap (λ (z : Place). z .side) y, ap (λ (z : Place). z .digits) y)

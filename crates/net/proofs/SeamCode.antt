@@ -22,7 +22,8 @@ module _ (f : ℕ → ℕ → ℕ) (p q : ℕ) where
   pub at-10 : ((p : ℕ) → f 1 0 ≡ f (suc p) 0) → (p ≡ 0 → ⊥) → q ≡ 0 → f 1 0 ≡ f p q
   at-10 h y e = rw e (not-zero (λ p. f 1 0 ≡ f p 0) h p y)
 
-  pub at-11 : ((p q : ℕ) → f 1 1 ≡ f (suc p) (suc q)) → (p ≡ 0 → ⊥) → (q ≡ 0 → ⊥) → f 1 1 ≡ f p q
+  pub at-11 : ((p q : ℕ) → f 1 1 ≡ f (suc p) (suc q)) → (p ≡ 0 → ⊥) → (q ≡ 0 → ⊥)
+      → f 1 1 ≡ f p q
   at-11 h y z = not-zero (λ p. f 1 1 ≡ f p q) (λ p. not-zero (λ q. f 1 1 ≡ f (suc p) q) (h p) q z) p y
 
 pub nth-rest : (i x y z : ℕ) → (i ≡ 1 → ⊥) → (i ≡ 2 → ⊥) → z ≡ nth i x y z

@@ -107,7 +107,8 @@ state-is (suc n) v w e =
     let s = zero-small d (omega arith) in
     let above : bitXor (w / 2) (w / 2 / 2) ≡ gather zeroBit n (v / 4) =
     sym (xor-shr w (w / 2) 1) ∙ ap (λ (x : ℕ). x / 2) e ∙ omega arith in
-    let last : bitXor (w % 2) o ≡ zeroBit d = sym (xor-mod w (w / 2) 1) ∙ ap (λ (x : ℕ). x % 2) e ∙ omega arith in
+    let last : bitXor (w % 2) o ≡ zeroBit d = sym (xor-mod w (w / 2) 1) ∙ ap (λ (x : ℕ). x % 2) e
+    ∙ omega arith in
     let down : bitXor o (zeroBit d) ≡ w % 2 = sym (back (zeroBit d) s o (omega arith) (w % 2) (omega arith) last) in
     let whole : w / 2 / 2 * 2 + o ≡ w / 2 = omega arith in
     ap (step d) (state-is n (v / 4) (w / 2) above)
@@ -137,7 +138,8 @@ pub record AreBits (n v l h : ℕ) : Type 0 where
   pub high : h ≡ gather highBit n v
 
 -- the code gathers 32 digits, of which those above the n are 0
-pub are-bits : {n v l h : ℕ} → n ≤ 24 → v < 2 ^ (2 * n) → l ≡ gather lowBit 32 v → h ≡ gather lowBit 32 (v / 2)
+pub are-bits : {n v l h : ℕ} → n ≤ 24 → v < 2 ^ (2 * n) → l ≡ gather lowBit 32 v
+    → h ≡ gather lowBit 32 (v / 2)
     → AreBits n v l h
 are-bits {n} {v} hn hv e f = record {
   low = e ∙ gather-short n 32 v (omega arith) hv;

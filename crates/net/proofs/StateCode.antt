@@ -102,7 +102,8 @@ pub path-none : (n : ℕ) (a : State) → n ≡ 0 → 0 ≡ pathUp n a
 unfolding pathUp
 path-none n a e = rw e
 
-pub path-more : (n : ℕ) (a : State) → (n ≡ 0 → ⊥) → 4 * pathUp (n - 1) (halves (lastOf a) a) + lastOf a ≡ pathUp n a
+pub path-more : (n : ℕ) (a : State) → (n ≡ 0 → ⊥) → 4 * pathUp (n - 1) (halves (lastOf a) a) + lastOf a
+    ≡ pathUp n a
 unfolding pathUp
 path-more zero a f = absurd (f refl)
 path-more (suc n) a f = let e : suc n - 1 ≡ n = omega arith in rw e
@@ -132,11 +133,16 @@ state-back n a e =
     ap stateOf (ap (digitsOf n) p ∙ of-path ds) ∙ r .3
 
 -- the point p is corner i of the state a, and v is its path
-pub at-corner : (s n i : ℕ) (a : State) (p : Point) {v : ℕ} → OneToThree i → total a ≡ 2 ^ n → pointOf i a ≡ p → v ≡ pathUp n a
+pub at-corner : (s n i : ℕ) (a : State) (p : Point) {v : ℕ} → OneToThree i → total a ≡ 2 ^ n
+    → pointOf i a ≡ p → v ≡ pathUp n a
     → (v < 2 ^ (2 * n)) × OneToThree i × (cornerOf s (digitsOf n v) i ≡ spread s p)
 at-corner s n i a p h t e f =
-    rw f
-    (path-small n a, h, corner-is s (digitsOf n (pathUp n a)) i ∙ ap (λ (b : State). spread s (pointOf i b)) (state-back n a t) ∙ ap (spread s) e)
+    rw f (
+      path-small n a,
+      h,
+      corner-is s (digitsOf n (pathUp n a)) i
+          ∙ ap (λ (b : State). spread s (pointOf i b)) (state-back n a t) ∙ ap (spread s) e,
+    )
 
 -- ---- weights
 
@@ -179,7 +185,11 @@ unfolding sum
 sum-under [] [] l u = omega arith
 sum-under [] (p ∷ ps) l u = omega arith
 sum-under (q ∷ qs) [] l u = absurd (omega arith)
-sum-under (q ∷ qs) (p ∷ ps) l u = omega (arith, u 0 (omega arith), sum-under qs ps (omega arith) (λ v h. u (suc v) (omega arith)))
+sum-under (q ∷ qs) (p ∷ ps) l u = omega (
+  arith,
+  u 0 (omega arith),
+  sum-under qs ps (omega arith) (λ v h. u (suc v) (omega arith)),
+)
 
 same-under : (qs ps : List ℕ) → length qs ≡ length ps → Under qs ps → sum ps ≤ sum qs → qs ≡ ps
 unfolding sum
@@ -208,7 +218,8 @@ corner-test s v =
     let c = eqb v (cornerVertex s 3) in
     ⊎-elim
     (λ e. either-left a (b either c) (eq-eqb _ _ e))
-    (⊎-elim (λ e. either-right a (b either c) (either-left b c (eq-eqb _ _ e))) (λ e. either-right a (b either c) (either-right b c (eq-eqb _ _ e))))
+    (⊎-elim (λ e. either-right a (b either c) (either-left b c (eq-eqb _ _ e)))
+    (λ e. either-right a (b either c) (either-right b c (eq-eqb _ _ e))))
 
 -- each place with weight is a corner of the side: the list begins with vertex v
 abbrev Lies : (s v : ℕ) → List ℕ → Type 0
@@ -218,7 +229,8 @@ on-lies : (s v : ℕ) (xs : List ℕ) → onSide s v xs ≡ true → Lies s v xs
 on-lies s v [] e i h f = absurd (omega arith)
 on-lies s v (x ∷ xs) e zero h f =
     let z : v + 0 ≡ v = omega arith in
-    rw z (⊎-elim (λ a. absurd (f (eqb-true x 0 a))) (is-corner s v) (or-true (eqb x 0) (isCornerOf s v) .0 (and-true _ _ .0 e .0)))
+    rw z (⊎-elim (λ a. absurd (f (eqb-true x 0 a))) (is-corner s v)
+    (or-true (eqb x 0) (isCornerOf s v) .0 (and-true _ _ .0 e .0)))
 on-lies s v (x ∷ xs) e (suc i) h f =
     let z : v + suc i ≡ suc v + i = omega arith in
     rw z (on-lies s (suc v) xs (and-true (eqb x 0 either isCornerOf s v) _ .0 e .1) i (omega arith) f)
@@ -227,7 +239,8 @@ lies-on : (s v : ℕ) (xs : List ℕ) → Lies s v xs → onSide s v xs ≡ true
 lies-on s v [] l = refl
 lies-on s v (x ∷ xs) l =
     and-true _ _ .1 (
-      ⊎-elim (λ e. either-left _ _ (eq-eqb x 0 e)) (λ f. either-right (eqb x 0) (isCornerOf s v) (corner-test s v (at-head f))) (either-way (same x 0)),
+      ⊎-elim (λ e. either-left _ _ (eq-eqb x 0 e)) (λ f.
+          either-right (eqb x 0) (isCornerOf s v) (corner-test s v (at-head f))) (either-way (same x 0)),
       lies-on s (suc v) xs rest,
     )
   where
@@ -247,22 +260,27 @@ on-side s p h =
 -- the point that twelve weights are on the side s has their weights at its corners, and elsewhere none
 module _ (s : ℕ) (P : List ℕ) (h : IsSide s) where
   own : (i : ℕ) → OneToThree i → weightAt s (pointIn s P) (cornerVertex s i) ≡ getD P (cornerVertex s i) 0
-  own i m = weight-own s (pointIn s P) h i m ∙ three (λ i. weight i (pointIn s P) ≡ getD P (cornerVertex s i) 0) refl refl refl i m
+  own i m = weight-own s (pointIn s P) h i m ∙ three (λ i. weight i (pointIn s P) ≡ getD P (cornerVertex s i) 0)
+      refl refl refl i m
 
   at-corners : (v : ℕ) → HasVertex s v → weightAt s (pointIn s P) v ≡ getD P v 0
   at-corners v =
-      ⊎-elim (λ e. rw e (own 1 (omega arith))) (⊎-elim (λ e. rw e (own 2 (omega arith))) (λ e. rw e (own 3 (omega arith))))
+      ⊎-elim (λ e. rw e (own 1 (omega arith))) (⊎-elim (λ e. rw e (own 2 (omega arith)))
+      (λ e. rw e (own 3 (omega arith))))
 
   pub spread-of : length P ≡ 12 → onSide s 0 P ≡ true → spread s (pointIn s P) ≡ P
-  spread-of t o = ext-getD 0 (spread s (pointIn s P)) P (spread-length s _ ∙ sym t) (λ v l. at v (omega (arith, spread-length s (pointIn s P))))
+  spread-of t o = ext-getD 0 (spread s (pointIn s P)) P (spread-length s _ ∙ sym t)
+      (λ v l. at v (omega (arith, spread-length s (pointIn s P))))
     where
       none-at : (v : ℕ) → v < 12 → (HasVertex s v → ⊥) → getD P v 0 ≡ 0
       none-at v l f =
           let z : 0 + v ≡ v = omega arith in
-          ⊎-elim (λ e. e) (λ g. absurd (f (rw z at (on-lies s 0 P o v (omega arith) g)))) (either-way (same (getD P v 0) 0))
+          ⊎-elim (λ e. e) (λ g. absurd (f (rw z at (on-lies s 0 P o v (omega arith) g))))
+          (either-way (same (getD P v 0) 0))
 
       at : (v : ℕ) → v < 12 → getD (spread s (pointIn s P)) v 0 ≡ getD P v 0
-      at v l = at-vertex s (pointIn s P) v l ∙ ⊎-elim (at-corners v) (λ f. weight-other s v (pointIn s P) f ∙ sym (none-at v l f)) (has-or-not s v)
+      at v l = at-vertex s (pointIn s P) v l ∙ ⊎-elim (at-corners v)
+          (λ f. weight-other s v (pointIn s P) f ∙ sym (none-at v l f)) (has-or-not s v)
 
   -- so it has no more anywhere
   under : length P ≡ 12 → Under (spread s (pointIn s P)) P
@@ -272,22 +290,26 @@ module _ (s : ℕ) (P : List ℕ) (h : IsSide s) where
       (λ y. omega (arith, at-vertex s (pointIn s P) v k, at-corners v y))
       (λ f. omega (arith, at-vertex s (pointIn s P) v k, weight-other s v (pointIn s P) f)) (has-or-not s v)
 
--- what the three weights q of the side s tell of twelve weights with the sum t: they have all of it exactly where these lie on the side
+-- what the three weights q of the side s tell of twelve weights with the sum t: they have all of it exactly where these
+-- lie on the side
 pub record Told (ws : List ℕ) (s t : ℕ) (q : Point) : Type 0 where
   pub most : q .w1 + q .w2 + q .w3 ≤ t
   pub all : q .w1 + q .w2 + q .w3 ≡ t → onSide s 0 (take 12 ws) ≡ true
   pub less : (q .w1 + q .w2 + q .w3 ≡ t → ⊥) → onSide s 0 (take 12 ws) ≡ true → ⊥
 
-pub told : (ws : List ℕ) (s t : ℕ) (q : Point) → IsSide s → 12 ≤ length ws → sum (take 12 ws) ≡ t → q ≡ pointIn s (take 12 ws) → Told ws s t q
+pub told : (ws : List ℕ) (s t : ℕ) (q : Point) → IsSide s → 12 ≤ length ws → sum (take 12 ws) ≡ t
+    → q ≡ pointIn s (take 12 ws) → Told ws s t q
 told ws s t q h l e is =
     let P = take 12 ws in
     let Q = spread s (pointIn s P) in
     let twelve : length P ≡ 12 = length-take-le 12 ws l in
     let same-length : length Q ≡ length P = spread-length s (pointIn s P) ∙ sym twelve in
-    let has : sum Q ≡ q .w1 + q .w2 + q .w3 = sum-spread s (pointIn s P) h ∙ ap (λ (q : Point). q .w1 + q .w2 + q .w3) (sym is) in
+    let has : sum Q ≡ q .w1 + q .w2 + q .w3 = sum-spread s (pointIn s P) h
+    ∙ ap (λ (q : Point). q .w1 + q .w2 + q .w3) (sym is) in
     record {
       most = omega (arith, sum-under Q P same-length (under s P h twelve));
-      all = λ f. ap (onSide s 0) (sym (same-under Q P same-length (under s P h twelve) (omega arith))) ∙ on-side s (pointIn s P) h;
+      all = λ f. ap (onSide s 0) (sym (same-under Q P same-length (under s P h twelve) (omega arith)))
+          ∙ on-side s (pointIn s P) h;
       less = λ f o. f (sym has ∙ ap sum (spread-of s P h twelve o) ∙ e);
     }
 
@@ -295,18 +317,21 @@ told ws s t q h l e is =
 pub vertex-12 : (s i : ℕ) {r : ℕ} → IsSide s → OneToThree i → r ≡ cornerVertex s i → r < 12
 vertex-12 s i h m e = rw e (vertex-small s h i m)
 
-pub point-take : (ws : List ℕ) (s : ℕ) {a b c : ℕ} → IsSide s → a ≡ cornerVertex s 1 → b ≡ cornerVertex s 2 → c ≡ cornerVertex s 3
+pub point-take : (ws : List ℕ) (s : ℕ) {a b c : ℕ} → IsSide s → a ≡ cornerVertex s 1
+    → b ≡ cornerVertex s 2 → c ≡ cornerVertex s 3
     → point (getD ws a 0) (getD ws b 0) (getD ws c 0) ≡ pointIn s (take 12 ws)
 point-take ws s h e f g = same-point _ _ (go 1 (omega arith) e) (go 2 (omega arith) f) (go 3 (omega arith) g)
   where
-    go : (i : ℕ) {k : ℕ} → OneToThree i → k ≡ cornerVertex s i → getD ws k 0 ≡ getD (take 12 ws) (cornerVertex s i) 0
+    go : (i : ℕ) {k : ℕ} → OneToThree i → k ≡ cornerVertex s i
+        → getD ws k 0 ≡ getD (take 12 ws) (cornerVertex s i) 0
     go i m e = rw e (sym (getD-take 12 ws (cornerVertex s i) 0 (vertex-small s h i m)))
 
 every-false : (m : ℕ) (f : ℕ → Bool) → everyBelow m f ≡ false → (i : ℕ) × (i < m) × (f i ≡ false)
 every-false zero f e = absurd (true≢false e)
 every-false (suc m) f e = go (f m) refl (every-false m f)
   where
-    go : (b : Bool) → f m ≡ b → (everyBelow m f ≡ false → (i : ℕ) × (i < m) × (f i ≡ false)) → (i : ℕ) × (i < suc m) × (f i ≡ false)
+    go : (b : Bool) → f m ≡ b → (everyBelow m f ≡ false → (i : ℕ) × (i < m) × (f i ≡ false))
+        → (i : ℕ) × (i < suc m) × (f i ≡ false)
     go false q r = (m, omega arith, q)
     go true q r = let x = r (first (everyBelow m f) (f m) q e) in (x .0, omega arith, x .2)
       where
@@ -321,12 +346,14 @@ on-one P s h o = go (everyBelow 20 (λ i. not (onSide (4 + i) 0 P))) refl
     go false e = refl
     go true e =
         let z : 4 + (s - 4) ≡ s = omega arith in
-        let n : not (onSide s 0 P) ≡ true = ap (λ (t : ℕ). not (onSide t 0 P)) (sym z) ∙ every-below 20 (λ i. not (onSide (4 + i) 0 P)) .0 e (s - 4) (omega arith) in
+        let n : not (onSide s 0 P) ≡ true = ap (λ (t : ℕ). not (onSide t 0 P)) (sym z)
+        ∙ every-below 20 (λ i. not (onSide (4 + i) 0 P)) .0 e (s - 4) (omega arith) in
         absurd (true≢false (sym o ∙ not-true (onSide s 0 P) n))
 
 pub one-on : (P : List ℕ) → onOneSide P ≡ true → (s : ℕ) × IsSide s × (onSide s 0 P ≡ true)
 one-on P e =
-    let x = every-false 20 (λ i. not (onSide (4 + i) 0 P)) (not-true (everyBelow 20 (λ i. not (onSide (4 + i) 0 P))) e) in
+    let x = every-false 20 (λ i. not (onSide (4 + i) 0 P))
+    (not-true (everyBelow 20 (λ i. not (onSide (4 + i) 0 P))) e) in
     (4 + x .0, (omega arith, omega arith), not-false (onSide (4 + x .0) 0 P) (x .2))
 
 pub none-on : (P : List ℕ) → ((s : ℕ) → IsSide s → onSide s 0 P ≡ true → ⊥) → onOneSide P ≡ false

@@ -10,7 +10,8 @@ use Rattle.net.proofs.Table.{sound, below, same}
 
 -- ---- exclusive or
 
-bits-assoc : (a : ℕ) → a < 2 → (b : ℕ) → b < 2 → (c : ℕ) → c < 2 → bitXor (bitXor a b) c ≡ bitXor a (bitXor b c)
+bits-assoc : (a : ℕ) → a < 2 → (b : ℕ) → b < 2 → (c : ℕ) → c < 2
+    → bitXor (bitXor a b) c ≡ bitXor a (bitXor b c)
 bits-assoc =
     sound (below 2 λ a. below 2 λ b. below 2 λ c. same (bitXor (bitXor a b) c) (bitXor a (bitXor b c))) refl
 
@@ -75,7 +76,8 @@ sums-undone : (i x : ℕ) → summed 1 (sums i x) ≡ summed (2 ^ i) x
 sums-undone zero x = refl
 sums-undone (suc i) x =
     let e : 2 ^ i + 2 ^ i ≡ 2 ^ suc i = omega (arith, pow-suc 2 i) in
-    swap 1 (2 ^ i) (sums i x) ∙ ap (summed (2 ^ i)) (sums-undone i x) ∙ again (2 ^ i) x ∙ ap (λ (k : ℕ). summed k x) e
+    swap 1 (2 ^ i) (sums i x) ∙ ap (summed (2 ^ i)) (sums-undone i x) ∙ again (2 ^ i) x
+    ∙ ap (λ (k : ℕ). summed k x) e
 
 -- of a number of 32 bits, all
 pub sums-32 : (z : ℕ) → z < 2 ^ 32 → bitXor (sums 5 z) (sums 5 z / 2) ≡ z

@@ -61,7 +61,8 @@ module _ (s : ℕ) {n : ℕ} {ds : List ℕ} (short : n ≤ 24) (are : AreDigits
   filled = unit-high 5 24 6 n short
 
   -- other digits and another number in the same place
-  pub word-onto : {es : List ℕ} → AreDigits n es → (i : ℕ) → wordOf s n (path es) + i ≡ onto above es * unit + i
+  pub word-onto : {es : List ℕ} → AreDigits n es → (i : ℕ)
+      → wordOf s n (path es) + i ≡ onto above es * unit + i
   unfolding wordOf
   word-onto {es} is i =
       let b : above * (2 ^ (2 * n) * unit) ≡ above * 2 ^ 54 = ap (λ (x : ℕ). above * x) filled in
@@ -90,7 +91,8 @@ module _ (s : ℕ) {n : ℕ} {ds : List ℕ} (short : n ≤ 24) (are : AreDigits
 
   -- ---- over a seam
 
-  pub flipped : (c : ℕ) → OneToThree c → bitXor word (c * flags (other c) word) ≡ wordOf s n (path (each (flip c) ds))
+  pub flipped : (c : ℕ) → OneToThree c → bitXor word (c * flags (other c) word)
+      ≡ wordOf s n (path (each (flip c) ds))
       + flip c j
   unfolding onto
   flipped c hc =
@@ -128,7 +130,8 @@ module _ (s : ℕ) {n : ℕ} {ds : List ℕ} (short : n ≤ 24) (are : AreDigits
         ∙ ap (λ (y : ℕ). bitAnd y (ones (suc n) * unit + ones (27 - n)))
         (xor-block (54 - 2 * n) (3 * q) (3 * q + 1) (3 * o) (3 * o) low low
         ∙ ap (λ (y : ℕ). bitXor (3 * q) (3 * q + 1) * unit + y) (xor-self (3 * o)))
-        ∙ and-block (54 - 2 * n) (bitXor (3 * q) (3 * q + 1)) (ones (suc n)) 0 (ones (27 - n)) (pow-pos (54 - 2 * n)) d
+        ∙ and-block (54 - 2 * n) (bitXor (3 * q) (3 * q + 1)) (ones (suc n)) 0 (ones (27 - n)) (pow-pos (54 - 2 * n))
+        d
         ∙ ap (λ (y : ℕ). x * unit + y) (and-zero-l (ones (27 - n)))
         ∙ omega arith
 
@@ -137,7 +140,8 @@ module _ (s : ℕ) {n : ℕ} {ds : List ℕ} (short : n ≤ 24) (are : AreDigits
     -- the number by any l
     abbrev pub Steps : Move (List ℕ) → Type 0
     Steps (inside es) =
-        (spanOf word unit k < 2 ^ 54) × ((l : ℕ) → l < 4 → bitXor word (k * spanOf word unit k + l) ≡ onto above es *
+        (spanOf word unit k < 2 ^ 54) × ((l : ℕ) → l < 4
+        → bitXor word (k * spanOf word unit k + l) ≡ onto above es *
         unit
         + bitXor j l)
     Steps outside = 2 ^ 54 ≤ spanOf word unit k

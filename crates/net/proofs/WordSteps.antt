@@ -24,7 +24,8 @@ use Rattle.net.specs.Means.Spreads.{sign}
 use Rattle.net.specs.Means.Flags.{flags, ones, other, spanOf}
 use Rattle.net.specs.Means.Seams.{flip, seamKept, seamSide}
 use Rattle.net.specs.Means.States.{Move, cross, inside, outside}
-use Rattle.net.specs.Means.Walks.{Arrival, Place, around, arrival, arrived, edgeThere, leastName, lesser, nameAt}
+use Rattle.net.specs.Means.Walks.{Arrival, Place, around, arrival, arrived, edgeThere, leastName, lesser}
+use Rattle.net.specs.Means.Walks.{nameAt}
 use Rattle.net.specs.Means.Walks.{overSeam, placeAt, ringAt, stepOf, wordAt}
 use Rattle.net.specs.Sides.{IsSide, OneToThree, next}
 use Rattle.net.proofs.CodePlaces.{code-for, codeFor, digitsIn, in-digits, in-length}
@@ -49,7 +50,8 @@ module _ (t : TriangleCode) (z : checkCode t ≡ 0) (k : ℕ) (hk : OneToThree k
   code-of : words.inside (t .0 + k) ≡ t .0
   code-of = omega (arith, code-passes t .0 z .1)
 
-  numbered-name : (checkNameFields (nameOf (t .0 + k)) ≡ 0) × (degreeOf (t .0 + k) ≡ degreeOf (words.inside (t .0 + k)))
+  numbered-name : (checkNameFields (nameOf (t .0 + k)) ≡ 0)
+      × (degreeOf (t .0 + k) ≡ degreeOf (words.inside (t .0 + k)))
   numbered-name =
       code-name (nameOf (t .0 + k)) (subst (λ (w : ℕ). checkCode (codeOf w) ≡ 0) (sym code-of) z)
       (rw number-of (hk .0)) (rw number-of (hk .1))
@@ -138,7 +140,8 @@ module _ (s : ℕ) {n : ℕ} {ds : List ℕ} (short : n ≤ 24) (are : AreDigits
     step-inside h l hl = go (cross k ds) (steps s short are j hj k hk) (cross-kept k ds (hk .0) (hk .1) are)
       where
         go : (m : Move (List ℕ)) → Steps s short are j hj k hk m → Kept m n
-            → (bitXor w (k * x + l) ≡ wordOf (arrival k s ds m .side) n (path (arrival k s ds m .digits)) + bitXor j l)
+            → (bitXor w (k * x + l) ≡ wordOf (arrival k s ds m .side) n (path (arrival k s ds m .digits))
+            + bitXor j l)
             × (arrival k s ds m .edge ≡ k)
         go (inside es) c d = (
           (λ i. bitXor (e i) (k * x-is i + l)) ∙ c .1 l hl ∙ sym (word-onto s short are j hj d (bitXor j l)),
@@ -173,12 +176,14 @@ pub somes-flagged : (w : ℕ) → bitAnd (bitOr w (w / 2)) 6004799503160661 ≡ 
 unfolding flags ones
 somes-flagged w = somes 27 w
 
-pub others-flagged : (w c : ℕ) → OneToThree c → bitAnd (flags sign w) (flags sign (bitXor w (c * 6004799503160661))) ≡
+pub others-flagged : (w c : ℕ) → OneToThree c → bitAnd (flags sign w)
+    (flags sign (bitXor w (c * 6004799503160661))) ≡
     flags (other c) w
 unfolding flags ones
 others-flagged w c hc = others 27 w c hc
 
-pub spanned : (w unit k : ℕ) → bitAnd (bitXor (3 * flags (other k) w) (3 * flags (other k) w + unit)) 24019198012642645
+pub spanned : (w unit k : ℕ) → bitAnd (bitXor (3 * flags (other k) w) (3 * flags (other k) w + unit))
+    24019198012642645
     ≡ spanOf w unit k
 unfolding spanOf ones
 spanned w unit k = refl
@@ -186,7 +191,8 @@ spanned w unit k = refl
 -- ---- for the code: over a seam
 
 -- the word on another side
-side-changed : (s t : ℕ) {n : ℕ} {ds : List ℕ} → IsSide s → n ≤ 24 → AreDigits n ds → (i : ℕ) → i < 4
+side-changed : (s t : ℕ) {n : ℕ} {ds : List ℕ} → IsSide s → n ≤ 24 → AreDigits n ds → (i : ℕ)
+    → i < 4
     → (wordOf s n (path ds) + i) % 2 ^ 59 + 2 ^ 59 * t ≡ wordOf t n (path ds) + i
 unfolding wordOf
 side-changed s t {n} {ds} hs low are i hi =
@@ -264,7 +270,8 @@ module _ (t : TriangleCode) (z : checkCode t ≡ 0) (k : ℕ) (hk : OneToThree k
         let n : wordOf (to .side) (degreeOf (t .0)) (path (to .digits)) + bitXor 0 0 ≡ wordOf (to .side)
         (degreeOf (t .0)) (path (to .digits)) =
         omega arith in
-        let e = ap (bitXor (t .0)) m ∙ a .0 ∙ n ∙ ap (λ (l : ℕ). wordOf (to .side) l (path (to .digits))) (sym as-long)
+        let e = ap (bitXor (t .0)) m ∙ a .0 ∙ n ∙ ap (λ (l : ℕ). wordOf (to .side) l (path (to .digits)))
+        (sym as-long)
         in
         λ i. record { code = codeOf (e i); number = sym (a .1) i }
 
@@ -296,7 +303,8 @@ third : (i : ℕ) → OneToThree i → bitXor i (next i) ≡ next (next i)
 third = sound (threes λ i. same (bitXor i (next i)) (next (next i))) refl
 
 -- the edge that follows the corner
-pub around-edge : (r : ℕ) → checkNameFields (nameOf r) ≡ 0 → {k : ℕ} → k ≡ next (cornerNumber r) → OneToThree k
+pub around-edge : (r : ℕ) → checkNameFields (nameOf r) ≡ 0 → {k : ℕ} → k ≡ next (cornerNumber r)
+    → OneToThree k
 around-edge r e f = rw f (next-three (cornerNumber r) (at-place r e .a-number))
 
 module _ (r : ℕ) (e : checkNameFields (nameOf r) ≡ 0) {k x : ℕ} (f : k ≡ next (cornerNumber r))
@@ -384,7 +392,8 @@ pub least-none : (m : ℕ) (q : Place) → m ≡ 0 → nameAt q ≡ leastName m 
 unfolding leastName
 least-none m q e = rw e
 
-pub least-more : (m : ℕ) (q : Place) → (m ≡ 0 → ⊥) → lesser (nameAt q) (leastName (m - 1) (around q)) ≡ leastName m q
+pub least-more : (m : ℕ) (q : Place) → (m ≡ 0 → ⊥) → lesser (nameAt q) (leastName (m - 1) (around q))
+    ≡ leastName m q
 unfolding leastName
 least-more m q = not-zero (λ m. lesser (nameAt q) (leastName (m - 1) (around q)) ≡ leastName m q)
     (λ m. let e : suc m - 1 ≡ m = omega arith in rw e) m

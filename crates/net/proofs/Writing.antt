@@ -54,7 +54,8 @@ none-all old = refl
 -- a place of ws, over the front of a list
 set-over : (ws old : List ℕ) (i x : ℕ) → i < length ws → set (over ws old) i x ≡ over (set ws i x) old
 set-over ws old i x h =
-    set-append-left ws (drop (length ws) old) i x h ∙ ap (λ (n : ℕ). set ws i x ++ drop n old) (sym (length-set ws i x))
+    set-append-left ws (drop (length ws) old) i x h ∙ ap (λ (n : ℕ). set ws i x ++ drop n old)
+    (sym (length-set ws i x))
 
 module _ (s : ℕ) (h : IsSide s) where
   -- a point without weight
@@ -107,9 +108,12 @@ module _ (s : ℕ) (h : IsSide s) where
       let q0 = point 0 0 0 in
       let q1 = point (p .w1) 0 0 in
       let q2 = point (p .w1) (p .w2) 0 in
-      let at1 = three (λ j. (j ≡ 1 → ⊥) → weight j q0 ≡ weight j q1) (λ f. absurd (f refl)) (λ f. refl) (λ f. refl) in
-      let at2 = three (λ j. (j ≡ 2 → ⊥) → weight j q1 ≡ weight j q2) (λ f. refl) (λ f. absurd (f refl)) (λ f. refl) in
-      let at3 = three (λ j. (j ≡ 3 → ⊥) → weight j q2 ≡ weight j p) (λ f. refl) (λ f. refl) (λ f. absurd (f refl)) in
+      let at1 = three (λ j. (j ≡ 1 → ⊥) → weight j q0 ≡ weight j q1) (λ f. absurd (f refl)) (λ f. refl)
+      (λ f. refl) in
+      let at2 = three (λ j. (j ≡ 2 → ⊥) → weight j q1 ≡ weight j q2) (λ f. refl) (λ f. absurd (f refl))
+      (λ f. refl) in
+      let at3 = three (λ j. (j ≡ 3 → ⊥) → weight j q2 ≡ weight j p) (λ f. refl) (λ f. refl)
+      (λ f. absurd (f refl)) in
       let e0 = e ∙ ap (λ (ws : List ℕ). over ws old) none-spread in
       let e1 = put 1 (omega arith) q0 q1 at1 old e0 ea in
       let e2 = put 2 (omega arith) q1 q2 at2 old e1 eb in

@@ -1,4 +1,5 @@
--- Which words are triangle codes and which have the fields of a corner name; a code is its side and its digits. Assumes nothing.
+-- Which words are triangle codes and which have the fields of a corner name; a code is its side and its digits. Assumes
+-- nothing.
 use mathlib.Core.Path.{_≡_, _∙_, refl, sym, ap}
 use mathlib.Core.Logic.{_↔_}
 use mathlib.Core.Bool.{false, not}
@@ -10,7 +11,8 @@ use lib.Dec.{eqb}
 use lib.ListN.{take}
 use lib.Pow.{shr-shr}
 use borrow.Author.Tests.{ltb-false, eqb-true, eqb-false, not-false, le-ltb, eq-eqb, ne-eqb}
-use Rattle.words.specs.Words.{aOf, degreeOf, digits, beyond, zeroBits, cornerNumber, sideOf, path, wordOf, inside}
+use Rattle.words.specs.Words.{aOf, degreeOf, digits, beyond, zeroBits, cornerNumber, sideOf, path, wordOf}
+use Rattle.words.specs.Words.{inside}
 use Rattle.words.specs.Refusals.{_either_, refusal, wordRows, checkCode, checkNameFields, IsCode}
 use Rattle.words.specs.Family.{codeOf}
 use Rattle.words.specs.declared.TriangleCode.{TriangleCode}
@@ -40,7 +42,10 @@ word-passes w = (
   λ f.
       none-so (wordRows w) tt .1 (
         le-ltb 24 _ (f .degree),
-        (either-false _ _ .1 (ne-eqb (aOf w) 0 (λ e. omega arith), le-ltb 5 _ (f .aHigh)), (ap not (eq-eqb _ _ (f .clear)), tt)),
+        (
+          either-false _ _ .1 (ne-eqb (aOf w) 0 (λ e. omega arith), le-ltb 5 _ (f .aHigh)),
+          (ap not (eq-eqb _ _ (f .clear)), tt),
+        ),
       ),
 )
 
@@ -53,14 +58,18 @@ pub below-zero : (w n : ℕ) → n ≤ 24 → (w % 2 ^ (54 - 2 * n) ≡ 0) ↔ (
 below-zero = layout-below-zero 5 24 6
 
 -- the zero bits and the corner number are 0
-pub low-zero : (w : ℕ) → ((not (eqb (zeroBits w) 0) either not (eqb (cornerNumber w) 0)) ≡ false) ↔ (w % 64 ≡ 0)
+pub low-zero : (w : ℕ) → ((not (eqb (zeroBits w) 0) either not (eqb (cornerNumber w) 0)) ≡ false) ↔
+    (w % 64 ≡ 0)
 low-zero w = (
   λ e.
       let b = either-false _ _ .0 e in
       let z : zeroBits w ≡ 0 = eqb-true _ _ (not-false _ (b .0)) in
       let k : cornerNumber w ≡ 0 = eqb-true _ _ (not-false _ (b .1)) in
       omega arith,
-  λ e. either-false _ _ .1 (ap not (eq-eqb (zeroBits w) 0 (omega arith)), ap not (eq-eqb (cornerNumber w) 0 (omega arith))),
+  λ e. either-false _ _ .1 (
+    ap not (eq-eqb (zeroBits w) 0 (omega arith)),
+    ap not (eq-eqb (cornerNumber w) 0 (omega arith)),
+  ),
 )
 
 pub code-passes : (t : TriangleCode) → (checkCode t ≡ 0) ↔ (Fields (t .0) × (t .0 % 64 ≡ 0))
@@ -73,18 +82,29 @@ code-passes t =
 
 pub name-passes :
     (r : CornerName)
-    → (checkNameFields r ≡ 0) ↔ (Fields (r .0) × (zeroBits (r .0) ≡ 0) × (1 ≤ cornerNumber (r .0)) × (cornerNumber (r .0) ≤ 3))
+    → (checkNameFields r ≡ 0) ↔ (Fields (r .0) × (zeroBits (r .0) ≡ 0) × (1 ≤ cornerNumber (r .0))
+    × (cornerNumber (r .0) ≤ 3))
 unfolding checkNameFields
 name-passes r =
     let w = r .0 in (
       λ e.
           let n = none-after (wordRows w) _ tt tt .0 e in
-          let b = either-false _ _ .0 (n .1 .0) in
-          (word-passes w .0 (n .0), eqb-true _ _ (not-false _ (b .0)), pos-of-ne-zero (eqb-false _ _ (b .1)), omega arith),
+          let b = either-false _ _ .0 (n .1 .0) in (
+            word-passes w .0 (n .0),
+            eqb-true _ _ (not-false _ (b .0)),
+            pos-of-ne-zero (eqb-false _ _ (b .1)),
+            omega arith,
+          ),
       λ p.
           none-after (wordRows w) _ tt tt .1 (
             word-passes w .1 (p .0),
-            (either-false _ _ .1 (ap not (eq-eqb (zeroBits w) 0 (p .1)), ne-eqb (cornerNumber w) 0 (λ e. omega (arith, p .2))), tt),
+            (
+              either-false _ _ .1 (
+                ap not (eq-eqb (zeroBits w) 0 (p .1)),
+                ne-eqb (cornerNumber w) 0 (λ e. omega (arith, p .2)),
+              ),
+              tt,
+            ),
           ),
     )
 
@@ -124,7 +144,8 @@ name-code r e =
     record { passes = code-passes (codeOf u) .1 (g, omega arith); degreeIs = d }
 
 -- and a word with a code inside it and a corner number has a name's fields, and the code's degree
-pub code-name : (r : CornerName) → checkCode (codeOf (inside (r .0))) ≡ 0 → 1 ≤ cornerNumber (r .0) → cornerNumber (r .0) ≤ 3
+pub code-name : (r : CornerName) → checkCode (codeOf (inside (r .0))) ≡ 0 → 1 ≤ cornerNumber (r .0)
+    → cornerNumber (r .0) ≤ 3
     → (checkNameFields r ≡ 0) × (degreeOf (r .0) ≡ degreeOf (inside (r .0)))
 code-name r e low high =
     let w = r .0 in
@@ -168,10 +189,12 @@ module _ {n : ℕ} {t : TriangleCode} (code : IsCode n t) where
   code-word =
       let w = t .0 in
       let clear : beyond w n ≡ 0 = rw (code .degreeIs) at (code-fields .clear) in
-      rw (side-top w, path-digits w n code-degree) (word-is 5 24 6 w n (code .degreeIs) code-degree clear (code-passes t .0 (code .passes) .1))
+      rw (side-top w, path-digits w n code-degree) (word-is 5 24 6 w n (code .degreeIs) code-degree clear
+      (code-passes t .0 (code .passes) .1))
 
 -- two codes of one degree with the same side and digits are the same
-pub same-code : {n : ℕ} {t t′ : TriangleCode} → IsCode n t → IsCode n t′ → sideOf (t .0) ≡ sideOf (t′ .0) → digits (t .0) n ≡ digits (t′ .0) n → t ≡ t′
+pub same-code : {n : ℕ} {t t′ : TriangleCode} → IsCode n t → IsCode n t′
+    → sideOf (t .0) ≡ sideOf (t′ .0) → digits (t .0) n ≡ digits (t′ .0) n → t ≡ t′
 same-code {n} {t} {t′} c c′ s d =
     let e : t .0 ≡ t′ .0 = code-word c ∙ (λ i. wordOf (s i) n (path (d i))) ∙ sym (code-word c′) in
     λ i. record { 0 = e i }
@@ -197,7 +220,14 @@ module _ (s n : ℕ) (s≥ : 4 ≤ s) (s< : s < 24) (n≤ : n ≤ 24) where
         aHigh = omega arith;
         clear = ap (λ (k : ℕ). beyond w k) d ∙ unfold wordOf in beyond-is 5 24 6 s n v n≤ (omega arith) h;
       } in
-      record { passes = code-passes (codeOf w) .1 (f, unfold wordOf in low-is 5 24 6 s n v n≤ (omega arith) h); degreeIs = d }
+      record {
+        passes = code-passes (codeOf w) .1 (f, unfold wordOf in low-is 5 24 6 s n v n≤ (omega arith) h);
+        degreeIs = d;
+      }
 
   pub made : {ds : List ℕ} → AreDigits n ds → Has s n ds (codeOf (wordOf s n (path ds)))
-  made {ds} a = record { code = path-code (path ds) (path-lt a); side = side-word s n (path ds) n≤ (path-lt a); digitsAre = digits-word s n≤ a }
+  made {ds} a = record {
+    code = path-code (path ds) (path-lt a);
+    side = side-word s n (path ds) n≤ (path-lt a);
+    digitsAre = digits-word s n≤ a;
+  }

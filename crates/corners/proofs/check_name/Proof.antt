@@ -23,7 +23,8 @@ least-name-requires c κs = fields c
 returns-2 : tie.Need-returns-2
 returns-2 c =
     let l = c .before .before in
-    name-ten _ (fields (l .before)) (λ e. c .if2 .taken (ap (λ (q : CornerName). q .0) (l .least-name .ensures) ∙ e))
+    name-ten _ (fields (l .before)) (λ e. c .if2 .taken (ap (λ (q : CornerName). q .0) (l .least-name .ensures)
+    ∙ e))
 
 returns-3 : tie.Need-returns-3
 returns-3 c =

@@ -1,5 +1,5 @@
--- The refusals in turn; a side that has all the weight, a triangle there with the corner, and the least name round it (Calls, StateCode).
--- Assumes nothing.
+-- The refusals in turn; a side that has all the weight, a triangle there with the corner, and the least name round it
+-- (Calls, StateCode). Assumes nothing.
 use borrow.Author.Needs.{needs}
 use mathlib.Core.Path.{_≡_, sym, _∙_, ap}
 use mathlib.Core.Bool.{true}
@@ -18,7 +18,8 @@ use Rattle.net.specs.Corners.{nameOf}
 use Rattle.net.specs.Refusals.{onSide}
 use Rattle.net.specs.Means.Walks.{leastName, placeAt}
 use Rattle.net.proofs.WordSteps.{made-fields, made-fits}
-use Rattle.corners.proofs.Calls.{refusing, back-one-refused, back-nine, back-sum, back-side, back-answers, back-total}
+use Rattle.corners.proofs.Calls.{refusing, back-one-refused, back-nine, back-sum, back-side, back-answers}
+use Rattle.corners.proofs.Calls.{back-total}
 use Rattle.corners.proofs.name_back.Statement.{statement}
 use Rattle.corners.proofs.name_back.Tie as tie
 
@@ -52,29 +53,38 @@ adds-to-requires : tie.Need-adds-to-requires
 adds-to-requires c κs = (long (c .before), rw (c .power .ensures) (omega (arith, small (c .before))))
 
 -- whether the weights add up
-adds : (c : tie.After-adds-to) → c .adds-to .result ≡ eqb (sum (take 12 (ws (c .before .before)))) (2 ^ n (c .before .before))
+adds : (c : tie.After-adds-to) → c .adds-to .result ≡ eqb (sum (take 12 (ws (c .before .before))))
+    (2 ^ n (c .before .before))
 adds c = c .adds-to .ensures ∙ ap (eqb (sum (take 12 (ws (c .before .before))))) (c .before .power .ensures)
 
 returns-3 : tie.Need-returns-3
 returns-3 c =
     let d = c .before .before .before in
-    refusing (back-sum (n d) (ws d) (low d) (long d) (sym (adds (c .before)) ∙ not-true _ (c .if3 .taken))) (λ e. omega arith)
+    refusing (back-sum (n d) (ws d) (low d) (long d) (sym (adds (c .before)) ∙ not-true _ (c .if3 .taken)))
+    (λ e. omega arith)
 
-added : (c : tie.Else3) → eqb (sum (take 12 (ws (c .before .before .before)))) (2 ^ n (c .before .before .before)) ≡ true
+added : (c : tie.Else3) → eqb (sum (take 12 (ws (c .before .before .before)))) (2 ^ n (c .before .before .before))
+    ≡ true
 added c = sym (adds (c .before)) ∙ not-false _ (c .if3 .left)
 
 side-of-requires : tie.Need-side-of-requires
 side-of-requires c κs =
-    let d = c .before .before .before in
-    (long d, rw (c .before .before .power .ensures) (omega (arith, small d)), eqb-true _ _ (added c) ∙ sym (c .before .before .power .ensures))
+    let d = c .before .before .before in (
+      long d,
+      rw (c .before .before .power .ensures) (omega (arith, small d)),
+      eqb-true _ _ (added c)
+          ∙ sym (c .before .before .power .ensures),
+    )
 
 returns-4 : tie.Need-returns-4
 returns-4 c =
     let d = c .before .before .before .before .before in
-    refusing (back-side (n d) (ws d) (low d) (long d) (c .before .side-of .ensures .none (omega arith))) (λ e. omega arith)
+    refusing (back-side (n d) (ws d) (low d) (long d) (c .before .side-of .ensures .none (omega arith)))
+    (λ e. omega arith)
 
 -- the side
-found : (c : tie.Else4) → IsSide (c .before .side-of .result) × (onSide (c .before .side-of .result) 0 (take 12 (ws (c .before .before .before .before .before))) ≡ true)
+found : (c : tie.Else4) → IsSide (c .before .side-of .result)
+    × (onSide (c .before .side-of .result) 0 (take 12 (ws (c .before .before .before .before .before))) ≡ true)
 found c =
     let e = c .before .side-of .ensures in
     let h : c .before .side-of .result < 24 = omega (arith, e .high, c .if4 .left) in
@@ -85,8 +95,11 @@ point-on-requires c κs = (long (c .before .before .before .before .before), fou
 
 corner-at-requires : tie.Need-corner-at-requires
 corner-at-requires c κs =
-    let d = c .before .before .before .before .before .before in
-    (low d, back-total (n d) (ws d) _ _ (long d) (added (c .before .before .before)) (found (c .before) .0) (found (c .before) .1) (c .point-on .ensures))
+    let d = c .before .before .before .before .before .before in (
+      low d,
+      back-total (n d) (ws d) _ _ (long d) (added (c .before .before .before)) (found (c .before) .0)
+          (found (c .before) .1) (c .point-on .ensures),
+    )
 
 word-of-requires : tie.Need-word-of-requires
 word-of-requires c κs =

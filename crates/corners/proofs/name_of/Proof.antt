@@ -21,7 +21,8 @@ returns c = refusing (c .before .refuse-numbered .ensures) (c .if1 .taken)
 none : (c : tie.Else1) → refuseNumbered (c .before .before .args .t) (c .before .before .args .corner) ≡ 0
 none c = sym (c .before .refuse-numbered .ensures) ∙ c .if1 .left
 
-passes : (c : tie.Else1) → (checkCode (c .before .before .args .t) ≡ 0) × OneToThree (c .before .before .args .corner)
+passes : (c : tie.Else1) → (checkCode (c .before .before .args .t) ≡ 0)
+    × OneToThree (c .before .before .args .corner)
 passes c = numbered-passes _ _ .0 (none c)
 
 add-t7 : tie.Need-add-t7

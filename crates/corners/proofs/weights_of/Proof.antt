@@ -15,7 +15,8 @@ returns : tie.Need-returns
 returns c = refusing-lent (weights-first _ _ _ (c .before .refuse-numbered .ensures) (c .if1 .taken)) (c .if1 .taken)
 
 -- a code and a corner number
-none : (c : tie.Else1) → refuseNumbered (c .before .before .before .args .t) (c .before .before .before .args .corner) ≡ 0
+none : (c : tie.Else1) → refuseNumbered (c .before .before .before .args .t) (c .before .before .before .args .corner)
+    ≡ 0
 none c = sym (c .before .refuse-numbered .ensures) ∙ c .if1 .left
 
 returns-2 : tie.Need-returns-2

@@ -21,7 +21,8 @@ returns c = let a = c .before .before .before .args in
     .taken)) (c .if1 .taken)
 
 -- the degree and the direction pass
-passes : (c : tie.Else1) → refuseFile (c .before .before .before .args .degree) (c .before .before .before .args .d) ≡ 0
+passes : (c : tie.Else1) → refuseFile (c .before .before .before .args .degree) (c .before .before .before .args .d)
+    ≡ 0
 passes c = sym (c .before .refuse-direction .ensures) ∙ c .if1 .left
 
 returns-2 : tie.Need-returns-2

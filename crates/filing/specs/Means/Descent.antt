@@ -1,4 +1,5 @@
--- The determinants of a triangle's children from its own, and the descent by the least child that holds. Assumes nothing.
+-- The determinants of a triangle's children from its own, and the descent by the least child that holds. Assumes
+-- nothing.
 use Prim.Native.Nat.{ℕ, zero, suc, _+_, _*_}
 use mathlib.Core.Bool.{Bool, true, false, cond, _&&_}
 use mathlib.Core.List.{List, [], _∷_, _++_}

@@ -11,7 +11,8 @@ use Rattle.net.specs.declared.Point.{Point}
 
 -- the weight that a point of the side s has at the vertex v
 unfoldable pub weightAt : (s : ℕ) → Point → (v : ℕ) → ℕ
-weightAt s p v = load (eqb v (cornerVertex s 1)) (p .w1) + load (eqb v (cornerVertex s 2)) (p .w2) + load (eqb v (cornerVertex s 3)) (p .w3)
+weightAt s p v = load (eqb v (cornerVertex s 1)) (p .w1) + load (eqb v (cornerVertex s 2)) (p .w2)
+    + load (eqb v (cornerVertex s 3)) (p .w3)
 
 -- all twelve
 unfoldable pub spread : (s : ℕ) → Point → Weights
@@ -28,7 +29,11 @@ sign (suc x) = 1
 
 -- the point of the side s that twelve weights are, where they lie on it
 abbrev pub pointIn : (s : ℕ) → Weights → Point
-pointIn s p = record { w1 = getD p (cornerVertex s 1) 0; w2 = getD p (cornerVertex s 2) 0; w3 = getD p (cornerVertex s 3) 0 }
+pointIn s p = record {
+  w1 = getD p (cornerVertex s 1) 0;
+  w2 = getD p (cornerVertex s 2) 0;
+  w3 = getD p (cornerVertex s 3) 0;
+}
 
 -- r is a side on which the weights lie, or 24 where there is none
 pub record SideFor (p : Weights) (r : ℕ) : Type 0 where

@@ -54,7 +54,8 @@ placeAt r =
     let w = words.inside r in
     record { side = sideOf w; digits = digits w (degreeOf w); number = cornerNumber r }
 
--- anticlockwise: across the edge that follows the corner's number, to the triangle where the corner follows that edge's number
+-- anticlockwise: across the edge that follows the corner's number, to the triangle where the corner follows that edge's
+-- number
 abbrev pub arrived : Arrival → Place
 arrived r = record { side = r .side; digits = r .digits; number = next (r .edge) }
 

@@ -1,5 +1,5 @@
--- `golden::Golden::at_least_zero` meets its contract: the three cases of the sign by w and v, and the question of √5 on their sizes.
--- Assumes nothing.
+-- `golden::Golden::at_least_zero` meets its contract: the three cases of the sign by w and v, and the question of √5
+-- on their sizes. Assumes nothing.
 use borrow.Author.Needs.{needs}
 use native.Mathlib.Omega.{arith}
 use mathlib.Core.Path.{_≡_}
@@ -25,20 +25,27 @@ w-small c =
 a-is : (c : tie.After-magnitude) → c .magnitude .result ≡ natAbs (c .before .before .w .result)
 a-is c = size-is (c .before .before .w .result) (omega (arith, w-small (c .before .before))) (c .magnitude .ensures)
 
-b-is : (c : tie.After-magnitude2) → c .magnitude2 .result ≡ natAbs (c .before .before .before .before .args .self .v)
+b-is : (c : tie.After-magnitude2) → c .magnitude2 .result
+    ≡ natAbs (c .before .before .before .before .args .self .v)
 b-is c = size-is (c .before .before .before .before .args .self .v) (omega arith) (c .magnitude2 .ensures)
 
 asked : (c : tie.After-magnitude2) → (c .before .magnitude .result < 2 ^ 60) × (c .magnitude2 .result < 2 ^ 60)
 asked c = rw (a-is (c .before), b-is c) (omega (arith, w-small (c .before .before .before)))
 
-told : (c : tie.After-magnitude2) (r : Bool) → Decides r (5 * (c .magnitude2 .result * c .magnitude2 .result) ≤ c .before .magnitude .result * c .before .magnitude .result) → Decides r (5 * (natAbs (c .before .before .before .before .args .self .v) * natAbs (c .before .before .before .before .args .self .v)) ≤ natAbs (wOf (c .before .before .before .before .args .self)) * natAbs (wOf (c .before .before .before .before .args .self)))
+told : (c : tie.After-magnitude2) (r : Bool) → Decides r
+    (5 * (c .magnitude2 .result * c .magnitude2 .result) ≤ c .before .magnitude .result * c .before .magnitude
+    .result) → Decides r (5 * (natAbs (c .before .before .before .before .args .self .v) * natAbs
+    (c .before .before .before .before .args .self .v)) ≤ natAbs
+    (wOf (c .before .before .before .before .args .self)) * natAbs
+    (wOf (c .before .before .before .before .args .self)))
 told c r d = rw (a-is (c .before), b-is c, c .before .before .before .w .ensures) at d
 
 w-requires : tie.Need-w-requires
 w-requires c κs = search needs
 
 magnitude-requires : tie.Need-magnitude-requires
-magnitude-requires c κs = rw (again-is (c .before .w .result) (omega (arith, w-small (c .before)))) (omega (arith, w-small (c .before)))
+magnitude-requires c κs = rw (again-is (c .before .w .result) (omega (arith, w-small (c .before))))
+    (omega (arith, w-small (c .before)))
 
 magnitude-requires-2 : tie.Need-magnitude-requires-2
 magnitude-requires-2 c κs = rw (again-is (c .before .before .before .args .self .v) (omega arith)) (omega arith)
@@ -65,7 +72,8 @@ at-least-root-five-requires c κs = asked (c .before .before)
 returns-2 : tie.Need-returns-2
 returns-2 c =
     let v = c .before .before .before .before .before .before .before .args .self .v in
-    neg-pos _ _ _ (w-neg (c .before .before)) (not-below v (omega arith) (c .before .if2 .left)) (told (c .before .before .before) _ (c .at-least-root-five .ensures))
+    neg-pos _ _ _ (w-neg (c .before .before)) (not-below v (omega arith) (c .before .if2 .left))
+    (told (c .before .before .before) _ (c .at-least-root-five .ensures))
 
 at-least-root-five-requires-2 : tie.Need-at-least-root-five-requires-2
 at-least-root-five-requires-2 c κs = asked (c .before .before)
@@ -73,7 +81,8 @@ at-least-root-five-requires-2 c κs = asked (c .before .before)
 returns-3 : tie.Need-returns-3
 returns-3 c =
     let v = c .before .before .before .before .before .before .before .args .self .v in
-    pos-neg _ _ _ (w-pos (c .before .before)) (below v (omega arith) (c .before .if3 .taken)) (told (c .before .before .before) _ (c .at-least-root-five2 .ensures))
+    pos-neg _ _ _ (w-pos (c .before .before)) (below v (omega arith) (c .before .if3 .taken))
+    (told (c .before .before .before) _ (c .at-least-root-five2 .ensures))
 
 returns-4 : tie.Need-returns-4
 returns-4 c =

@@ -1,4 +1,5 @@
--- `golden::Golden::close_below` meets its contract, by what the fraction next below φ comes to on |v|. Assumes nothing.
+-- `golden::Golden::close_below` meets its contract, by what the fraction next below φ comes to on |v|. Assumes
+-- nothing.
 use mathlib.Core.Path.{_≡_, refl, sym, _∙_, ap, subst}
 use Prim.Native.Nat.{ℕ, _+_, _*_, _%_, _≤_, _<_, _^_}
 use native.Mathlib.Omega.{arith}
@@ -38,7 +39,8 @@ module _ (c : tie.After-times-fraction) where
   q-small = omega (arith, m-small, c .times-fraction .ensures)
 
   room : m * top % bottom + 2048 ≤ k * bottom
-  room = subst (λ (n : ℕ). n * top % bottom + 2048 ≤ k * bottom) (sym m-is) (c .before .before .before .before .pre .2)
+  room = subst (λ (n : ℕ). n * top % bottom + 2048 ≤ k * bottom) (sym m-is)
+      (c .before .before .before .before .pre .2)
 
   -- what `signed` made of n, which is q or q + k, as the machine reads it back
   signed-is : {n : ℕ} {r : ℤ} → n ≤ q + k → r ≡ pos n → again r ≡ pos n

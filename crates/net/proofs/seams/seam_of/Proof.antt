@@ -70,19 +70,22 @@ returns-2 : tie.Need-returns-2
 returns-2 c =
     let d = c .before .before .before .before in
     let a = d .before .before .before .before .args in
-    cc (at-01 (λ p q. seamOf p q (a .a) (a .k)) (a .p) (a .q) (λ q. refl) (d .before .match .keys1) (d .match2 .rest .1))
+    cc (at-01 (λ p q. seamOf p q (a .a) (a .k)) (a .p) (a .q) (λ q. refl) (d .before .match .keys1)
+    (d .match2 .rest .1))
 
 returns-3 : tie.Need-returns-3
 returns-3 c =
     let d = c .before .before .before .before in
     let a = d .before .before .before .before .args in
-    cc (at-10 (λ p q. seamOf p q (a .a) (a .k)) (a .p) (a .q) (λ p. refl) (d .before .match .rest .1) (d .match3 .keys1))
+    cc (at-10 (λ p q. seamOf p q (a .a) (a .k)) (a .p) (a .q) (λ p. refl) (d .before .match .rest .1)
+    (d .match3 .keys1))
 
 returns-4 : tie.Need-returns-4
 returns-4 c =
     let d = c .before .before .before .before in
     let a = d .before .before .before .before .args in
-    cc (at-11 (λ p q. seamOf p q (a .a) (a .k)) (a .p) (a .q) (λ p q. refl) (d .before .match .rest .1) (d .match3 .rest .1))
+    cc (at-11 (λ p q. seamOf p q (a .a) (a .k)) (a .p) (a .q) (λ p q. refl) (d .before .match .rest .1)
+    (d .match3 .rest .1))
 
 pub seam-of-spec : {M : Type 1} → statement M
 seam-of-spec =

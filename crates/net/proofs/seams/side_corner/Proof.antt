@@ -1,4 +1,5 @@
--- `side_corner`: the four cases of p and q, each 0 or not (`at-00` to `at-11`), and what the calls ensure. Assumes nothing.
+-- `side_corner`: the four cases of p and q, each 0 or not (`at-00` to `at-11`), and what the calls ensure. Assumes
+-- nothing.
 use mathlib.Core.Path.{refl}
 use Rattle.net.specs.Sides.{sideCorner}
 use Rattle.net.proofs.SeamCode.{at-00, at-01, at-10, at-11}
@@ -67,19 +68,22 @@ returns-2 : tie.Need-returns-2
 returns-2 c =
     let d = c .before .before .before .before in
     let a = d .before .before .before .args in
-    cc (at-01 (λ p q. sideCorner p q (a .a) (a .i)) (a .p) (a .q) (λ q. refl) (d .before .match .keys1) (d .match2 .rest .1))
+    cc (at-01 (λ p q. sideCorner p q (a .a) (a .i)) (a .p) (a .q) (λ q. refl) (d .before .match .keys1)
+    (d .match2 .rest .1))
 
 returns-3 : tie.Need-returns-3
 returns-3 c =
     let d = c .before .before .before .before in
     let a = d .before .before .before .args in
-    cc (at-10 (λ p q. sideCorner p q (a .a) (a .i)) (a .p) (a .q) (λ p. refl) (d .before .match .rest .1) (d .match3 .keys1))
+    cc (at-10 (λ p q. sideCorner p q (a .a) (a .i)) (a .p) (a .q) (λ p. refl) (d .before .match .rest .1)
+    (d .match3 .keys1))
 
 returns-4 : tie.Need-returns-4
 returns-4 c =
     let d = c .before .before .before .before in
     let a = d .before .before .before .args in
-    cc (at-11 (λ p q. sideCorner p q (a .a) (a .i)) (a .p) (a .q) (λ p q. refl) (d .before .match .rest .1) (d .match3 .rest .1))
+    cc (at-11 (λ p q. sideCorner p q (a .a) (a .i)) (a .p) (a .q) (λ p q. refl) (d .before .match .rest .1)
+    (d .match3 .rest .1))
 
 pub side-corner-spec : {M : Type 1} → statement M
 side-corner-spec =

@@ -23,7 +23,8 @@ abbrev start : tie.After-power → tie.Start
 start c = c .before .before .before
 
 bits : (c : tie.After-power)
-    → AreBits (start c .args .n) (start c .args .v) (c .before .before .gathered .result) (c .before .gathered2 .result)
+    → AreBits (start c .args .n) (start c .args .v) (c .before .before .gathered .result)
+    (c .before .gathered2 .result)
 bits c =
     let h = start c .pre in
     are-bits (h .0) (h .1) (c .before .before .gathered .ensures) (c .before .gathered2 .ensures)

@@ -31,7 +31,8 @@ mul-result c = omega (
 
 -- the spanOf, where the unit digit stands
 spans : (c : tie.After-span-of)
-    → c .span-of .result ≡ spanOf (c .before .before .args .r) (2 ^ (54 - 2 * degreeOf (c .before .before .args .r)))
+    → c .span-of .result ≡ spanOf (c .before .before .args .r)
+    (2 ^ (54 - 2 * degreeOf (c .before .before .args .r)))
     (c .before .next-of .result)
 spans c = c .span-of .ensures ∙ ap (λ (l : ℕ). spanOf (c .before .before .args .r) l (c .before .next-of .result))
     (c .before .before .pre .1)

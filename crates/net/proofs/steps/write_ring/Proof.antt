@@ -17,7 +17,8 @@ use Rattle.net.proofs.steps.write_ring.Tie as tie
 
 abbrev Inv-loop : tie.InvT-loop
 Inv-loop m out₀ q₀ unit count i₀ out q i =
-    (1 ≤ i) × (i ≤ m) × (out ≡ take i (ringWords m (placeAt q₀)) ++ drop i out₀) × (length out ≡ length out₀)
+    (1 ≤ i) × (i ≤ m) × (out ≡ take i (ringWords m (placeAt q₀)) ++ drop i out₀)
+    × (length out ≡ length out₀)
     × (q ≡ nameAt (ringAt (placeAt q₀) (i - 1)))
 
 abbrev μ-loop : tie.MeasureT-loop

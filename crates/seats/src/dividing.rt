@@ -1,7 +1,7 @@
 // Shares by division: how many of 2^24 parts of their sum three numbers have, and what is left over.
 ghost use mathlib.Core.Path.{_≡_};
-ghost use mathlib.Core.Bool.{true};
 ghost use Prim.Native.Nat.{_+_, _*_, _<_, _≤_};
+ghost use Rattle.golden.specs.Decisions.{Decides};
 ghost use Rattle.seats.specs.Means.Near.{Away, Divides};
 
 // The margin: more than all errors of near numbers together.
@@ -71,7 +71,7 @@ pub fn divide_three(x1: u64, x2: u64, sum: u64) -> Divided
 // Whether a rest is away from both ends.
 pub fn is_clear(rest: u64, s: u64) -> bool
     requires { ⌜ (rest ≤ s) × (s < 4503599627370496) ⌝ }
-    ensures { λ r. ⌜ (r ≡ true → Away s rest) ⌝ }
+    ensures { λ r. ⌜ Decides r (Away s rest) ⌝ }
 {
     if rest < MARGIN {
         return false;
@@ -81,7 +81,7 @@ pub fn is_clear(rest: u64, s: u64) -> bool
 
 pub fn all_clear(a: u64, b: u64, c: u64, s: u64) -> bool
     requires { ⌜ (a ≤ s) × (b ≤ s) × (c ≤ s) × (s < 4503599627370496) ⌝ }
-    ensures { λ r. ⌜ (r ≡ true → Away s a × Away s b × Away s c) ⌝ }
+    ensures { λ r. ⌜ Decides r (Away s a × Away s b × Away s c) ⌝ }
 {
     if !is_clear(a, s) {
         return false;

@@ -30,7 +30,7 @@ returns-2 c =
     let t = v .before in
     found-in (t .before .args .d) (t .sit .result) (v .divide-three .result) (t .sit .ensures) (v .divide-three
     .ensures .0)
-    (v .divide-three .ensures .1) (c .before .all-clear .ensures (not-false _ (c .if1 .left)))
+    (v .divide-three .ensures .1) (c .before .all-clear .ensures .holds (not-false _ (c .if1 .left)))
 
 pub find-spec : {M : Type 1} → statement M
 find-spec = tie.close (tie.spec sit-requires divide-three-requires all-clear-requires nowhere-requires returns

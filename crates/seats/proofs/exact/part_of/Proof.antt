@@ -12,7 +12,7 @@ returns : tie.Need-returns
 returns c =
     let s = c .before .before in
     let a = s .args in
-    measured-clear (a .x) (a .s) (a .q) (a .sum) (s .pre .1) (c .before .is-clear .ensures (c .if1 .taken))
+    measured-clear (a .x) (a .s) (a .q) (a .sum) (s .pre .1) (c .before .is-clear .ensures .holds (c .if1 .taken))
 
 part-at-requires : tie.Need-part-at-requires
 part-at-requires c κs =

@@ -1,33 +1,61 @@
 // The calls of document 01 exported to C, for `./bench` to count. Each is thin: it hands the numbers on, and answers
 // one number that depends on all numbers of the answer, so that the compiler can leave nothing out. Where a code or a
 // name is answered, this is the code (with the edge's number in its lowest bits) or the name, or the refusal's number.
+// A contract says that the number is made of the call's own answer; those that mix signed numbers or floats have none.
 use grid::Coordinates;
 use grid::CornerName;
 use grid::Direction;
 use grid::Point;
 use grid::Ticks;
 use grid::TriangleCode;
+ghost use mathlib.Core.Path.{_≡_};
+ghost use lib.Bits.{bitXor};
+ghost use Rattle.words.specs.Refusals.{checkCode};
+ghost use Rattle.words.specs.Family.{codeOf, parentAnswer, childAnswer};
+ghost use Rattle.words.specs.declared.CodeAnswer.{CodeAnswer};
+ghost use Rattle.net.specs.Corners.{nameOf};
+ghost use Rattle.net.specs.Refusals.{checkName};
+ghost use Rattle.corners.specs.Answers.{CrossAnswer, WeightsAnswer, NameWeightsAnswer, NamingAnswer};
+ghost use Rattle.corners.specs.Answers.{BackAnswer, RingAnswer};
+ghost use Rattle.corners.specs.declared.StepAnswer.{StepAnswer};
+ghost use Rattle.corners.specs.declared.NameAnswer.{NameAnswer};
+ghost use Rattle.corners.specs.declared.CountAnswer.{CountAnswer};
+ghost use Rattle.directions.specs.Answers.{FileAnswer, ListAnswer};
 
 // ---- words
 
 #[no_mangle]
-pub extern "C" fn bench_check(code: u64) -> u64 {
+pub extern "C" fn bench_check(code: u64) -> u64
+    ensures { λ r. ⌜ r ≡ checkCode (codeOf code) ⌝ }
+{
     TriangleCode(code).check()
 }
 
 #[no_mangle]
-pub extern "C" fn bench_check_name(name: u64) -> u64 {
+pub extern "C" fn bench_check_name(name: u64) -> u64
+    ensures { λ r. ⌜ r ≡ checkName (nameOf name) ⌝ }
+{
     grid::check_name(CornerName(name))
 }
 
 #[no_mangle]
-pub extern "C" fn bench_parent(code: u64) -> u64 {
+pub extern "C" fn bench_parent(code: u64) -> u64
+    ensures { λ r. ⌜
+        ((a : CodeAnswer) × (a ≡ parentAnswer (codeOf code))
+        × (r ≡ bitXor (a .code .0) (a .refusal)))
+        ⌝ }
+{
     let r = TriangleCode(code).parent();
     r.code.0 ^ r.refusal
 }
 
 #[no_mangle]
-pub extern "C" fn bench_child(code: u64, digit: u64) -> u64 {
+pub extern "C" fn bench_child(code: u64, digit: u64) -> u64
+    ensures { λ r. ⌜
+        ((a : CodeAnswer) × (a ≡ childAnswer (codeOf code) digit)
+        × (r ≡ bitXor (a .code .0) (a .refusal)))
+        ⌝ }
+{
     let r = TriangleCode(code).child(digit);
     r.code.0 ^ r.refusal
 }
@@ -35,35 +63,59 @@ pub extern "C" fn bench_child(code: u64, digit: u64) -> u64 {
 // ---- corners and edges
 
 #[no_mangle]
-pub extern "C" fn bench_cross(code: u64, edge: u64) -> u64 {
+pub extern "C" fn bench_cross(code: u64, edge: u64) -> u64
+    ensures { λ r. ⌜
+        ((a : StepAnswer) × CrossAnswer (codeOf code) edge a
+        × (r ≡ bitXor (bitXor (a .code .0) (a .edge)) (a .refusal)))
+        ⌝ }
+{
     let r = grid::cross(TriangleCode(code), edge);
     r.code.0 ^ r.edge ^ r.refusal
 }
 
 #[no_mangle]
-pub extern "C" fn bench_name(code: u64, corner: u64) -> u64 {
+pub extern "C" fn bench_name(code: u64, corner: u64) -> u64
+    ensures { λ r. ⌜
+        ((a : NameAnswer) × NamingAnswer (codeOf code) corner a
+        × (r ≡ bitXor (a .name .0) (a .refusal)))
+        ⌝ }
+{
     let r = grid::name_of(TriangleCode(code), corner);
     r.name.0 ^ r.refusal
 }
 
 #[no_mangle]
-pub extern "C" fn bench_back(degree: u64, weights: &[u64]) -> u64 {
+pub extern "C" fn bench_back(degree: u64, weights: &[u64]) -> u64
+    ensures { λ r. ⌜
+        ((a : NameAnswer) × BackAnswer degree (now (weights .entry)) a
+        × (r ≡ bitXor (a .name .0) (a .refusal)))
+        ⌝ }
+{
     let r = grid::name_back(degree, weights);
     r.name.0 ^ r.refusal
 }
 
 #[no_mangle]
-pub extern "C" fn bench_weights(code: u64, corner: u64, out: &mut [u64]) -> u64 {
+pub extern "C" fn bench_weights(code: u64, corner: u64, out: &mut [u64]) -> u64
+    ensures { λ r. ⌜ WeightsAnswer (codeOf code) corner (now (out .entry)) r (now (out .exit)) ⌝ }
+{
     grid::weights_of(TriangleCode(code), corner, out)
 }
 
 #[no_mangle]
-pub extern "C" fn bench_name_weights(name: u64, out: &mut [u64]) -> u64 {
+pub extern "C" fn bench_name_weights(name: u64, out: &mut [u64]) -> u64
+    ensures { λ r. ⌜ NameWeightsAnswer (nameOf name) (now (out .entry)) r (now (out .exit)) ⌝ }
+{
     grid::weights_of_name(CornerName(name), out)
 }
 
 #[no_mangle]
-pub extern "C" fn bench_ring(name: u64, out: &mut [u64]) -> u64 {
+pub extern "C" fn bench_ring(name: u64, out: &mut [u64]) -> u64
+    ensures { λ r. ⌜
+        ((a : CountAnswer) × RingAnswer (nameOf name) (now (out .entry)) a (now (out .exit))
+        × (r ≡ bitXor (a .count) (a .refusal)))
+        ⌝ }
+{
     let r = grid::ring(CornerName(name), out);
     r.count ^ r.refusal
 }
@@ -115,13 +167,23 @@ pub extern "C" fn bench_name_drawn(name: u64) -> f64 {
 // ---- directions
 
 #[no_mangle]
-pub extern "C" fn bench_file(degree: u64, x: i32, y: i32, z: i32) -> u64 {
+pub extern "C" fn bench_file(degree: u64, x: i32, y: i32, z: i32) -> u64
+    ensures { λ r. ⌜
+        ((a : CodeAnswer) × FileAnswer degree (record { x = x; y = y; z = z }) a
+        × (r ≡ bitXor (a .code .0) (a .refusal)))
+        ⌝ }
+{
     let r = grid::file(degree, Direction { x, y, z });
     r.code.0 ^ r.refusal
 }
 
 #[no_mangle]
-pub extern "C" fn bench_list(degree: u64, x: i32, y: i32, z: i32, out: &mut [u64]) -> u64 {
+pub extern "C" fn bench_list(degree: u64, x: i32, y: i32, z: i32, out: &mut [u64]) -> u64
+    ensures { λ r. ⌜
+        ((a : CountAnswer) × ListAnswer degree (record { x = x; y = y; z = z }) (now (out .entry)) a (now (out .exit))
+        × (r ≡ bitXor (a .count) (a .refusal)))
+        ⌝ }
+{
     let r = grid::list(degree, Direction { x, y, z }, out);
     r.count ^ r.refusal
 }

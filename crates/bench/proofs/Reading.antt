@@ -13,5 +13,6 @@ again z = toZ w32 (ofZ w32 z)
 abbrev pub at : (x y z : ℤ) → Direction
 at x y z = record { x = x; y = y; z = z }
 
-pub read-back : {x y z : ℤ} → SFits w32 x → SFits w32 y → SFits w32 z → at (again x) (again y) (again z) ≡ at x y z
+pub read-back : {x y z : ℤ} → SFits w32 x → SFits w32 y → SFits w32 z
+    → at (again x) (again y) (again z) ≡ at x y z
 read-back a b c = λ i. at (toZ-ofZ a i) (toZ-ofZ b i) (toZ-ofZ c i)

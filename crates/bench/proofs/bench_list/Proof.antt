@@ -21,8 +21,11 @@ returns c =
     let s = l .before .before .before in
     let f = s .fits in
     let same = read-back (f .x) (f .y) (f .z) in
-    let new = l .list .last .1 .1 .0 in
-    (a, subst (λ (d : Direction). ListAnswer (s .args .degree) d (now (s .args .out)) a new) same (l .list .ensures), refl)
+    let new = l .list .last .1 .1 .0 in (
+      a,
+      subst (λ (d : Direction). ListAnswer (s .args .degree) d (now (s .args .out)) a new) same (l .list .ensures),
+      refl,
+    )
 
 pub bench-list-spec : {M : Type 1} → statement M
 bench-list-spec = tie.close (tie.spec list-requires same-length returns)

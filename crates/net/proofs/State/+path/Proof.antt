@@ -1,4 +1,5 @@
--- `net::State::path` meets its contract, by recursion on the degree: half a floor is as low, and a path of n digits is below 4^n. Assumes nothing.
+-- `net::State::path` meets its contract, by recursion on the degree: half a floor is as low, and a path of n digits is
+-- below 4^n. Assumes nothing.
 use native.Mathlib.Omega.{arith}
 use Rattle.net.proofs.StateCode.{last-small, low-half, path-46, path-more, path-none}
 use Prim.Native.Nat.{ℕ, _-_, _^_, _<_}
@@ -56,7 +57,8 @@ path-add-result : (t : ℕ) → path-lts.Need-add-result (calls t) (path-at t) p
 path-add-result t c = omega (arith, short t c, last-small (c .before .before .before .before .args .self))
 
 path-returns-2 : (t : ℕ) → path-lts.Need-returns-2 (calls t) (path-at t) path.Post
-path-returns-2 t c = let a = c .before .before .before .before .args in cc (path-more (a .n) (a .self) (c .before .before .before .if1 .left))
+path-returns-2 t c = let a = c .before .before .before .before .args in
+    cc (path-more (a .n) (a .self) (c .before .before .before .if1 .left))
 
 pub +path-spec : {M : Type 1} → statement M
 +path-spec = close μ-path λ t. path-lts.spec (calls t)

@@ -1,16 +1,13 @@
 -- Where a direction stands in the children of a triangle, and which of them hold it: if a share is more than half, that
 -- child alone; else the middle one, and each of the others with a share of half. Assumes nothing.
-use mathlib.Core.Path.{_≡_, refl, sym, _∙_, ap, subst}
-use mathlib.Core.List.{[], _∷_}
+use mathlib.Core.Path.{_≡_, refl, sym, subst}
 use Prim.Native.Nat.{ℕ, zero, suc, _+_, _≤_, _<_}
 use native.Mathlib.Omega.{arith}
-use Rattle.golden.specs.Numbers.{_+φ_, negφ}
+use Rattle.golden.specs.Numbers.{negφ}
 use Rattle.golden.specs.Order.{NonNeg}
 use Rattle.golden.specs.declared.Golden.{Golden}
-use Rattle.golden.proofs.Polynomials.{var, _⊕_, _⊝_}
-use Rattle.golden.proofs.RingSolver.{solve}
-use Rattle.golden.proofs.GoldenRing.{φ-ring}
-use Rattle.golden.proofs.GoldenOrder.{nonneg-by, add-nonneg}
+use Rattle.net.specs.Sides.{OneToThree}
+use Rattle.net.proofs.Table.{three}
 use Rattle.filing.specs.Holding.{_-φ_, AllNonNeg}
 use Rattle.filing.specs.Means.Descent.{twice, total, childDets}
 use Rattle.filing.specs.declared.Determinants.{Determinants}
@@ -19,19 +16,10 @@ use Rattle.shares.specs.declared.Floors.{Floors}
 use Rattle.shares.specs.declared.Gaps.{Gaps}
 use Rattle.shares.specs.Means.Shares.{Share, Stands}
 use Rattle.shares.specs.Means.Paths.{inChild, leastDigit}
-use Rattle.shares.proofs.Choosing.{choose}
-use Rattle.shares.proofs.ShareLaws.{Under, kept, upper, lower, over, under-half}
-use Rattle.shares.proofs.Standing.{stands-gaps, stands-holds}
-
--- two determinants are not both at least half of the sum and one of them more: s - 2x = (2y - s) + 2z
-not-both : (x y z s : Golden) → s ≡ x +φ y +φ z → NonNeg z → Under s (twice x) → NonNeg (twice y -φ s) → ⊥
-not-both x y z s e n u h = u (nonneg-by
-    (ap (λ (t : Golden). (twice y -φ t) +φ twice z) e
-    ∙ solve φ-ring (x ∷ y ∷ z ∷ [])
-    ((var 1 ⊕ var 1 ⊝ (var 0 ⊕ var 1 ⊕ var 2)) ⊕ (var 2 ⊕ var 2))
-    ((var 0 ⊕ var 1 ⊕ var 2) ⊝ (var 0 ⊕ var 0)) refl
-    ∙ ap (λ (t : Golden). t -φ twice x) (sym e))
-    (add-nonneg _ _ h (add-nonneg z z n n)))
+use Rattle.shares.specs.Means.WalkWords.{floorAt}
+use Rattle.shares.proofs.Choosing.{gapAt, corner-1, corner-2, corner-3, choose-corner}
+use Rattle.shares.proofs.ShareLaws.{share-gap, kept, upper, lower, over, under-half}
+use Rattle.shares.proofs.Standing.{detAt, less-one}
 
 module _ (h p : ℕ) (e : p ≡ h + h) (F : Floors) (G : Gaps) (D : Determinants) (i : Stands p F G D) where
   abbrev s : Golden
@@ -55,14 +43,11 @@ module _ (h p : ℕ) (e : p ≡ h + h) (F : Floors) (G : Gaps) (D : Determinants
         s3 = subst (λ (y : Golden). Share h (K .f3) (G .g3) y (childDets d D .d3)) t c;
       }
 
-  k1 : Share h (F .f1) (G .g1) s (twice (D .d1))
-  k1 = kept h p _ _ _ _ e (i .s1)
+  share-at : (k : ℕ) → OneToThree k → Share p (floorAt k F) (gapAt k G) s (detAt k D)
+  share-at = three (λ k. Share p (floorAt k F) (gapAt k G) s (detAt k D)) (i .s1) (i .s2) (i .s3)
 
-  k2 : Share h (F .f2) (G .g2) s (twice (D .d2))
-  k2 = kept h p _ _ _ _ e (i .s2)
-
-  k3 : Share h (F .f3) (G .g3) s (twice (D .d3))
-  k3 = kept h p _ _ _ _ e (i .s3)
+  keep : (k : ℕ) → OneToThree k → Share h (floorAt k F) (gapAt k G) s (twice (detAt k D))
+  keep k o = kept h p _ _ _ _ e (share-at k o)
 
   pub stands-0 :
       F .f1 + G .g1 ≤ h
@@ -76,105 +61,54 @@ module _ (h p : ℕ) (e : p ≡ h + h) (F : Floors) (G : Gaps) (D : Determinants
       (lower h p _ _ _ _ e (i .s2) b)
       (lower h p _ _ _ _ e (i .s3) c)
 
-  pub stands-1 : h ≤ F .f1 → Stands h (inChild h 1 F G) G (childDets 1 D)
+  pub stands-corner : (k : ℕ) → OneToThree k → h ≤ floorAt k F → Stands h (inChild h k F G) G (childDets k D)
   unfolding inChild
-  stands-1 l = at 1 _ (upper h p _ _ _ _ e (i .s1) l) k2 k3
-
-  pub stands-2 : h ≤ F .f2 → Stands h (inChild h 2 F G) G (childDets 2 D)
-  unfolding inChild
-  stands-2 l = at 2 _ k1 (upper h p _ _ _ _ e (i .s2) l) k3
-
-  pub stands-3 : h ≤ F .f3 → Stands h (inChild h 3 F G) G (childDets 3 D)
-  unfolding inChild
-  stands-3 l = at 3 _ k1 k2 (upper h p _ _ _ _ e (i .s3) l)
+  stands-corner = three (λ k. h ≤ floorAt k F → Stands h (inChild h k F G) G (childDets k D))
+      (λ l. at 1 _ (upper h p _ _ _ _ e (i .s1) l) (keep 2 corner-2) (keep 3 corner-3))
+      (λ l. at 2 _ (keep 1 corner-1) (upper h p _ _ _ _ e (i .s2) l) (keep 3 corner-3))
+      (λ l. at 3 _ (keep 1 corner-1) (keep 2 corner-2) (upper h p _ _ _ _ e (i .s3) l))
 
   -- where f + g is more than half, f is at least half
-  pub half-1 : h < F .f1 + G .g1 → h ≤ F .f1
-  half-1 l = omega (arith, stands-gaps p F G D i .0)
-
-  pub half-2 : h < F .f2 + G .g2 → h ≤ F .f2
-  half-2 l = omega (arith, stands-gaps p F G D i .1)
-
-  pub half-3 : h < F .f3 + G .g3 → h ≤ F .f3
-  half-3 l = omega (arith, stands-gaps p F G D i .2)
+  pub stands-over :
+      (k : ℕ) → OneToThree k → h < floorAt k F + gapAt k G → Stands h (inChild h k F G) G (childDets k D)
+  stands-over k o l = stands-corner k o (omega (arith, share-gap _ _ _ _ _ (share-at k o)))
 
   pub stands-child : Stands h (inChild h (leastDigit h F G) F G) G (childDets (leastDigit h F G) D)
   unfolding inChild
-  stands-child = choose h F G (λ d K. Stands h K G (childDets d D))
-      (λ a. stands-1 (half-1 a))
-      (λ a b. stands-2 (half-2 b))
-      (λ a b c. stands-3 (half-3 c))
-      stands-0
+  stands-child = choose-corner h F G (λ d K. Stands h K G (childDets d D)) stands-over stands-0
 
   -- ---- less than half: that child does not hold
 
-  pub less-1 : F .f1 < h → AllNonNeg (childDets 1 D) → ⊥
-  less-1 l t = under-half h p _ _ _ _ e (i .s1) (i .some) (i .more) l (t .n1)
-
-  pub less-2 : F .f2 < h → AllNonNeg (childDets 2 D) → ⊥
-  less-2 l t = under-half h p _ _ _ _ e (i .s2) (i .some) (i .more) l (t .n2)
-
-  pub less-3 : F .f3 < h → AllNonNeg (childDets 3 D) → ⊥
-  less-3 l t = under-half h p _ _ _ _ e (i .s3) (i .some) (i .more) l (t .n3)
+  pub less-corner : (k : ℕ) → OneToThree k → floorAt k F < h → AllNonNeg (childDets k D) → ⊥
+  less-corner k o l t = under-half h p _ _ _ _ e (share-at k o) (i .some) (i .more) l
+      (three (λ k. AllNonNeg (childDets k D) → NonNeg (twice (detAt k D) -φ s))
+      (λ t. t .n1) (λ t. t .n2) (λ t. t .n3) k o t)
 
   -- ---- more than half: no other holds
 
-  s132 : s ≡ D .d1 +φ D .d3 +φ D .d2
-  s132 = solve φ-ring (D .d1 ∷ D .d2 ∷ D .d3 ∷ []) (var 0 ⊕ var 1 ⊕ var 2) (var 0 ⊕ var 2 ⊕ var 1) refl
+  -- no determinant of a child that holds is above the sum
+  child-less :
+      (j : ℕ) → AllNonNeg (childDets j D) → (k : ℕ) → OneToThree k → NonNeg (s -φ detAt k (childDets j D))
+  child-less j t k o = subst (λ (y : Golden). NonNeg (y -φ detAt k (childDets j D))) (total-child D j)
+      (less-one (childDets j D) t k o)
 
-  s213 : s ≡ D .d2 +φ D .d1 +φ D .d3
-  s213 = solve φ-ring (D .d1 ∷ D .d2 ∷ D .d3 ∷ []) (var 0 ⊕ var 1 ⊕ var 2) (var 1 ⊕ var 0 ⊕ var 2) refl
+  -- so, if a child j other than k holds, the determinant at k is not more than half
+  abbrev Within : (j k : ℕ) → Type 0
+  Within j k = (j ≡ k → ⊥) → NonNeg (s -φ twice (detAt k D))
 
-  s231 : s ≡ D .d2 +φ D .d3 +φ D .d1
-  s231 = solve φ-ring (D .d1 ∷ D .d2 ∷ D .d3 ∷ []) (var 0 ⊕ var 1 ⊕ var 2) (var 1 ⊕ var 2 ⊕ var 0) refl
+  within : (j : ℕ) → j < 4 → AllNonNeg (childDets j D) → (k : ℕ) → OneToThree k → Within j k
+  within zero b t = three (Within 0) (λ f. t .n1) (λ f. t .n2) (λ f. t .n3)
+  within (suc zero) b t =
+      three (Within 1) (λ f. absurd (f refl)) (λ f. child-less 1 t 2 corner-2) (λ f. child-less 1 t 3 corner-3)
+  within (suc (suc zero)) b t =
+      three (Within 2) (λ f. child-less 2 t 1 corner-1) (λ f. absurd (f refl)) (λ f. child-less 2 t 3 corner-3)
+  within (suc (suc (suc zero))) b t =
+      three (Within 3) (λ f. child-less 3 t 1 corner-1) (λ f. child-less 3 t 2 corner-2) (λ f. absurd (f refl))
+  within (suc (suc (suc (suc j)))) b t = absurd (omega arith)
 
-  s312 : s ≡ D .d3 +φ D .d1 +φ D .d2
-  s312 = solve φ-ring (D .d1 ∷ D .d2 ∷ D .d3 ∷ []) (var 0 ⊕ var 1 ⊕ var 2) (var 2 ⊕ var 0 ⊕ var 1) refl
+  -- none but the child k holds
+  abbrev pub Alone : (k : ℕ) → Type 0
+  Alone k = (j : ℕ) → j < 4 → (j ≡ k → ⊥) → AllNonNeg (childDets j D) → ⊥
 
-  s321 : s ≡ D .d3 +φ D .d2 +φ D .d1
-  s321 = solve φ-ring (D .d1 ∷ D .d2 ∷ D .d3 ∷ []) (var 0 ⊕ var 1 ⊕ var 2) (var 2 ⊕ var 1 ⊕ var 0) refl
-
-  module _ (z : 0 < h) where
-    n : AllNonNeg D
-    n = stands-holds p F G D i (omega arith)
-
-    -- none but the child k holds
-    abbrev pub Alone : (k : ℕ) → Type 0
-    Alone k = (j : ℕ) → j < 4 → (j ≡ k → ⊥) → AllNonNeg (childDets j D) → ⊥
-
-    pub alone-1 : h < F .f1 + G .g1 → Alone 1
-    alone-1 l = go
-      where
-        u : Under s (twice (D .d1))
-        u = over h p _ _ _ _ e (i .s1) (i .some) (i .more) l
-
-        go : Alone 1
-        go zero b f t = u (t .n1)
-        go (suc zero) b f t = f refl
-        go (suc (suc zero)) b f t = not-both (D .d1) (D .d2) (D .d3) s refl (n .n3) u (t .n2)
-        go (suc (suc (suc k))) b f t = not-both (D .d1) (D .d3) (D .d2) s s132 (n .n2) u (t .n3)
-
-    pub alone-2 : h < F .f2 + G .g2 → Alone 2
-    alone-2 l = go
-      where
-        u : Under s (twice (D .d2))
-        u = over h p _ _ _ _ e (i .s2) (i .some) (i .more) l
-
-        go : Alone 2
-        go zero b f t = u (t .n2)
-        go (suc zero) b f t = not-both (D .d2) (D .d1) (D .d3) s s213 (n .n3) u (t .n1)
-        go (suc (suc zero)) b f t = f refl
-        go (suc (suc (suc k))) b f t = not-both (D .d2) (D .d3) (D .d1) s s231 (n .n1) u (t .n3)
-
-    pub alone-3 : h < F .f3 + G .g3 → Alone 3
-    alone-3 l = go
-      where
-        u : Under s (twice (D .d3))
-        u = over h p _ _ _ _ e (i .s3) (i .some) (i .more) l
-
-        go : Alone 3
-        go zero b f t = u (t .n3)
-        go (suc zero) b f t = not-both (D .d3) (D .d1) (D .d2) s s312 (n .n2) u (t .n1)
-        go (suc (suc zero)) b f t = not-both (D .d3) (D .d2) (D .d1) s s321 (n .n1) u (t .n2)
-        go (suc (suc (suc zero))) b f t = f refl
-        go (suc (suc (suc (suc k)))) b f t = absurd (omega arith)
+  pub alone : (k : ℕ) → OneToThree k → h < floorAt k F + gapAt k G → Alone k
+  alone k o l j b f t = over h p _ _ _ _ e (share-at k o) (i .some) (i .more) l (within j b t k o f)

@@ -9,7 +9,7 @@ use Rattle.shares.specs.declared.Floors.{Floors}
 use Rattle.shares.specs.declared.Gaps.{Gaps}
 use Rattle.shares.specs.Means.Shares.{floors}
 use Rattle.shares.specs.Means.Paths.{inChild, leastDigit, leastPath}
-use Rattle.shares.proofs.Choosing.{choose}
+use Rattle.shares.proofs.Choosing.{choose-corner}
 
 -- no floor is above m
 abbrev pub AtMost : (m : ℕ) → Floors → Type 0
@@ -56,18 +56,14 @@ module _ (h : ℕ) (F : Floors) (G : Gaps) where
       (simp (p, q, r), refl)
 
   pub digit-small : leastDigit h F G < 4
-  digit-small = choose h F G (λ d K. d < 4)
-      (λ a. omega arith)
-      (λ a b. omega arith)
-      (λ a b c. omega arith)
-      (λ a b c. omega arith)
+  digit-small = choose-corner h F G (λ d K. d < 4) (λ k o a. omega (arith, o .1)) (λ a b c. omega arith)
 
-  pub child-small : (m : ℕ) → h ≤ m → AtMost m F → AtMost m (inChild h (leastDigit h F G) F G)
-  child-small m l s = choose h F G (λ d K. AtMost m K)
-      (λ a. (omega (arith, s .0), s .1, s .2))
-      (λ a b. (s .0, omega (arith, s .1), s .2))
-      (λ a b c. (s .0, s .1, omega (arith, s .2)))
-      (λ a b c. (omega arith, omega arith, omega arith))
+  pub child-small : (m k : ℕ) → h ≤ m → AtMost m F → AtMost m (inChild h k F G)
+  unfolding inChild
+  child-small m zero l s = (omega arith, omega arith, omega arith)
+  child-small m (suc zero) l s = (omega (arith, s .0), s .1, s .2)
+  child-small m (suc (suc zero)) l s = (s .0, omega (arith, s .1), s .2)
+  child-small m (suc (suc (suc k))) l s = (s .0, s .1, omega (arith, s .2))
 
 pub path-0 : (n p : ℕ) (F : Floors) (G : Gaps) (v : ℕ) → n ≡ 0 → v ≡ leastPath n p F G v
 unfolding leastPath

@@ -1,5 +1,5 @@
--- One determinant of the three as a share of their sum: on which side of half it is, and its share in each child.
--- Assumes nothing.
+-- One determinant of the three as a share of their sum: on which side of half it is, and its share in each child; and
+-- what all three have over their floors, or left to more. Assumes nothing.
 use mathlib.Core.Path.{_≡_, refl, sym, _∙_, ap, subst}
 use mathlib.Core.Logic.{_⊎_, inl, inr, ⊎-elim}
 use mathlib.Core.List.{[], _∷_}
@@ -20,7 +20,7 @@ use Rattle.filing.specs.Holding.{_-φ_}
 use Rattle.filing.specs.Means.Descent.{twice}
 use Rattle.shares.specs.Means.Shares.{times, Share}
 
-neg-minus : (x y : Golden) → negφ (x -φ y) ≡ y -φ x
+pub neg-minus : (x y : Golden) → negφ (x -φ y) ≡ y -φ x
 neg-minus x y = solve φ-ring (x ∷ y ∷ []) (⊖ (var 0 ⊝ var 1)) (var 1 ⊝ var 0) refl
 
 minus-both : (x y z : Golden) → x -φ y -φ z ≡ x -φ (y +φ z)
@@ -64,7 +64,7 @@ same a b e =
 abbrev Rest : (g : ℕ) → (s d : Golden) → Type 0
 Rest g s d = ((g ≡ 0) × (d ≡ whole (pos 0))) ⊎ ((g ≡ 1) × (NonNeg (negφ d) → ⊥) × (NonNeg (d -φ s) → ⊥))
 
-abbrev over-floor : (p f : ℕ) → (s x : Golden) → Golden
+abbrev pub over-floor : (p f : ℕ) → (s x : Golden) → Golden
 over-floor p f s x = times p x -φ times f s
 
 to-rest : (p f g : ℕ) (s x : Golden) → Share p f g s x → Rest g s (over-floor p f s x)
@@ -269,3 +269,53 @@ module _ (h p f g : ℕ) (s x : Golden) (e : p ≡ h + h) (w : Share p f g s x) 
           let b = share-gap p f g s x w in
           share-positive h (h - (f + g)) g s (s -φ twice x) (lower (omega arith)) n m (omega arith)
           (nonneg-by (sym (neg-minus s (twice x))) t)
+
+-- ---- three shares of one sum
+
+module _ (p a b c k : ℕ) (x y z : Golden) where
+  abbrev pub sum : Golden
+  sum = x +φ y +φ z
+
+  three-times : times (a + b + c) sum ≡ times a sum +φ times b sum +φ times c sum
+  three-times =
+      sum-times (a + b) c sum refl ∙ ap (λ (t : Golden). t +φ times c sum) (sum-times a b sum refl)
+
+  -- what they have over a, b and c parts, and what they have left to as many
+  pub over-three :
+      a + b + c ≡ p + k
+      → over-floor p a sum x +φ over-floor p b sum y +φ over-floor p c sum z ≡ negφ (times k sum)
+  over-three e =
+      solve φ-ring (whole (pos p) ∷ x ∷ y ∷ z ∷ times a sum ∷ times b sum ∷ times c sum ∷ [])
+      ((var 0 ⊗ var 1 ⊝ var 4) ⊕ (var 0 ⊗ var 2 ⊝ var 5) ⊕ (var 0 ⊗ var 3 ⊝ var 6))
+      (var 0 ⊗ (var 1 ⊕ var 2 ⊕ var 3) ⊝ (var 4 ⊕ var 5 ⊕ var 6)) refl
+      ∙ ap (λ (t : Golden). times p sum -φ t) (sym three-times ∙ sum-times p k sum e)
+      ∙ solve φ-ring (times p sum ∷ times k sum ∷ []) (var 0 ⊝ (var 0 ⊕ var 1)) (⊖ (var 1)) refl
+
+  pub left-three :
+      p ≡ a + b + c + k
+      → (times a sum -φ times p x) +φ (times b sum -φ times p y) +φ (times c sum -φ times p z)
+      ≡ negφ (times k sum)
+  left-three e =
+      solve φ-ring (whole (pos p) ∷ x ∷ y ∷ z ∷ times a sum ∷ times b sum ∷ times c sum ∷ [])
+      ((var 4 ⊝ var 0 ⊗ var 1) ⊕ (var 5 ⊝ var 0 ⊗ var 2) ⊕ (var 6 ⊝ var 0 ⊗ var 3))
+      ((var 4 ⊕ var 5 ⊕ var 6) ⊝ var 0 ⊗ (var 1 ⊕ var 2 ⊕ var 3)) refl
+      ∙ (λ t. sym three-times t -φ sum-times (a + b + c) k sum e t)
+      ∙ solve φ-ring (times (a + b + c) sum ∷ times k sum ∷ []) (var 0 ⊝ (var 0 ⊕ var 1)) (⊖ (var 1)) refl
+
+-- three that are together -k·s: if two are at least 0, the first is at most 0
+module _ (k : ℕ) (s u v w : Golden) (n : NonNeg s) (q : NonNeg v) (r : NonNeg w) where
+  pub first-low : u +φ v +φ w ≡ negφ (times k s) → NonNeg (negφ u)
+  first-low e = nonneg-by
+      (solve φ-ring (times k s ∷ u ∷ v ∷ w ∷ [])
+      (var 0 ⊕ var 2 ⊕ var 3)
+      (var 0 ⊕ (var 1 ⊕ var 2 ⊕ var 3) ⊝ var 1) refl
+      ∙ ap (λ (t : Golden). times k s +φ t -φ u) e
+      ∙ solve φ-ring (times k s ∷ u ∷ []) (var 0 ⊕ ⊖ (var 0) ⊝ var 1) (⊖ (var 1)) refl)
+      (add-nonneg _ _ (add-nonneg _ _ (times-nonneg k s n) q) r)
+
+  -- and if all three are, not together -s - k·s
+  pub sum-low : NonNeg u → u +φ v +φ w ≡ negφ (times (1 + k) s) → NonNeg (negφ s)
+  sum-low p e = nonneg-by
+      (ap (λ (t : Golden). times k s +φ t) (e ∙ ap negφ (sum-times 1 k s refl))
+      ∙ solve φ-ring (times k s ∷ s ∷ []) (var 0 ⊕ ⊖ (lit 1 ⊗ var 1 ⊕ var 0)) (⊖ (var 1)) refl)
+      (add-nonneg _ _ (times-nonneg k s n) (add-nonneg _ _ (add-nonneg _ _ p q) r))

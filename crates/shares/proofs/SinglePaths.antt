@@ -2,20 +2,20 @@
 -- the least. Assumes nothing.
 use mathlib.Core.Path.{_≡_, refl, sym, _∙_, ap, subst}
 use mathlib.Core.Logic.{⊎-elim}
-use mathlib.Core.Bool.{cond}
-use mathlib.Core.List.{List, [], _∷_, _++_}
+use mathlib.Core.List.{[], _∷_}
 use Prim.Native.Nat.{ℕ, zero, suc, _+_, _-_, _*_, _^_, _≤_, _<_}
 use native.Mathlib.Omega.{arith}
-use lib.Dec.{leb}
-use borrow.Author.Tests.{lt-leb}
 use Rattle.golden.proofs.IntegerOrder.{le-or-lt}
+use Rattle.net.specs.Sides.{OneToThree}
+use Rattle.net.proofs.Table.{three}
 use Rattle.shares.specs.declared.Floors.{Floors}
 use Rattle.shares.specs.declared.Gaps.{Gaps}
 use Rattle.shares.specs.Means.Paths.{inChild, leastDigit, leastPath, paths}
-use Rattle.shares.specs.Means.WalkWords.{Straight, Single, Fair}
-use Rattle.shares.proofs.Choosing.{choose}
+use Rattle.shares.specs.Means.WalkWords.{floorAt, Straight, Single, Fair}
+use Rattle.shares.proofs.Choosing.{choose-corner}
 use Rattle.shares.proofs.LeastPath.{half-power, two-halves, power-some}
-use Rattle.shares.proofs.FairChildren.{Few, fair-least}
+use Rattle.shares.proofs.AllPaths.{and-others, one-alone}
+use Rattle.shares.proofs.FairChildren.{Few, few-at, fair-least}
 
 -- ---- one of the three, where an edge has 2h parts and one of the child h
 
@@ -42,35 +42,31 @@ module _ (h f g : ℕ) (z : 0 < h) (s : Straight (h + h) f g) where
 
 -- ---- one step
 
-abbrev below : (n h k f : ℕ) → Floors → Gaps → (v : ℕ) → List ℕ
-below n h k f F G v = cond (leb h f) (paths n h (inChild h k F G) G (4 * v + k)) []
-
-abbrev and-others : (n h : ℕ) → Floors → Gaps → (v d : ℕ) → Floors → List ℕ
-and-others n h F G v d K =
-    paths n h K G (4 * v + d)
-    ++ cond (leb d 0) (below n h 1 (F .f1) F G v ++ below n h 2 (F .f2) F G v ++ below n h 3 (F .f3) F G v) []
-
 module _ (h : ℕ) (F : Floors) (G : Gaps) (z : 0 < h) (g : Few G) (i : Fair (h + h) F G) (s : Single (h + h) F G) where
-  single-least : Single h (inChild h (leastDigit h F G) F G) G
-  single-least = choose h F G (λ d K. Single h K G)
-      (λ a.
-      let m : h ≤ F .f1 = omega (arith, g .0) in (
+  -- in the child at a corner with a share of half, and in the least
+  single-corner : (k : ℕ) → OneToThree k → h ≤ floorAt k F → Single h (inChild h k F G) G
+  unfolding inChild
+  single-corner = three (λ k. h ≤ floorAt k F → Single h (inChild h k F G) G)
+      (λ m. (
         in-corner h _ _ z (s .0) m,
         beside-corner h _ _ z (s .1) (F .f1) m (omega (arith, i .most)),
         beside-corner h _ _ z (s .2) (F .f1) m (omega (arith, i .most)),
       ))
-      (λ a b.
-      let m : h ≤ F .f2 = omega (arith, g .1) in (
+      (λ m. (
         beside-corner h _ _ z (s .0) (F .f2) m (omega (arith, i .most)),
         in-corner h _ _ z (s .1) m,
         beside-corner h _ _ z (s .2) (F .f2) m (omega (arith, i .most)),
       ))
-      (λ a b c.
-      let m : h ≤ F .f3 = omega (arith, g .2) in (
+      (λ m. (
         beside-corner h _ _ z (s .0) (F .f3) m (omega (arith, i .most)),
         beside-corner h _ _ z (s .1) (F .f3) m (omega (arith, i .most)),
         in-corner h _ _ z (s .2) m,
       ))
+
+  single-least : Single h (inChild h (leastDigit h F G) F G) G
+  unfolding inChild
+  single-least = choose-corner h F G (λ d K. Single h K G)
+      (λ k o a. single-corner k o (omega (arith, few-at G g k o)))
       (λ a b c. (in-middle h _ _ z (s .0) a, in-middle h _ _ z (s .1) b, in-middle h _ _ z (s .2) c))
 
   step :
@@ -79,19 +75,8 @@ module _ (h : ℕ) (F : Floors) (G : Gaps) (z : 0 < h) (g : Few G) (i : Fair (h 
       → and-others n h F G v (leastDigit h F G) (inChild h (leastDigit h F G) F G)
       ≡ leastPath n h (inChild h (leastDigit h F G) F G) G (4 * v + leastDigit h F G) ∷ []
   step n v ih =
-      choose h F G
-      (λ d K. Single h K G → Fair h K G → and-others n h F G v d K ≡ leastPath n h K G (4 * v + d) ∷ [])
-      (λ a t f. ap (λ (l : List ℕ). l ++ []) (ih _ _ t f))
-      (λ a b t f. ap (λ (l : List ℕ). l ++ []) (ih _ _ t f))
-      (λ a b c t f. ap (λ (l : List ℕ). l ++ []) (ih _ _ t f))
-      (λ a b c t f.
-      rw (
-        lt-leb h (F .f1) (less h _ _ z (s .0) a),
-        lt-leb h (F .f2) (less h _ _ z (s .1) b),
-        lt-leb h (F .f3) (less h _ _ z (s .2) c),
-      ) (ap (λ (l : List ℕ). l ++ []) (ih _ _ t f)))
-      single-least
-      (fair-least h F G i g)
+      one-alone n h F G v (less h _ _ z (s .0)) (less h _ _ z (s .1)) (less h _ _ z (s .2))
+      (ih _ _ single-least (fair-least h F G i g))
 
 -- ---- all of them
 

@@ -12,6 +12,7 @@ use Rattle.shares.specs.Means.Shares.{strict}
 use Rattle.shares.specs.Means.Paths.{leastDigit, inChild, leastPath}
 use Rattle.shares.specs.Means.Bits.{spread, lowWord, highWord}
 use Rattle.shares.proofs.LeastSteps.{digit-small}
+use Rattle.shares.proofs.LeastPath.{half-power}
 
 -- the digit of the least child, and the floors in it
 abbrev pub digit : (h : ℕ) → Floors → ℕ
@@ -33,32 +34,24 @@ spread-block n (suc k) a g h =
 
 -- ---- the two words have one bit for each digit
 
-pub bit-le : (b p : ℕ) → b < 2 → b * p ≤ p
+bit-le : (b p : ℕ) → b < 2 → b * p ≤ p
 bit-le zero p h = omega arith
 bit-le (suc zero) p h = omega arith
 bit-le (suc (suc b)) p h = absurd (omega arith)
 
+pub bit-more : (r b x : ℕ) → b < 2 → x < 2 ^ r → b * 2 ^ r + x < 2 ^ suc r
+bit-more r b x l h = omega (arith, pow-suc 2 r, bit-le b (2 ^ r) l)
+
 pub low-small : (r : ℕ) (F : Floors) → lowWord r F < 2 ^ r
 unfolding lowWord
 low-small zero F = omega arith
-low-small (suc r) F =
-    omega (
-      arith,
-      low-small r (child (2 ^ r) F),
-      pow-suc 2 r,
-      bit-le (digit (2 ^ r) F % 2) (2 ^ r) (omega arith),
-    )
+low-small (suc r) F = bit-more r _ _ (omega arith) (low-small r (child (2 ^ r) F))
 
 pub high-small : (r : ℕ) (F : Floors) → highWord r F < 2 ^ r
 unfolding highWord
 high-small zero F = omega arith
 high-small (suc r) F =
-    omega (
-      arith,
-      high-small r (child (2 ^ r) F),
-      pow-suc 2 r,
-      bit-le (digit (2 ^ r) F / 2) (2 ^ r) (omega (arith, digit-small (2 ^ r) F strict)),
-    )
+    bit-more r _ _ (omega (arith, digit-small (2 ^ r) F strict)) (high-small r (child (2 ^ r) F))
 
 -- ---- the path from them
 
@@ -103,14 +96,13 @@ spread-path (suc n) k F v =
     let d = digit h F in
     let lw = lowWord (n + k) (child h F) in
     let hw = highWord (n + k) (child h F) in
-    let q : 2 ^ (suc n + k) / 2 ≡ h = rw (suc-add n k) (omega (arith, pow-suc 2 (n + k))) in
     let a = spread-more n k (d % 2) lw (omega arith) (low-small (n + k) (child h F)) in
     let b = spread-more n k (d / 2) hw (omega (arith, digit-small h F strict)) (high-small (n + k) (child h F)) in
     let c : lowWord (suc n + k) F ≡ d % 2 * h + lw = rw (suc-add n k) refl in
     let e : highWord (suc n + k) F ≡ d / 2 * h + hw = rw (suc-add n k) refl in
     let f : (x y : ℕ) → x ≡ y → spread (suc n) (x / 2 ^ k) ≡ spread (suc n) (y / 2 ^ k) =
     λ x y. ap (λ (z : ℕ). spread (suc n) (z / 2 ^ k)) in
-    ap (λ (g : ℕ). leastPath n g (child g F) strict (4 * v + digit g F)) q
+    ap (λ (g : ℕ). leastPath n g (child g F) strict (4 * v + digit g F)) (half-power n k)
     ∙ spread-path n k (child h F) (4 * v + d)
     ∙ four-more (2 ^ (2 * n)) v d _ _
     ∙ λ i. sym (four n) i * v + (sym (f _ _ c ∙ a) i + 2 * sym (f _ _ e ∙ b) i)

@@ -10,7 +10,7 @@ use lib.Pow.{high, low, split, shr-lt, pow-pos}
 use Rattle.shares.specs.declared.Floors.{Floors}
 use Rattle.shares.specs.Means.Bits.{lowWord, highWord, Whole}
 use Rattle.shares.proofs.Choosing.{choose-strict}
-use Rattle.shares.proofs.Spreading.{bit-le, child}
+use Rattle.shares.proofs.Spreading.{bit-more, digit, child}
 
 unfoldable pub mix : (x a c : ℕ) → ℕ
 mix x a c = bitOr (bitXor a x) (bitXor c x)
@@ -26,9 +26,7 @@ flips (suc r) o x = o * 2 ^ r + flips r (1 - x / 2 ^ r) (x % 2 ^ r)
 flips-small : (r o x : ℕ) → o < 2 → flips r o x < 2 ^ r
 unfolding flips
 flips-small zero o x h = omega arith
-flips-small (suc r) o x h =
-    let rest = flips-small r (1 - x / 2 ^ r) (x % 2 ^ r) (omega arith) in
-    omega (arith, rest, bit-le o (2 ^ r) h, pow-suc 2 r)
+flips-small (suc r) o x h = bit-more r o _ h (flips-small r (1 - x / 2 ^ r) (x % 2 ^ r) (omega arith))
 
 -- ---- one level
 
@@ -160,35 +158,35 @@ Lifts n o F d G =
     → ((p : ℕ) → p < 2 → Flat n p G (lowWord n G) (highWord n G))
     → Flat (suc n) o F ((d % 2) * 2 ^ n + lowWord n G) ((d / 2) * 2 ^ n + highWord n G)
 
-flat : (r o : ℕ) (F : Floors) → o < 2 → Whole (2 ^ r) F → Flat r o F (lowWord r F) (highWord r F)
-unfolding lowWord highWord mix odd3
-flat zero o F l w = flat-end o F w l
-flat (suc n) zero F l w =
-    let h = 2 ^ n in
-    let p : 2 ^ suc n ≡ h + h = omega (arith, pow-suc 2 n) in
-    let wh : Whole (h + h) F = rw p at w in
-    let wc = whole-child h F wh in
-    choose-strict h F (Lifts n 0 F)
+lifts :
+    (n o : ℕ) (F : Floors)
+    → o < 2
+    → 2 ^ suc n ≡ 2 ^ n + 2 ^ n
+    → Whole (2 ^ n + 2 ^ n) F
+    → Lifts n o F (digit (2 ^ n) F) (child (2 ^ n) F)
+unfolding mix odd3
+lifts n zero F l p w = choose-strict (2 ^ n) F (Lifts n 0 F)
     (λ a w i. join n 0 0 F _ 1 0 0 _ _ l w (i 0 (omega arith)) refl (omega arith) (omega arith) (omega arith))
     (λ a b w i. join n 0 0 F _ 0 1 0 _ _ l w (i 0 (omega arith)) refl (omega arith) (omega arith) (omega arith))
     (λ a b c w i. join n 0 0 F _ 0 0 1 _ _ l w (i 0 (omega arith)) refl (omega arith) (omega arith) (omega arith))
     (λ a b c w i. join n 0 1 F _ 0 0 0 _ _ l w (i 1 (omega arith)) refl (omega arith) (omega arith) (omega arith))
-    wc
-    (λ o lo. flat n o (child h F) lo wc)
-flat (suc n) (suc zero) F l w =
-    let h = 2 ^ n in
-    let p : 2 ^ suc n ≡ h + h = omega (arith, pow-suc 2 n) in
-    let wh : Whole (h + h) F = rw p at w in
-    let wc = whole-child h F wh in
-    let most : F .f1 + F .f2 + F .f3 < h + h = wh .most in
-    choose-strict h F (Lifts n 1 F)
+lifts n (suc zero) F l p w =
+    let most : F .f1 + F .f2 + F .f3 < 2 ^ n + 2 ^ n = w .most in
+    choose-strict (2 ^ n) F (Lifts n 1 F)
     (λ a w i. join n 1 1 F _ 0 1 1 _ _ l w (i 1 (omega arith)) refl (omega arith) (omega arith) (omega arith))
     (λ a b w i. join n 1 1 F _ 1 0 1 _ _ l w (i 1 (omega arith)) refl (omega arith) (omega arith) (omega arith))
     (λ a b c w i. join n 1 1 F _ 1 1 0 _ _ l w (i 1 (omega arith)) refl (omega arith) (omega arith) (omega arith))
     (λ a b c w i. join n 1 0 F _ 1 1 1 _ _ l w (i 0 (omega arith)) refl (omega arith) (omega arith) (omega arith))
-    wc
-    (λ o lo. flat n o (child h F) lo wc)
-flat (suc n) (suc (suc o)) F l w = absurd (omega arith)
+lifts n (suc (suc o)) F l p w = absurd (omega arith)
+
+flat : (r o : ℕ) (F : Floors) → o < 2 → Whole (2 ^ r) F → Flat r o F (lowWord r F) (highWord r F)
+unfolding lowWord highWord
+flat zero o F l w = flat-end o F w l
+flat (suc n) o F l w =
+    let p : 2 ^ suc n ≡ 2 ^ n + 2 ^ n = omega (arith, pow-suc 2 n) in
+    let wh : Whole (2 ^ n + 2 ^ n) F = rw p at w in
+    let wc = whole-child (2 ^ n) F wh in
+    lifts n o F l p wh wc (λ o lo. flat n o (child (2 ^ n) F) lo wc)
 
 -- ---- in closed form
 

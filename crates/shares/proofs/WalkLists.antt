@@ -17,6 +17,7 @@ use Rattle.shares.specs.Means.Paths.{inChild, leastPath, paths}
 use Rattle.shares.specs.Means.WalkWords.{floorAt, gapsOf, walkWords, cornerWords, besideWords}
 use Rattle.shares.specs.Means.WalkWords.{Single, Fair, IsWalk}
 use Rattle.shares.proofs.LeastSteps.{IsLeast}
+use Rattle.shares.proofs.AllPaths.{below, others}
 use Rattle.shares.proofs.SinglePaths.{single-paths}
 
 each-if : (f : ℕ → ℕ) (b : Bool) (xs : List ℕ) → each f (cond b xs []) ≡ cond b (each f xs) []
@@ -111,17 +112,14 @@ module _ (w : Walk) (F : Floors) (v : ℕ) where
   child-paths n h k = paths n h (inChild h k F (gapsOf w)) (gapsOf w) (4 * v + k)
 
   abbrev corners : (n h : ℕ) → List ℕ
-  corners n h =
-      cond (leb h (F .f1)) (child-paths n h 1) []
-      ++ cond (leb h (F .f2)) (child-paths n h 2) []
-      ++ cond (leb h (F .f3)) (child-paths n h 3) []
+  corners n h = others n h F (gapsOf w) v
 
   of-corners : (n h : ℕ) → each word (corners n h) ≡ besideWords w n h F v 1
   unfolding besideWords cornerWords walkWords joined
   of-corners n h =
-      let a = cond (leb h (F .f1)) (child-paths n h 1) [] in
-      let b = cond (leb h (F .f2)) (child-paths n h 2) [] in
-      let c = cond (leb h (F .f3)) (child-paths n h 3) [] in
+      let a = below n h 1 (F .f1) F (gapsOf w) v in
+      let b = below n h 2 (F .f2) F (gapsOf w) v in
+      let c = below n h 3 (F .f3) F (gapsOf w) v in
       let ea = each-if word (leb h (F .f1)) (child-paths n h 1) in
       let eb = each-if word (leb h (F .f2)) (child-paths n h 2) in
       let ec = each-if word (leb h (F .f3)) (child-paths n h 3) in

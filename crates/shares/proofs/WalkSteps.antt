@@ -9,7 +9,7 @@ use Rattle.shares.specs.declared.Gaps.{Gaps}
 use Rattle.shares.specs.declared.walks.Walk.{Walk}
 use Rattle.shares.specs.Means.Paths.{inChild, leastDigit, leastPath}
 use Rattle.shares.specs.Means.WalkWords.{floorAt, gapsOf, Fair, IsWalk}
-use Rattle.shares.proofs.LeastSteps.{AtMost, IsLeast, digit-small}
+use Rattle.shares.proofs.LeastSteps.{AtMost, IsLeast, digit-small, child-small}
 use Rattle.shares.proofs.LeastPath.{two-halves}
 use Rattle.shares.proofs.FairChildren.{fair-corner, fair-least}
 
@@ -75,13 +75,6 @@ module _ (w : Walk) (n p : ℕ) (F : Floors) (v : ℕ) (i : IsWalk w n p F v) wh
           let e : p ≡ 2 ^ suc m = i .parts ∙ (λ t. 2 ^ q t) in
           omega (arith, pow-suc 2 m)
 
-in-child-small : (m h k : ℕ) (F : Floors) (G : Gaps) → h ≤ m → AtMost m F → AtMost m (inChild h k F G)
-unfolding inChild
-in-child-small m h zero F G l s = (omega arith, omega arith, omega arith)
-in-child-small m h (suc zero) F G l s = (omega (arith, s .0), s .1, s .2)
-in-child-small m h (suc (suc zero)) F G l s = (s .0, omega (arith, s .1), s .2)
-in-child-small m h (suc (suc (suc k))) F G l s = (s .0, s .1, omega (arith, s .2))
-
 -- where an edge has 2h parts
 module _ (w : Walk) (n h : ℕ) (F K : Floors) (v k : ℕ) (i : IsWalk w (suc n) (h + h) F v) where
   -- to the child k, whose edge has h parts
@@ -94,7 +87,7 @@ module _ (w : Walk) (n h : ℕ) (F K : Floors) (v k : ℕ) (i : IsWalk w (suc n)
     most = omega (arith, i .most);
     rest = i .rest;
     parts = omega (arith, i .parts, two-halves n (i .rest));
-    shares = rw e (in-child-small 16777216 h k F (gapsOf w) (omega (arith, i .most)) (i .shares));
+    shares = rw e (child-small h F (gapsOf w) 16777216 k (omega (arith, i .most)) (i .shares));
     fair = f;
     small = further;
   }

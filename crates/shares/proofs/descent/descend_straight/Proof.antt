@@ -1,5 +1,4 @@
 -- Into a corner at once (CornerPaths), and otherwise digit by digit. Assumes nothing.
-use borrow.Author.Needs.{needs}
 use mathlib.Core.Path.{_≡_, sym, _∙_}
 use Prim.Native.Nat.{ℕ, _+_, _-_, _*_, _/_, _^_}
 use native.Mathlib.Omega.{arith}
@@ -7,6 +6,7 @@ use Rattle.net.specs.Sides.{OneToThree}
 use Rattle.shares.specs.Means.Shares.{floors, gaps}
 use Rattle.shares.specs.Means.Paths.{leastPath}
 use Rattle.shares.specs.Means.WalkWords.{floorAt}
+use Rattle.shares.proofs.Choosing.{corner-1, corner-2, corner-3}
 use Rattle.shares.proofs.CornerPaths.{corner-path}
 use Rattle.shares.proofs.descent.descend_straight.Statement.{statement}
 use Rattle.shares.proofs.descent.descend_straight.Tie as tie
@@ -28,22 +28,20 @@ into-corner-requires : tie.Need-into-corner-requires
 into-corner-requires c κs = let p = c .before .pre in (p .0, omega arith, p .4)
 
 returns : tie.Need-returns
-returns c = at-corner (c .before .before) 1 _ (omega arith, omega arith) (c .before .if1 .taken) (c .into-corner
-    .ensures)
+returns c = at-corner (c .before .before) 1 _ corner-1 (c .before .if1 .taken) (c .into-corner .ensures)
 
 into-corner-requires-2 : tie.Need-into-corner-requires-2
 into-corner-requires-2 c κs = let p = c .before .before .pre in (p .0, omega arith, p .4)
 
 returns-2 : tie.Need-returns-2
-returns-2 c = at-corner (c .before .before .before) 2 _ (omega arith, omega arith) (c .before .if2 .taken) (c
-    .into-corner2 .ensures)
+returns-2 c = at-corner (c .before .before .before) 2 _ corner-2 (c .before .if2 .taken) (c .into-corner2 .ensures)
 
 into-corner-requires-3 : tie.Need-into-corner-requires-3
 into-corner-requires-3 c κs = let p = c .before .before .before .pre in (p .0, omega arith, p .4)
 
 returns-3 : tie.Need-returns-3
-returns-3 c = at-corner (c .before .before .before .before) 3 _ (omega arith, omega arith) (c .before .if3 .taken) (c
-    .into-corner3 .ensures)
+returns-3 c =
+    at-corner (c .before .before .before .before) 3 _ corner-3 (c .before .if3 .taken) (c .into-corner3 .ensures)
 
 descend-requires : tie.Need-descend-requires
 descend-requires c κs =

@@ -3,7 +3,7 @@
 -- least child, and then those below the children beside it. Assumes nothing.
 use mathlib.Core.Path.{_≡_, _∙_}
 use mathlib.Core.List.{List, [], _∷_, _++_}
-use Prim.Native.Nat.{ℕ, suc, _<_, _≤_, _+_, _*_, _-_, _/_}
+use Prim.Native.Nat.{ℕ, suc, _<_, _≤_, _+_, _*_, _-_, _/_, _^_}
 use native.Mathlib.Omega.{arith}
 use denote.Ref.{now}
 use lib.ListN.{length-set}
@@ -114,15 +114,25 @@ list-below-mul-out : (t : ℕ) → list-below-lts.Need-mul-out (below-calls t) (
 list-below-mul-out t c = search needs
 
 -- the word, in its place
+abbrev This : ℕ → Type 0
+This t = list-below-lts.After-word-of (below-calls t) (list-below-at t) list-below.Post
+
+words-this :
+    (t : ℕ) (c : This t)
+    → let a = c .before .before .before .args in
+    walkWords (a .w) (a .n) (a .p) (floors (a .f1) (a .f2) (a .f3)) (a .v) ≡ c .word-of .result ∷ []
+words-this t c =
+    let a = c .before .before .before .args in
+    this-word (a .w) (floors (a .f1) (a .f2) (a .f3)) (a .v) (a .n) (a .p) _
+    (c .before .if1 .taken)
+    (c .word-of .ensures)
+
 list-below-slice-write-out :
     (t : ℕ) → list-below-lts.Need-slice-write-out (below-calls t) (list-below-at t) list-below.Post
 list-below-slice-write-out t c =
     let s = c .before .before .before in
     let a = s .args in
-    let F = floors (a .f1) (a .f2) (a .f3) in
-    let x = c .word-of .result in
-    let e = this-word (a .w) F (a .v) (a .n) (a .p) x (c .before .if1 .taken) (c .word-of .ensures) in
-    puts-one (a .count) x _ (now (a .out)) e (s .pre .1 .1) .0
+    puts-one (a .count) (c .word-of .result) _ (now (a .out)) (words-this t c) (s .pre .1 .1) .0
 
 list-below-add-result : (t : ℕ) → list-below-lts.Need-add-result (below-calls t) (list-below-at t) list-below.Post
 list-below-add-result t c = search needs
@@ -135,10 +145,7 @@ list-below-returns : (t : ℕ) → list-below-lts.Need-returns (below-calls t) (
 list-below-returns t c =
     let s = c .before .before .before in
     let a = s .args in
-    let F = floors (a .f1) (a .f2) (a .f3) in
-    let x = c .word-of .result in
-    let e = this-word (a .w) F (a .v) (a .n) (a .p) x (c .before .if1 .taken) (c .word-of .ensures) in
-    puts-one (a .count) x _ (now (a .out)) e (s .pre .1 .1) .1
+    puts-one (a .count) (c .word-of .result) _ (now (a .out)) (words-this t c) (s .pre .1 .1) .1
 
 -- ---- where no fork can come
 
@@ -227,18 +234,17 @@ small-digit t c =
     let a = c .before .before .before .before .before .args in
     rw (c .least-child .ensures .0) (digit-small (a .p / 2) (here t c) (gapsOf (a .w)))
 
-list-below-mul-u : (t : ℕ) → list-below-lts.Need-mul-u (below-calls t) (list-below-at t) list-below.Post
-list-below-mul-u t c =
+short-least : (t : ℕ) (c : Least t) → c .before .before .before .before .before .args .v < 2 ^ 48
+short-least t c =
     let s = c .before .before .before .before .before in
     let a = s .args in
-    record { fits = omega (arith, walk-short (a .w) (a .n) (a .p) (here t c) (a .v) (s .pre .1 .0)) }
+    walk-short (a .w) (a .n) (a .p) (here t c) (a .v) (s .pre .1 .0)
+
+list-below-mul-u : (t : ℕ) → list-below-lts.Need-mul-u (below-calls t) (list-below-at t) list-below.Post
+list-below-mul-u t c = record { fits = omega (arith, short-least t c) }
 
 list-below-add-u : (t : ℕ) → list-below-lts.Need-add-u (below-calls t) (list-below-at t) list-below.Post
-list-below-add-u t c =
-    let s = c .before .before .before .before .before .before in
-    let a = s .args in
-    let l = walk-short (a .w) (a .n) (a .p) (here t (c .before)) (a .v) (s .pre .1 .0) in
-    record { fits = omega (arith, l, small-digit t (c .before)) }
+list-below-add-u t c = record { fits = omega (arith, short-least t (c .before), small-digit t (c .before)) }
 
 list-below-alone-requires :
     (t : ℕ) → list-below-lts.Need-alone-requires (below-calls t) (list-below-at t) list-below.Post
@@ -414,6 +420,12 @@ floors-of t c = let a = c .before .before .before .args in floors (a .f1) (a .f2
 abbrev words-from : (t : ℕ) → Floor t → (k : ℕ) → List ℕ
 words-from t c k = let a = c .before .before .before .args in besideWords (a .w) (a .n) (a .h) (floors-of t c) (a .v) k
 
+short-beside : (t : ℕ) (c : Floor t) → c .before .before .before .args .v < 2 ^ 48
+short-beside t c =
+    let s = c .before .before .before in
+    let a = s .args in
+    walk-short (a .w) (suc (a .n)) (a .h + a .h) (floors-of t c) (a .v) (s .pre .1 .0)
+
 words-passed :
     (t : ℕ) (c : list-beside-lts.Then2 (beside-calls t) (list-beside-at t) list-beside.Post)
     → let k = c .before .before .before .before .args .k in
@@ -454,19 +466,13 @@ list-beside-in-corner-requires t c κs =
 
 list-beside-mul-list-below :
     (t : ℕ) → list-beside-lts.Need-mul-list-below (beside-calls t) (list-beside-at t) list-beside.Post
-list-beside-mul-list-below t c =
-    let s = c .before .before .before .before .before in
-    let a = s .args in
-    let l = walk-short (a .w) (suc (a .n)) (a .h + a .h) (floors-of t (c .before .before)) (a .v) (s .pre .1 .0) in
-    record { fits = omega (arith, l) }
+list-beside-mul-list-below t c = record { fits = omega (arith, short-beside t (c .before .before)) }
 
 list-beside-add-list-below :
     (t : ℕ) → list-beside-lts.Need-add-list-below (beside-calls t) (list-beside-at t) list-beside.Post
 list-beside-add-list-below t c =
     let s = c .before .before .before .before .before in
-    let a = s .args in
-    let l = walk-short (a .w) (suc (a .n)) (a .h + a .h) (floors-of t (c .before .before)) (a .v) (s .pre .1 .0) in
-    record { fits = omega (arith, l, s .pre .1 .2) }
+    record { fits = omega (arith, short-beside t (c .before .before), s .pre .1 .2) }
 
 -- the child k's, and those of the rest
 abbrev Corner : ℕ → Type 0

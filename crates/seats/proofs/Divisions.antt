@@ -41,5 +41,6 @@ pub parts-most : (f r x s : ℕ) → x ≤ s → 0 < s → 16777216 * x ≡ f * 
 parts-most f r x s l z e = omega (arith, parts-under 16777217 f s s z (omega arith))
 
 -- the third has what is missing
-pub third-is : (n f t s r : ℕ) → f ≤ n → n * s + (t + r) ≡ 16777216 * s → (f + (n - f)) * s + (t + r) ≡ 16777216 * s
+pub third-is : (n f t s r : ℕ) → f ≤ n → n * s + (t + r) ≡ 16777216 * s
+    → (f + (n - f)) * s + (t + r) ≡ 16777216 * s
 third-is n f t s r l h = let e : f + (n - f) ≡ n = omega arith in rw e h

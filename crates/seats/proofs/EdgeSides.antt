@@ -16,7 +16,6 @@ use Rattle.net.proofs.Table.{sound, three as each-of-three, below, less, same, 
 use Rattle.filing.specs.Means.Lists.{sideWords, allWords}
 use Rattle.filing.specs.Means.Sides.{sideDets, leastFrom}
 use Rattle.filing.specs.declared.Direction.{Direction}
-use Rattle.filing.proofs.NoVertex.{zeroDirection}
 use Rattle.filing.proofs.SideUnits.{value}
 use Rattle.filing.proofs.TwoSides.{SideHolds}
 use Rattle.shares.specs.declared.Floors.{Floors}
@@ -83,14 +82,18 @@ zero-sign (pos (suc n)) z e = absurd (omega arith)
 zero-sign (negsuc n) z e = absurd (omega arith)
 
 -- the octant's number with one sign turned over
-turn-x : (q : ℕ) → q < 2 → (r : ℕ) → r < 2 → (s : ℕ) → s < 2 → bitXor (q + 2 * r + 4 * s) 1 ≡ 1 - q + 2 * r + 4 * s
-turn-x = sound (below 2 λ q. below 2 λ r. below 2 λ s. same (bitXor (q + 2 * r + 4 * s) 1) (1 - q + 2 * r + 4 * s)) refl
+turn-x : (q : ℕ) → q < 2 → (r : ℕ) → r < 2 → (s : ℕ) → s < 2
+    → bitXor (q + 2 * r + 4 * s) 1 ≡ 1 - q + 2 * r + 4 * s
+turn-x = sound (below 2 λ q. below 2 λ r. below 2 λ s. same (bitXor (q + 2 * r + 4 * s) 1) (1 - q + 2 * r + 4 * s))
+    refl
 
-turn-y : (q : ℕ) → q < 2 → (r : ℕ) → r < 2 → (s : ℕ) → s < 2 → bitXor (q + 2 * r + 4 * s) 2 ≡ q + 2 * (1 - r) + 4 * s
+turn-y : (q : ℕ) → q < 2 → (r : ℕ) → r < 2 → (s : ℕ) → s < 2
+    → bitXor (q + 2 * r + 4 * s) 2 ≡ q + 2 * (1 - r) + 4 * s
 turn-y = sound (below 2 λ q. below 2 λ r. below 2 λ s. same (bitXor (q + 2 * r + 4 * s) 2) (q + 2 * (1 - r) + 4 * s))
     refl
 
-turn-z : (q : ℕ) → q < 2 → (r : ℕ) → r < 2 → (s : ℕ) → s < 2 → bitXor (q + 2 * r + 4 * s) 4 ≡ q + 2 * r + 4 * (1 - s)
+turn-z : (q : ℕ) → q < 2 → (r : ℕ) → r < 2 → (s : ℕ) → s < 2
+    → bitXor (q + 2 * r + 4 * s) 4 ≡ q + 2 * r + 4 * (1 - s)
 turn-z = sound (below 2 λ q. below 2 λ r. below 2 λ s. same (bitXor (q + 2 * r + 4 * s) 4) (q + 2 * r + 4 * (1 - s)))
     refl
 
@@ -145,56 +148,49 @@ module _ (d : Direction) where
     pub seat-is : 4 * otherOctant octant k + k ≡ seatOf d x y z k
     pub after : sideAt (4 * octant + k) < sideAt (4 * otherOctant octant k + k)
 
+  -- where c is 0, either sign of it may be chosen: i in the first seat, j in the other
+  second-by :
+      (k x y z : ℕ) (c : ℤ) (at : ℕ → ℕ) (i j : ℕ)
+      → x < 2
+      → y < 2
+      → z < 2
+      → natAbs c ≡ 0
+      → 4 * octant + k ≡ at (signAt c i)
+      → seatOf d x y z k ≡ at (signAt c j)
+      → 4 * otherOctant octant k + k ≡ at j
+      → sideAt (at i) < sideAt (at j)
+      → Second k
+  second-by k x y z c at i j lx ly lz p h t u l = record {
+    x = x;
+    y = y;
+    z = z;
+    x-small = lx;
+    y-small = ly;
+    z-small = lz;
+    seat-is = u ∙ ap at (sym (zero-sign c j p)) ∙ sym t;
+    after = rw u (subst (λ (n : ℕ). sideAt n < sideAt (at j)) (sym (h ∙ ap at (zero-sign c i p))) l);
+  }
+
   second : (k : ℕ) → k < 4 → OnPlane k (natAbs (d .x)) (natAbs (d .y)) (natAbs (d .z)) → Second k
   second zero l p = absurd p
   second (suc zero) l p =
       let e : firstY d ≡ 1 - firstX d = zero-sign (d .y) (1 - firstX d) p in
-      let f : signAt (d .y) (firstX d) ≡ firstX d = zero-sign (d .y) (firstX d) p in
-      let t : bitXor octant 2 ≡ firstX d + 2 * (1 - firstY d) + 4 * firstZ d = turn-y _ hx _ hy _ hz in
-      let u : 4 * bitXor octant 2 + 1 ≡ seat (firstX d) (firstX d) (firstZ d) 1 = omega (arith, t, e, hx) in
-      record {
-        x = 0;
-        y = firstX d;
-        z = firstY d;
-        x-small = omega arith;
-        y-small = hx;
-        z-small = hy;
-        seat-is = u ∙ ap (λ (r : ℕ). seat (firstX d) r (firstZ d) 1) (sym f);
-        after = subst (λ (r : ℕ). sideAt (seat (firstX d) r (firstZ d) 1) < sideAt (4 * bitXor octant 2 + 1)) (sym e)
-            (rw u (first-y (firstX d) hx (firstZ d) hz));
-      }
+      let u : 4 * bitXor octant 2 + 1 ≡ seat (firstX d) (firstX d) (firstZ d) 1 =
+      omega (arith, turn-y _ hx _ hy _ hz, e, hx) in
+      second-by 1 0 (firstX d) (firstY d) (d .y) (λ r. seat (firstX d) r (firstZ d) 1) (1 - firstX d) (firstX d)
+      (omega arith) hx hy p refl refl u (first-y (firstX d) hx (firstZ d) hz)
   second (suc (suc zero)) l p =
       let e : firstZ d ≡ firstY d = zero-sign (d .z) (firstY d) p in
-      let f : signAt (d .z) (1 - firstY d) ≡ 1 - firstY d = zero-sign (d .z) (1 - firstY d) p in
-      let t : bitXor octant 4 ≡ firstX d + 2 * firstY d + 4 * (1 - firstZ d) = turn-z _ hx _ hy _ hz in
-      let u : 4 * bitXor octant 4 + 2 ≡ seat (firstX d) (firstY d) (1 - firstY d) 2 = omega (arith, t, e) in
-      record {
-        x = 0;
-        y = 1 - firstX d;
-        z = 1 - firstY d;
-        x-small = omega arith;
-        y-small = cy;
-        z-small = omega arith;
-        seat-is = u ∙ ap (λ (s : ℕ). seat (firstX d) (firstY d) s 2) (sym f);
-        after = subst (λ (s : ℕ). sideAt (seat (firstX d) (firstY d) s 2) < sideAt (4 * bitXor octant 4 + 2)) (sym e)
-            (rw u (first-z (firstX d) hx (firstY d) hy));
-      }
+      let u : 4 * bitXor octant 4 + 2 ≡ seat (firstX d) (firstY d) (1 - firstY d) 2 =
+      omega (arith, turn-z _ hx _ hy _ hz, e) in
+      second-by 2 0 (1 - firstX d) (1 - firstY d) (d .z) (λ s. seat (firstX d) (firstY d) s 2) (firstY d)
+      (1 - firstY d) (omega arith) cy (omega arith) p refl refl u (first-z (firstX d) hx (firstY d) hy)
   second (suc (suc (suc zero))) l p =
       let e : firstX d ≡ 0 = zero-sign (d .x) 0 p in
-      let f : signAt (d .x) 1 ≡ 1 = zero-sign (d .x) 1 p in
-      let t : bitXor octant 1 ≡ 1 - firstX d + 2 * firstY d + 4 * firstZ d = turn-x _ hx _ hy _ hz in
-      let u : 4 * bitXor octant 1 + 3 ≡ seat 1 (firstY d) (firstZ d) 3 = omega (arith, t, e) in
-      record {
-        x = 1;
-        y = 1 - firstX d;
-        z = firstY d;
-        x-small = omega arith;
-        y-small = cy;
-        z-small = hy;
-        seat-is = u ∙ ap (λ (q : ℕ). seat q (firstY d) (firstZ d) 3) (sym f);
-        after = subst (λ (q : ℕ). sideAt (seat q (firstY d) (firstZ d) 3) < sideAt (4 * bitXor octant 1 + 3)) (sym e)
-            (rw u (first-x (firstY d) hy (firstZ d) hz));
-      }
+      let u : 4 * bitXor octant 1 + 3 ≡ seat 1 (firstY d) (firstZ d) 3 =
+      omega (arith, turn-x _ hx _ hy _ hz, e) in
+      second-by 3 1 (1 - firstX d) (firstY d) (d .x) (λ q. seat q (firstY d) (firstZ d) 3) 0 1
+      (omega arith) cy hy p refl refl u (first-x (firstY d) hy (firstZ d) hz)
   second (suc (suc (suc (suc k)))) l p = absurd (omega arith)
 
   -- ---- the sides that hold it
@@ -215,9 +211,6 @@ module _ (d : Direction) where
     abbrev there : ℕ
     there = 4 * otherOctant octant k + k
 
-    nonzero : d ≡ zeroDirection → ⊥
-    nonzero e = some (rw e refl)
-
     pub here-side : IsSide (sideAt here)
     here-side = seat-side d 0 (1 - firstX d) (firstY d) (omega arith) cy hy k hk
 
@@ -226,7 +219,8 @@ module _ (d : Direction) where
         .y-small) (t .z-small) k hk)
 
     -- two roles of the three have numbers of at most 6 together
-    ordered : (x y z : ℕ) → x < 2 → y < 2 → z < 2 → firstAt (seatOf d x y z k) + secondAt (seatOf d x y z k) ≤ 6
+    ordered : (x y z : ℕ) → x < 2 → y < 2 → z < 2 → firstAt (seatOf d x y z k)
+        + secondAt (seatOf d x y z k) ≤ 6
     ordered x y z lx ly lz =
         omega (arith, seat-first d x y z lx ly lz k hk .1, seat-second d x y z lx ly lz k hk .1)
 
@@ -250,7 +244,8 @@ module _ (d : Direction) where
               .z) (t .z) (t .z-small),
         )
 
-    off-edge : (OnPlane k a b c → ⊥) → (i : ℕ) → OneToThree i → value d (sideAt here) i ≡ whole (pos 0) → ⊥
+    off-edge : (OnPlane k a b c → ⊥) → (i : ℕ) → OneToThree i → value d (sideAt here) i ≡ whole (pos 0)
+        → ⊥
     off-edge f i hi e = f (zero-role a b c some k (roleAt here i) role-small (sym (value-role d 0 (1 - firstX d)
         (firstY d) (omega arith) cy hy k hk i hi) ∙ e))
       where
@@ -277,14 +272,15 @@ module _ (d : Direction) where
       there-holds o = stands-holds p _ _ _ (there-stands o) z
 
       alone : (OnPlane k a b c → ⊥) → (t : ℕ) → IsSide t → SideHolds d t → sideAt here ≡ t
-      alone f = only-here d nonzero (sideAt here) here-side here-holds (off-edge f)
+      alone f = only-here d some (sideAt here) here-side here-holds (off-edge f)
 
-      two : (o : OnPlane k a b c) → (t : ℕ) → IsSide t → SideHolds d t → (sideAt here ≡ t) ⊎ (sideAt there ≡ t)
-      two o = only-two d nonzero (sideAt here) here-side here-holds (sideAt there) (there-side o) (there-holds o) (λ
+      two : (o : OnPlane k a b c) → (t : ℕ) → IsSide t → SideHolds d t
+          → (sideAt here ≡ t) ⊎ (sideAt there ≡ t)
+      two o = only-two d some (sideAt here) here-side here-holds (sideAt there) (there-side o) (there-holds o) (λ
           e. omega (arith, second k hk o .after))
 
       pub here-least : sideAt here ≡ leastFrom d 4
-      here-least = least-here d nonzero (sideAt here) here-side here-holds
+      here-least = least-here d some (sideAt here) here-side here-holds
           (λ t ht h. ⊎-elim
           (λ o. ⊎-elim (λ e. omega arith) (λ e. omega (arith, second k hk o .after)) (two o t ht h))
           (λ f. let e = alone f t ht h in omega arith)

@@ -5,7 +5,7 @@ use mathlib.Core.List.{[], _∷_}
 use Prim.Native.Nat.{ℕ, _+_, _-_, _*_, _^_, _≤_, _<_}
 use native.Mathlib.Nat.{mul-le-mul-right}
 use native.Mathlib.Omega.{arith}
-use lib.IntN.{ℤ, pos, natAbs, negℤ, _*ℤ_}
+use lib.IntN.{ℤ, pos, natAbs, negℤ, _+ℤ_, _*ℤ_}
 use Rattle.golden.specs.Numbers.{whole, Below, _+φ_, negφ}
 use Rattle.golden.specs.Order.{NonNeg}
 use Rattle.golden.specs.declared.Golden.{Golden}
@@ -22,21 +22,19 @@ use Rattle.seats.specs.Means.Roles.{Beside, Within}
 
 -- ---- how large
 
-size-u : (f : ℕ) (x : Golden) → natAbs (times f x .u) ≡ f * natAbs (x .u)
-size-u f x = ap (λ (y : Golden). natAbs (y .u)) (scale (pos f) x) ∙ abs-mul (pos f) (x .u)
-
-size-v : (f : ℕ) (x : Golden) → natAbs (times f x .v) ≡ f * natAbs (x .v)
-size-v f x = ap (λ (y : Golden). natAbs (y .v)) (scale (pos f) x) ∙ abs-mul (pos f) (x .v)
-
-pub product-small : (f : ℕ) (x : ℤ) → f ≤ 16777217 → natAbs x ≤ 8000000000 → natAbs (pos f *ℤ x) < 2 ^ 58
+pub product-small : (f : ℕ) (x : ℤ) → f ≤ 16777217 → natAbs x ≤ 8000000000
+    → natAbs (pos f *ℤ x) < 2 ^ 58
 product-small f x l h = omega (arith, abs-mul (pos f) x, mul-le-mul-right (natAbs x) l)
 
 -- a multiple
 pub wide : (f : ℕ) (x r : Golden) → f ≤ 16777216 → Below 8000000001 x → r ≡ times f x → Below (2 ^ 61) r
-wide f x r l h e = rw e (record {
-  u-below = omega (arith, size-u f x, mul-le-mul-right (natAbs (x .u)) l, h .u-below);
-  v-below = omega (arith, size-v f x, mul-le-mul-right (natAbs (x .v)) l, h .v-below);
+wide f x r l h e = rw (e ∙ scale (pos f) x) (record {
+  u-below = part (x .u) (h .u-below);
+  v-below = part (x .v) (h .v-below);
 })
+  where
+    part : (y : ℤ) → natAbs y < 8000000001 → natAbs (pos f *ℤ y) < 2 ^ 61
+    part y k = omega (arith, product-small f y (omega arith) (omega (arith, k)))
 
 -- what 2^24·x has over g·s
 pub over-small :
@@ -46,28 +44,23 @@ pub over-small :
     → r ≡ times 16777216 x -φ times g s
     → Below (2 ^ 57) r
 unfolding _+φ_ negφ
-over-small g s x r l h e = record {
-  u-below = omega (
-    arith,
-    h .u-beside,
-    size-u g s,
-    size-u 16777216 x,
-    mul-le-mul-right (natAbs (s .u)) l,
-    abs-add (times 16777216 x .u) (negℤ (times g s .u)),
-    abs-neg (times g s .u),
-    ap (λ (y : Golden). natAbs (y .u)) e,
-  );
-  v-below = omega (
-    arith,
-    h .v-beside,
-    size-v g s,
-    size-v 16777216 x,
-    mul-le-mul-right (natAbs (s .v)) l,
-    abs-add (times 16777216 x .v) (negℤ (times g s .v)),
-    abs-neg (times g s .v),
-    ap (λ (y : Golden). natAbs (y .v)) e,
-  );
-}
+over-small g s x r l h e = rw (e ∙ λ i. scale (pos 16777216) x i -φ scale (pos g) s i) (record {
+  u-below = part (s .u) (x .u) (h .u-beside);
+  v-below = part (s .v) (x .v) (h .v-beside);
+})
+  where
+    part :
+        (y z : ℤ)
+        → natAbs z + natAbs y ≤ 8000000000
+        → natAbs (pos 16777216 *ℤ z +ℤ negℤ (pos g *ℤ y)) < 2 ^ 57
+    part y z k = omega (
+      arith,
+      abs-mul (pos g) y,
+      abs-mul (pos 16777216) z,
+      mul-le-mul-right (natAbs y) l,
+      abs-add (pos 16777216 *ℤ z) (negℤ (pos g *ℤ y)),
+      abs-neg (pos g *ℤ y),
+    )
 
 pub both-zero : (x : Golden) → natAbs (x .u) + natAbs (x .v) ≡ 0 → x ≡ whole (pos 0)
 both-zero x e = φ-path (zero-abs (x .u) (omega arith)) (zero-abs (x .v) (omega arith))
@@ -92,7 +85,8 @@ module _ (g : ℕ) (s x r : Golden) (e : r ≡ times 16777216 x -φ times g s) w
       refl,
       record {
         above = λ t. let a = antisym r n (nonneg-by
-            (solve φ-ring (px ∷ times g s ∷ []) (var 1 ⊝ var 0) (⊖ (var 0 ⊝ var 1)) refl ∙ ap negφ (sym e)) t) in
+            (solve φ-ring (px ∷ times g s ∷ []) (var 1 ⊝ var 0) (⊖ (var 0 ⊝ var 1)) refl
+            ∙ ap negφ (sym e)) t) in
             z (φ-path (a .0) (a .1));
         below = h .below;
       },
@@ -119,7 +113,8 @@ module _ (g : ℕ) (s x r : Golden) (e : r ≡ times 16777216 x -φ times g s) w
             refl,
             record {
               above = λ t. h .above (nonneg-by
-                  (solve φ-ring (times k s ∷ s ∷ px ∷ []) (var 0 ⊝ var 2) (var 0 ⊕ lit 1 ⊗ var 1 ⊝ var 1 ⊝ var 2) refl
+                  (solve φ-ring (times k s ∷ s ∷ px ∷ []) (var 0 ⊝ var 2)
+                  (var 0 ⊕ lit 1 ⊗ var 1 ⊝ var 1 ⊝ var 2) refl
                   ∙ ap (λ (y : Golden). y -φ s -φ px) (sym q)) t);
               below = λ t. n (nonneg-by
                   (solve φ-ring (times k s ∷ s ∷ px ∷ [])

@@ -2,7 +2,7 @@
 -- Assumes nothing.
 use mathlib.Core.Path.{_≡_, refl, sym, _∙_, ap}
 use mathlib.Core.List.{[], _∷_}
-use Prim.Native.Nat.{ℕ, zero, suc, _+_, _*_, _^_, _≤_}
+use Prim.Native.Nat.{ℕ, zero, suc, _+_, _*_, _^_, _≤_, _<_}
 use native.Mathlib.Omega.{arith}
 use lib.IntN.{pos, negℤ, natAbs, _+ℤ_, +ℤ-idl}
 use Rattle.golden.specs.Numbers.{golden, whole, Below, _+φ_, negφ, _*φ_}
@@ -17,6 +17,7 @@ use Rattle.seats.specs.Means.Roles.{Beside, Bound}
 use Rattle.filing.specs.declared.Determinants.{Determinants}
 use Rattle.shares.specs.Means.Shares.{times}
 use Rattle.seats.specs.Means.Octants.{phi, lean, outer, double, rolesOf}
+use Rattle.seats.proofs.PackedTables.{from-three}
 
 abbrev w : ℕ → Golden
 w n = whole (pos n)
@@ -34,9 +35,11 @@ lean-is a b c =
     (var 0 ⊕ var 1 ⊕ var 2 ⊝ (lit 0 ⊕ var 3))
     (var 0 ⊕ (var 1 ⊕ var 2) ⊝ var 3) refl
 
-pub opposite-is : (a b c : ℕ) → golden (pos 0) (pos a) +φ negφ (golden (pos (b + c)) (pos c)) ≡ negφ (lean a b c)
+pub opposite-is : (a b c : ℕ) → golden (pos 0) (pos a) +φ negφ (golden (pos (b + c)) (pos c))
+    ≡ negφ (lean a b c)
 opposite-is a b c =
-    solve φ-ring (golden (pos 0) (pos a) ∷ golden (pos (b + c)) (pos c) ∷ []) (var 0 ⊝ var 1) (⊖ (var 1 ⊝ var 0)) refl
+    solve φ-ring (golden (pos 0) (pos a) ∷ golden (pos (b + c)) (pos c) ∷ []) (var 0 ⊝ var 1)
+    (⊖ (var 1 ⊝ var 0)) refl
     ∙ ap negφ (lean-is a b c)
 
 pub outer-is : (a b c : ℕ) → golden (pos c) (pos (a + c)) +φ negφ (golden (pos b) (pos 0)) ≡ outer a b c
@@ -51,7 +54,8 @@ double-is b =
     let e : 2 * b ≡ b + b = omega arith in
     parts 0 (2 * b)
     ∙ ap (λ (z : Golden). w 0 +φ z *φ phi) (ap w e ∙ of-addφ (pos b) (pos b))
-    ∙ solve φ-ring (w b ∷ phi ∷ []) (lit 0 ⊕ (var 0 ⊕ var 0) ⊗ var 1) (var 0 ⊗ var 1 ⊕ var 0 ⊗ var 1) refl
+    ∙ solve φ-ring (w b ∷ phi ∷ []) (lit 0 ⊕ (var 0 ⊕ var 0) ⊗ var 1) (var 0 ⊗ var 1 ⊕ var 0 ⊗ var 1)
+    refl
 
 -- ---- by the kind
 
@@ -75,16 +79,26 @@ pub roles-rest :
     → (k ≡ 2 → ⊥)
     → D ≡ rolesOf 3 a b c
     → D ≡ rolesOf k a b c
-roles-rest zero a b c D n0 n1 n2 h = absurd (n0 refl)
-roles-rest (suc zero) a b c D n0 n1 n2 h = absurd (n1 refl)
-roles-rest (suc (suc zero)) a b c D n0 n1 n2 h = absurd (n2 refl)
-roles-rest (suc (suc (suc k))) a b c D n0 n1 n2 h = h
+roles-rest k a b c D n0 n1 n2 h = from-three (λ j. D ≡ rolesOf j a b c) (λ j. h) k n0 n1 n2
 
 -- ---- how large they are
 
-pub parts-small :
-    (u v : ℕ) (r : Golden) → u ≤ 2000000000 → v ≤ 2000000000 → r ≡ golden (pos u) (pos v) → Below (2 ^ 61) r
+parts-small :
+    (u v : ℕ) (r : Golden) → u ≤ 2000000000 → v ≤ 2000000000 → r ≡ golden (pos u) (pos v)
+    → Below (2 ^ 61) r
 parts-small u v r k l e = rw e (record { u-below = omega arith; v-below = omega arith })
+
+-- one less another, each by its parts
+module _ {u v m n : ℕ} {x y : Golden} (p : x ≡ golden (pos u) (pos v)) (q : y ≡ golden (pos m) (pos n)) where
+  pub both-small : u + m ≤ 2000000000 → v + n ≤ 2000000000 → Below (2 ^ 61) x × Below (2 ^ 61) y
+  both-small k l = (parts-small u v x (omega arith) (omega arith) p, parts-small m n y (omega arith) (omega arith) q)
+
+  pub less-is :
+      {r z : Golden}
+      → r ≡ x +φ negφ y
+      → golden (pos u) (pos v) +φ negφ (golden (pos m) (pos n)) ≡ z
+      → r ≡ z
+  less-is e t = e ∙ (λ i. p i +φ negφ (q i)) ∙ t
 
 -- a difference
 difference-small :
@@ -94,10 +108,10 @@ difference-small :
     → v + n ≤ 2000000000
     → Below 2000000001 x
 unfolding _+φ_ negφ
-difference-small u v m n x e k l = record {
-  u-below = omega (arith, abs-add (pos u) (negℤ (pos m)), abs-neg (pos m), ap (λ (z : Golden). natAbs (z .u)) e);
-  v-below = omega (arith, abs-add (pos v) (negℤ (pos n)), abs-neg (pos n), ap (λ (z : Golden). natAbs (z .v)) e);
-}
+difference-small u v m n x e k l = rw (sym e) (record { u-below = part u m k; v-below = part v n l })
+  where
+    part : (i j : ℕ) → i + j ≤ 2000000000 → natAbs (pos i +ℤ negℤ (pos j)) < 2000000001
+    part i j h = omega (arith, abs-add (pos i) (negℤ (pos j)), abs-neg (pos j))
 
 pub wider : (m n : ℕ) (x : Golden) → m ≤ n → Below m x → Below n x
 wider m n x l h = record { u-below = omega (arith, h .u-below); v-below = omega (arith, h .v-below) }
@@ -172,28 +186,31 @@ roles-small (suc (suc (suc k))) a b c ka kb kc = beyond-small c a b kc ka kb
 
 -- ---- where they are 0
 
--- a difference from 0
-from-zero : (m n : ℕ) → m ≡ 0 → pos m +ℤ negℤ (pos n) ≡ pos 0 → n ≡ 0
-from-zero m n z e =
-    sym (abs-neg (pos n))
-    ∙ ap natAbs (sym (+ℤ-idl (negℤ (pos n))) ∙ ap (λ (k : ℕ). pos k +ℤ negℤ (pos n)) (sym z) ∙ e)
+-- a sum, and a difference
+parts-zero :
+    (m n c : ℕ)
+    → n + c + 0 ≡ 0
+    → pos c +ℤ negℤ (pos m) ≡ pos 0
+    → (m ≡ 0) × (n ≡ 0) × (c ≡ 0)
+parts-zero m n c s e =
+    let z : c ≡ 0 = omega arith in
+    let o : negℤ (pos m) ≡ pos 0 =
+    sym (+ℤ-idl (negℤ (pos m))) ∙ ap (λ (k : ℕ). pos k +ℤ negℤ (pos m)) (sym z) ∙ e in
+    (sym (abs-neg (pos m)) ∙ ap natAbs o, omega arith, z)
 
 module _ (a b c : ℕ) where
   pub lean-zero : lean a b c ≡ whole (pos 0) → (a ≡ 0) × (b ≡ 0) × (c ≡ 0)
   unfolding _+φ_ negφ
   lean-zero e =
       let q = lean-is a b c ∙ e in
-      let u : b + c + 0 ≡ 0 = ap (λ (x : Golden). natAbs (x .u)) q in
-      let z : c ≡ 0 = omega arith in
-      (from-zero c a z (ap (λ (x : Golden). x .v) q), omega arith, z)
+      parts-zero a b c (ap (λ (x : Golden). natAbs (x .u)) q) (ap (λ (x : Golden). x .v) q)
 
   pub outer-zero : outer a b c ≡ whole (pos 0) → (a ≡ 0) × (b ≡ 0) × (c ≡ 0)
   unfolding _+φ_ negφ
   outer-zero e =
       let q = outer-is a b c ∙ e in
-      let v : a + c + 0 ≡ 0 = ap (λ (x : Golden). natAbs (x .v)) q in
-      let z : c ≡ 0 = omega arith in
-      (omega arith, from-zero c b z (ap (λ (x : Golden). x .u) q), z)
+      let z = parts-zero b a c (ap (λ (x : Golden). natAbs (x .v)) q) (ap (λ (x : Golden). x .u) q) in
+      (z .1, z .0, z .2)
 
   pub opposite-zero : negφ (lean a b c) ≡ whole (pos 0) → (a ≡ 0) × (b ≡ 0) × (c ≡ 0)
   unfolding negφ

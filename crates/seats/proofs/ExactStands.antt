@@ -1,5 +1,5 @@
 -- Where a direction stands exactly: its shares in the roles of the kind that holds it. Assumes nothing.
-use mathlib.Core.Path.{_≡_, refl, sym, _∙_, ap, subst}
+use mathlib.Core.Path.{_≡_, refl, sym, ap, subst}
 use mathlib.Core.List.{[], _∷_}
 use Prim.Native.Nat.{ℕ, suc, _+_, _-_, _*_, _≤_, _<_}
 use native.Mathlib.Omega.{arith}
@@ -15,20 +15,20 @@ use Rattle.filing.specs.Holding.{three}
 use Rattle.filing.specs.Means.Descent.{total}
 use Rattle.filing.specs.declared.Determinants.{Determinants}
 use Rattle.filing.specs.declared.Direction.{Direction}
-use Rattle.shares.specs.Means.Shares.{times, Share, Stands, floors, gaps, scaledBy}
+use Rattle.shares.specs.Means.Shares.{Share, Stands, floors, gaps, scaledBy}
 use Rattle.shares.proofs.ShareLaws.{times-nonneg}
 use Rattle.shares.proofs.Standing.{stands-unscaled}
 use Rattle.seats.specs.declared.dividing.Divided.{Divided}
+use Rattle.seats.specs.declared.dividing.Quotient.{Quotient}
 use Rattle.seats.specs.declared.placing.Roles.{Roles}
 use Rattle.seats.specs.declared.placing.Sizes.{Sizes}
-use Rattle.seats.specs.Means.Near.{Near, Divides}
-use Rattle.seats.specs.Means.Octants.{roleOf, rolesOf}
+use Rattle.seats.specs.Means.Near.{Near, Division, Divides}
+use Rattle.seats.specs.Means.Octants.{rolesOf}
 use Rattle.seats.specs.Means.Roles.{AreScaled, AreHeld, Measured}
 use Rattle.seats.specs.Means.Finding.{IsSome}
 use Rattle.seats.proofs.WholeNumbers.{w, w-order}
 use Rattle.seats.proofs.Margins.{near-total}
-use Rattle.seats.proofs.SeatPlanes.{role-times}
-use Rattle.seats.proofs.Seating.{roles-large}
+use Rattle.seats.proofs.Seating.{role-scaled, roles-large}
 
 module _ (d : Direction) (some : IsSome d) (n : Sizes) (s : AreScaled (natAbs (d .x)) (natAbs (d .y)) (natAbs (d .z))
     n) (r : Roles) (h : AreHeld (n .a) (n .b) (n .c) r) (q : Divided)
@@ -52,61 +52,48 @@ module _ (d : Direction) (some : IsSome d) (n : Sizes) (s : AreScaled (natAbs (d
   third-is : r .r3 ≡ q .sum - r .r1 - r .r2
   third-is = omega (arith, e)
 
-  pub measured-1 : Measured (D .d1) (total D) (q .q1) (q .sum)
-  measured-1 = record {
-    some = h .n1;
-    number = r .r1;
-    near = h .roles .near1;
+  measured :
+      (x : Golden) (number : ℕ) (p : Quotient)
+      → NonNeg x
+      → Near 4 x number
+      → Division (q .sum) number p
+      → number ≤ q .sum
+      → Measured x (total D) p (q .sum)
+  measured x number p some near divided fits = record {
+    some = some;
+    number = number;
+    near = near;
     near-sum = near-sum;
-    divided = v .e1;
-    fits = omega (arith, e);
+    divided = divided;
+    fits = fits;
     small = small;
     large = omega (arith, large);
   }
 
-  pub measured-2 : Measured (D .d2) (total D) (q .q2) (q .sum)
-  measured-2 = record {
-    some = h .n2;
-    number = r .r2;
-    near = h .roles .near2;
-    near-sum = near-sum;
-    divided = v .e2;
-    fits = omega (arith, e);
-    small = small;
-    large = omega (arith, large);
-  }
-
-  pub measured-3 : Measured (D .d3) (total D) (q .q3) (q .sum)
-  measured-3 = record {
-    some = h .n3;
-    number = q .sum - r .r1 - r .r2;
-    near = subst (Near 4 (D .d3)) third-is (h .roles .near3);
-    near-sum = near-sum;
-    divided = v .e3;
-    fits = omega arith;
-    small = small;
-    large = omega (arith, large);
-  }
+  pub all-measured :
+      Measured (D .d1) (total D) (q .q1) (q .sum)
+      × Measured (D .d2) (total D) (q .q2) (q .sum)
+      × Measured (D .d3) (total D) (q .q3) (q .sum)
+  all-measured = (
+    measured (D .d1) (r .r1) (q .q1) (h .n1) (h .roles .near1) (v .e1) (omega (arith, e)),
+    measured (D .d2) (r .r2) (q .q2) (h .n2) (h .roles .near2) (v .e2) (omega (arith, e)),
+    measured (D .d3) _ (q .q3) (h .n3) (subst (Near 4 (D .d3)) third-is (h .roles .near3)) (v .e3) (omega arith),
+  )
 
   -- the sum is above 0: the number near to it is
   more : NonNeg (negφ (total D)) → ⊥
   more t =
       let l : q .sum ≤ 12 = w-order 12 (q .sum) (nonneg-by
-      (solve φ-ring (w 524288 ∷ total D ∷ w 12 ∷ w (q .sum) ∷ []) ((var 0 ⊗ var 1 ⊕ var 2 ⊝ var 3) ⊕ var 0 ⊗ ⊖ (var
+      (solve φ-ring (w 524288 ∷ total D ∷ w 12 ∷ w (q .sum) ∷ [])
+      ((var 0 ⊗ var 1 ⊕ var 2 ⊝ var 3) ⊕ var 0 ⊗ ⊖ (var
       1)) (var 2 ⊝ var 3) refl)
       (add-nonneg _ _ (near-sum .low) (times-nonneg 524288 _ t))) in
       omega (arith, large)
 
   roles-scaled : D ≡ scaledBy (suc (s .scale)) (rolesOf (r .kind) (natAbs (d .x)) (natAbs (d .y)) (natAbs (d .z)))
-  roles-scaled = sym λ i. three (role 1 i) (role 2 i) (role 3 i)
-    where
-      role :
-          (j : ℕ)
-          → times (suc (s .scale)) (roleOf (r .kind) j (natAbs (d .x)) (natAbs (d .y)) (natAbs (d .z))) ≡ roleOf (r
-          .kind) j (n .a) (n .b) (n .c)
-      role j =
-          role-times (suc (s .scale)) (natAbs (d .x)) (natAbs (d .y)) (natAbs (d .z)) (r .kind) j
-          ∙ λ i. roleOf (r .kind) j (sym (s .a-is) i) (sym (s .b-is) i) (sym (s .c-is) i)
+  roles-scaled =
+      let role = role-scaled _ _ _ n s (r .kind) in
+      sym λ i. three (role 1 i) (role 2 i) (role 3 i)
 
   pub stands-exactly :
       (f1 f2 f3 g1 g2 g3 : ℕ)

@@ -72,12 +72,14 @@ module _ (d : Direction) (some : IsSome d) (t : Stand) (h : StandsAt d t) where
       × (floorsAt here (t .floors) .f3 ≤ 16777216)
   corner-floors = stands-floors 16777216 _ _ _ here-at (omega arith)
 
-  pub corner-gaps : (gapsAt here (t .gaps) .g1 ≤ 1) × (gapsAt here (t .gaps) .g2 ≤ 1) × (gapsAt here (t .gaps) .g3 ≤ 1)
+  pub corner-gaps : (gapsAt here (t .gaps) .g1 ≤ 1) × (gapsAt here (t .gaps) .g2 ≤ 1)
+      × (gapsAt here (t .gaps) .g3 ≤ 1)
   corner-gaps = stands-gaps 16777216 _ _ _ here-at
 
   -- ---- the least word
 
-  module _ (n v : ℕ) (l : n ≤ 24) (p : v ≡ leastPath n 16777216 (floorsAt here (t .floors)) (gapsAt here (t .gaps))
+  module _ (n v : ℕ) (l : n ≤ 24) (p : v ≡ leastPath n 16777216 (floorsAt here (t .floors))
+      (gapsAt here (t .gaps))
       0) where
     pub exact-low : v < 2 ^ (2 * n)
     exact-low = path-low n l _ _ _ here-at v p
@@ -134,7 +136,8 @@ module _ (d : Direction) (some : IsSome d) (t : Stand) (h : StandsAt d t) where
     there-at = rw e (there-stands d some k (h .kind-small) 16777216 (omega arith) (t .floors) (t .gaps) (h .stands)
         (on-edge z))
 
-    pub all-both : (n : ℕ) → n ≤ 24 → allWords d n 4 ≡ seatWords n here (t .floors) (t .gaps) ++ seatWords n there (t
+    pub all-both : (n : ℕ) → n ≤ 24 → allWords d n 4 ≡ seatWords n here (t .floors) (t .gaps) ++ seatWords n
+        there (t
         .floors) (t .gaps)
     all-both n l =
         let w : allWords d n 4 ≡ sideWords d n (sideAt here) ++ sideWords d n (sideAt there) =

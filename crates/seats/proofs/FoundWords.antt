@@ -1,27 +1,27 @@
 -- Where a direction stands strictly inside a side, no other side holds it, and one word of each degree. Assumes
 -- nothing.
-use mathlib.Core.Path.{_≡_, refl, sym, _∙_, ap, subst}
+use mathlib.Core.Path.{_≡_, sym, _∙_, ap, subst}
 use mathlib.Core.List.{[], _∷_}
 use Prim.Native.Nat.{ℕ, suc, _+_, _-_, _*_, _^_, _≤_, _<_}
 use native.Mathlib.Omega.{arith}
 use lib.IntN.{pos}
 use Rattle.golden.specs.Numbers.{whole}
+use Rattle.golden.specs.declared.Golden.{Golden}
 use Rattle.words.specs.Words.{wordOf}
 use Rattle.net.specs.Sides.{OneToThree, IsSide}
 use Rattle.net.specs.Division.{each}
 use Rattle.net.proofs.Table.{three as each-of-three}
-use Rattle.filing.specs.Means.Descent.{descent, holders}
+use Rattle.filing.specs.Means.Descent.{descent, holders, total}
 use Rattle.filing.specs.Means.Lists.{sideWords, allWords}
 use Rattle.filing.specs.Means.Sides.{sideDets, leastFrom}
 use Rattle.filing.specs.declared.Determinants.{Determinants}
 use Rattle.filing.specs.declared.Direction.{Direction}
 use Rattle.filing.proofs.LeastSide.{found-code, descent-low}
-use Rattle.filing.proofs.NoVertex.{zeroDirection}
 use Rattle.filing.proofs.SideUnits.{value, side-dets}
 use Rattle.filing.proofs.TwoSides.{SideHolds}
 use Rattle.shares.specs.declared.Floors.{Floors}
 use Rattle.shares.specs.declared.Gaps.{Gaps}
-use Rattle.shares.specs.Means.Shares.{Stands, floors, strict}
+use Rattle.shares.specs.Means.Shares.{Share, Stands, floors, strict}
 use Rattle.shares.specs.Means.Paths.{leastPath, paths}
 use Rattle.shares.proofs.ShareLaws.{zero-share}
 use Rattle.shares.proofs.Standing.{stands-holds, stands-unscaled}
@@ -36,9 +36,6 @@ use Rattle.seats.specs.Means.Finding.{IsSome, FoundIn, OneWord}
 use Rattle.seats.proofs.HeldSides.{least-here, only-here}
 use Rattle.seats.proofs.Margins.{strict-stands}
 use Rattle.seats.proofs.SideLists.{one-side}
-
-pub nonzero : (d : Direction) → IsSome d → d ≡ zeroDirection → ⊥
-nonzero d some e = some (rw e refl)
 
 -- ---- what is found
 
@@ -58,7 +55,8 @@ found-in d t q h e v a = record {
 
 -- ---- the path, at every degree
 
-module _ (n : ℕ) (l : n ≤ 24) (F : Floors) (G : Gaps) (D : Determinants) (i : Stands 16777216 F G D) (v : ℕ) (e : v ≡
+module _ (n : ℕ) (l : n ≤ 24) (F : Floors) (G : Gaps) (D : Determinants) (i : Stands 16777216 F G D) (v : ℕ)
+    (e : v ≡
     leastPath n 16777216 F G 0) where
   pub path-is : v ≡ descent n D 0
   path-is = e ∙ least-24 n F G D 0 l i
@@ -80,18 +78,23 @@ module _ (d : Direction) (some : IsSome d) (r : Found) (h : FoundIn d r) where
       let i = h .stands in
       let e = side-dets d s (h .side-is) in
       each-of-three (λ k. value d s k ≡ whole (pos 0) → ⊥)
-      (λ z. let t = zero-share _ _ _ _ _ (i .s1) (i .some) (i .more) (ap (λ (D : Determinants). D .d1) e ∙ z) in
-      omega (arith, t .1))
-      (λ z. let t = zero-share _ _ _ _ _ (i .s2) (i .some) (i .more) (ap (λ (D : Determinants). D .d2) e ∙ z) in
-      omega (arith, t .1))
-      (λ z. let t = zero-share _ _ _ _ _ (i .s3) (i .some) (i .more) (ap (λ (D : Determinants). D .d3) e ∙ z) in
-      omega (arith, t .1))
+      (share-some (i .s1) (ap (λ (D : Determinants). D .d1) e))
+      (share-some (i .s2) (ap (λ (D : Determinants). D .d2) e))
+      (share-some (i .s3) (ap (λ (D : Determinants). D .d3) e))
+    where
+      share-some :
+          {f : ℕ} {x y : Golden}
+          → Share 16777216 f 1 (total (sideDets d s)) x
+          → x ≡ y
+          → y ≡ whole (pos 0)
+          → ⊥
+      share-some q e z = omega (arith, zero-share _ _ _ _ _ q (h .stands .some) (h .stands .more) (e ∙ z) .1)
 
   only : (t : ℕ) → IsSide t → SideHolds d t → s ≡ t
-  only = only-here d (nonzero d some) s (h .side-is) here off
+  only = only-here d some s (h .side-is) here off
 
   least : s ≡ leastFrom d 4
-  least = least-here d (nonzero d some) s (h .side-is) here (λ t ht g. let e = only t ht g in omega arith)
+  least = least-here d some s (h .side-is) here (λ t ht g. let e = only t ht g in omega arith)
 
   pub found-word : (n v w : ℕ) → n ≤ 24 → v ≡ leastPath n 16777216 (r .floors) strict 0 → w ≡ wordOf s n v
       → OneWord n d w

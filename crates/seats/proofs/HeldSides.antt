@@ -15,6 +15,7 @@ use Rattle.filing.proofs.NoVertex.{zeroDirection, two-planes}
 use Rattle.filing.proofs.SideUnits.{value}
 use Rattle.filing.proofs.Tests.{First, first-is, test-holds, holds-test}
 use Rattle.filing.proofs.TwoSides.{SideHolds, two-sides}
+use Rattle.seats.specs.Means.Finding.{IsSome}
 
 pub equal-or-not : (s t : ℕ) → (s ≡ t) ⊎ (s ≡ t → ⊥)
 equal-or-not s t = ⊎-elim
@@ -22,7 +23,10 @@ equal-or-not s t = ⊎-elim
     (λ l. inr (λ e. omega arith))
     (le-or-lt s t)
 
-module _ (d : Direction) (nonzero : d ≡ zeroDirection → ⊥) (s : ℕ) (hs : IsSide s) (here : SideHolds d s) where
+nonzero : (d : Direction) → IsSome d → d ≡ zeroDirection → ⊥
+nonzero d some e = some (rw e refl)
+
+module _ (d : Direction) (some : IsSome d) (s : ℕ) (hs : IsSide s) (here : SideHolds d s) where
   pub least-here : ((t : ℕ) → IsSide t → SideHolds d t → s ≤ t) → s ≡ leastFrom d 4
   unfolding leastFrom
   least-here before =
@@ -35,20 +39,22 @@ module _ (d : Direction) (nonzero : d ≡ zeroDirection → ⊥) (s : ℕ) (hs :
       omega arith
 
   -- where it lies on no edge, no other side holds it
-  pub only-here : ((k : ℕ) → OneToThree k → value d s k ≡ whole (pos 0) → ⊥) → (t : ℕ) → IsSide t → SideHolds d t
+  pub only-here : ((k : ℕ) → OneToThree k → value d s k ≡ whole (pos 0) → ⊥) → (t : ℕ) → IsSide t
+      → SideHolds d t
       → s ≡ t
   only-here off t ht h = ⊎-elim (λ e. e)
-      (λ f. let b = two-sides d nonzero s hs here t ht h f in absurd (off (b .0) (b .1) (b .3)))
+      (λ f. let b = two-sides d (nonzero d some) s hs here t ht h f in absurd (off (b .0) (b .1) (b .3)))
       (equal-or-not s t)
 
   -- where another side holds it, no third does: a direction lies on one edge at most
   pub only-two :
-      (t : ℕ) → IsSide t → SideHolds d t → (s ≡ t → ⊥) → (u : ℕ) → IsSide u → SideHolds d u → (s ≡ u) ⊎ (t ≡ u)
+      (t : ℕ) → IsSide t → SideHolds d t → (s ≡ t → ⊥) → (u : ℕ) → IsSide u → SideHolds d u
+      → (s ≡ u) ⊎ (t ≡ u)
   only-two t ht h f u hu g = ⊎-elim inl
       (λ n.
-      let b = two-sides d nonzero s hs here t ht h f in
-      let c = two-sides d nonzero s hs here u hu g n in
+      let b = two-sides d (nonzero d some) s hs here t ht h f in
+      let c = two-sides d (nonzero d some) s hs here u hu g n in
       ⊎-elim (λ e. inr (b .2 ∙ ap (seamSide s) e ∙ sym (c .2)))
-      (λ m. absurd (nonzero (two-planes d s hs (b .0) (b .1) (c .0) (c .1) m (b .3) (c .3))))
+      (λ m. absurd (nonzero d some (two-planes d s hs (b .0) (b .1) (c .0) (c .1) m (b .3) (c .3))))
       (equal-or-not (b .0) (c .0)))
       (equal-or-not s u)

@@ -3,7 +3,6 @@ use mathlib.Core.Path.{_≡_, refl, sym, _∙_, ap}
 use mathlib.Core.Logic.{inr, ⊎-elim}
 use mathlib.Core.List.{[], _∷_}
 use Prim.Native.Nat.{ℕ, _+_, _-_, _*_, _≤_, _<_}
-use native.Mathlib.Nat.{mul-le-mul-right}
 use native.Mathlib.Omega.{arith}
 use lib.IntN.{pos}
 use Rattle.golden.specs.Numbers.{whole, _+φ_, negφ, _*φ_}
@@ -14,7 +13,6 @@ use Rattle.golden.proofs.RingSolver.{solve}
 use Rattle.golden.proofs.GoldenRing.{φ-ring}
 use Rattle.golden.proofs.GoldenOrder.{nonneg-by, add-nonneg, total as either}
 use Rattle.golden.proofs.GoldenProduct.{whole-nonneg}
-use Rattle.golden.proofs.IntegerOrder.{le-or-lt}
 use Rattle.filing.specs.Holding.{_-φ_}
 use Rattle.filing.specs.Means.Descent.{total}
 use Rattle.filing.specs.declared.Determinants.{Determinants}
@@ -25,6 +23,7 @@ use Rattle.seats.specs.declared.dividing.Divided.{Divided}
 use Rattle.seats.specs.Means.Near.{Near, AllNear, Division, Divides, Away}
 use Rattle.seats.specs.Means.Roles.{Within, Measured}
 use Rattle.seats.proofs.WholeNumbers.{w, w-sum as sum, w-product as product, not-over}
+use Rattle.seats.proofs.Divisions.{parts-under, parts-most}
 
 -- ---- one determinant and the sum
 
@@ -43,7 +42,8 @@ module _ (S D : Golden) (s x f : ℕ) (small : f ≤ 16777217) (n : Near 4 D x) 
       → NonNeg (times f S -φ times g S -φ times 16777216 D)
       → ⊥
   margin-over g k l t =
-      let a : w (f * s + f * 12 + (g * 12 + 67108864)) ≡ w f *φ w s +φ w f *φ w 12 +φ (w g *φ w 12 +φ Q *φ w 4) =
+      let a : w (f * s + f * 12 + (g * 12 + 67108864)) ≡ w f *φ w s +φ w f *φ w 12 +φ (w g *φ w 12 +φ Q *φ w 4)
+      =
       sum (f * s + f * 12) (g * 12 + 67108864)
       ∙ λ i. (sum (f * s) (f * 12) ∙ λ j. product f s j +φ product f 12 j) i
       +φ (sum (g * 12) 67108864 ∙ λ j. product g 12 j +φ product 16777216 4 j) i in
@@ -51,9 +51,11 @@ module _ (S D : Golden) (s x f : ℕ) (small : f ≤ 16777217) (n : Near 4 D x) 
       sum (16777216 * x) (g * s) ∙ λ i. product 16777216 x i +φ product g s i in
       not-over (f * s + f * 12 + (g * 12 + 67108864)) (16777216 * x + g * s) (omega arith) (nonneg-by
       (solve φ-ring (P ∷ Q ∷ w f ∷ w g ∷ w s ∷ w x ∷ w 12 ∷ w 4 ∷ S ∷ D ∷ [])
-      (var 0 ⊗ (var 2 ⊗ var 8 ⊝ var 3 ⊗ var 8 ⊝ var 1 ⊗ var 9) ⊕ var 2 ⊗ (var 4 ⊕ var 6 ⊝ var 0 ⊗ var 8)
+      (var 0 ⊗ (var 2 ⊗ var 8 ⊝ var 3 ⊗ var 8 ⊝ var 1 ⊗ var 9) ⊕ var 2 ⊗
+      (var 4 ⊕ var 6 ⊝ var 0 ⊗ var 8)
       ⊕ var 3 ⊗ (var 0 ⊗ var 8 ⊕ var 6 ⊝ var 4) ⊕ var 1 ⊗ (var 0 ⊗ var 9 ⊕ var 7 ⊝ var 5))
-      (var 2 ⊗ var 4 ⊕ var 2 ⊗ var 6 ⊕ (var 3 ⊗ var 6 ⊕ var 1 ⊗ var 7) ⊝ (var 1 ⊗ var 5 ⊕ var 3 ⊗ var 4)) refl
+      (var 2 ⊗ var 4 ⊕ var 2 ⊗ var 6 ⊕ (var 3 ⊗ var 6 ⊕ var 1 ⊗ var 7) ⊝
+      (var 1 ⊗ var 5 ⊕ var 3 ⊗ var 4)) refl
       ∙ λ i. sym a i -φ sym b i)
       (add-nonneg _ _
       (add-nonneg _ _
@@ -63,7 +65,8 @@ module _ (S D : Golden) (s x f : ℕ) (small : f ≤ 16777217) (n : Near 4 D x) 
 
   pub margin-above : f * s + 536870912 ≤ 16777216 * x → NonNeg (times f S -φ times 16777216 D) → ⊥
   margin-above l t = margin-over 0 (omega arith) (omega arith) (nonneg-by
-      (solve φ-ring (times f S ∷ S ∷ times 16777216 D ∷ []) (var 0 ⊝ var 2) (var 0 ⊝ lit 0 ⊗ var 1 ⊝ var 2) refl)
+      (solve φ-ring (times f S ∷ S ∷ times 16777216 D ∷ []) (var 0 ⊝ var 2)
+      (var 0 ⊝ lit 0 ⊗ var 1 ⊝ var 2) refl)
       t)
 
   pub margin-less : f * s + 536870912 ≤ 16777216 * x + s → NonNeg (times f S -φ S -φ times 16777216 D) → ⊥
@@ -107,13 +110,15 @@ module _ (D : Determinants) (x1 x2 x3 : ℕ) (n : AllNear D x1 x2 x3) where
   near-total = record {
     low = nonneg-by
         (solve φ-ring (w 524288 ∷ w 4 ∷ w x1 ∷ w x2 ∷ w x3 ∷ D .d1 ∷ D .d2 ∷ D .d3 ∷ [])
-        ((var 0 ⊗ var 5 ⊕ var 1 ⊝ var 2) ⊕ (var 0 ⊗ var 6 ⊕ var 1 ⊝ var 3) ⊕ (var 0 ⊗ var 7 ⊕ var 1 ⊝ var 4))
+        ((var 0 ⊗ var 5 ⊕ var 1 ⊝ var 2) ⊕ (var 0 ⊗ var 6 ⊕ var 1 ⊝ var 3) ⊕
+        (var 0 ⊗ var 7 ⊕ var 1 ⊝ var 4))
         (var 0 ⊗ (var 5 ⊕ var 6 ⊕ var 7) ⊕ (var 1 ⊕ var 1 ⊕ var 1) ⊝ (var 2 ⊕ var 3 ⊕ var 4)) refl
         ∙ λ i. times 524288 (total D) +φ sym twelve i -φ sym all-w i)
         (add-nonneg _ _ (add-nonneg _ _ (n .near1 .low) (n .near2 .low)) (n .near3 .low));
     high = nonneg-by
         (solve φ-ring (w 524288 ∷ w 4 ∷ w x1 ∷ w x2 ∷ w x3 ∷ D .d1 ∷ D .d2 ∷ D .d3 ∷ [])
-        ((var 2 ⊕ var 1 ⊝ var 0 ⊗ var 5) ⊕ (var 3 ⊕ var 1 ⊝ var 0 ⊗ var 6) ⊕ (var 4 ⊕ var 1 ⊝ var 0 ⊗ var 7))
+        ((var 2 ⊕ var 1 ⊝ var 0 ⊗ var 5) ⊕ (var 3 ⊕ var 1 ⊝ var 0 ⊗ var 6) ⊕
+        (var 4 ⊕ var 1 ⊝ var 0 ⊗ var 7))
         ((var 2 ⊕ var 3 ⊕ var 4) ⊕ (var 1 ⊕ var 1 ⊕ var 1) ⊝ var 0 ⊗ (var 5 ⊕ var 6 ⊕ var 7)) refl
         ∙ λ i. sym all-w i +φ sym twelve i -φ times 524288 (total D))
         (add-nonneg _ _ (add-nonneg _ _ (n .near1 .high) (n .near2 .high)) (n .near3 .high));
@@ -122,17 +127,12 @@ module _ (D : Determinants) (x1 x2 x3 : ℕ) (n : AllNear D x1 x2 x3) where
 -- ---- parts by division
 
 module _ (s x : ℕ) (q : Quotient) (l : x ≤ s) (some : 0 < s) (d : Division s x q) where
-  -- not more than all parts
   whole-most : q .whole ≤ 16777216
-  whole-most =
-      ⊎-elim (λ a. a) (λ a. absurd (omega (arith, d .parts, mul-le-mul-right s a))) (le-or-lt (q .whole) 16777216)
+  whole-most = parts-most (q .whole) (q .rest) x s l some (d .parts)
 
-  -- and all only without a rest
+  -- all only without a rest
   next-most : 0 < q .rest → q .whole + 1 ≤ 16777216
-  next-most r = ⊎-elim
-      (λ a. absurd (omega (arith, d .parts, mul-le-mul-right s a)))
-      (λ a. omega arith)
-      (le-or-lt 16777216 (q .whole))
+  next-most r = omega (arith, parts-under 16777216 (q .whole) (q .rest) s r (omega (arith, d .parts)))
 
   -- by a rest that is away from both ends
   clear : (S D : Golden) → Near 4 D x → Near 12 S s → Away s (q .rest) → Between 16777216 (q .whole) S D
@@ -148,7 +148,8 @@ module _ (s x : ℕ) (q : Quotient) (l : x ≤ s) (some : 0 < s) (d : Division s
 -- what lies strictly between two multiples one apart has a sum above 0
 between-more : (p f : ℕ) (s x : Golden) → Between p f s x → NonNeg (negφ s) → ⊥
 between-more p f s x b t = b .below (nonneg-by
-    (solve φ-ring (times p x ∷ times f s ∷ s ∷ []) ((var 0 ⊝ var 1) ⊕ ⊖ (var 2)) (var 0 ⊝ (var 1 ⊕ var 2)) refl)
+    (solve φ-ring (times p x ∷ times f s ∷ s ∷ []) ((var 0 ⊝ var 1) ⊕ ⊖ (var 2))
+    (var 0 ⊝ (var 1 ⊕ var 2)) refl)
     (add-nonneg _ _ (under-le (times f s) (times p x) (b .above)) t))
 
 pub strict-stands :
@@ -193,25 +194,27 @@ module _ (x s : Golden) (q : Quotient) (sum : ℕ) (m : Measured x s q sum) wher
   pub measured-clear : Away sum (q .rest) → Share 16777216 (q .whole) 1 s x
   measured-clear a = inr (refl, clear sum (m .number) q (m .fits) above (m .divided) s x (m .near) (m .near-sum) a)
 
+  -- g parts that are near enough
+  measured-within :
+      (g : ℕ)
+      → g ≤ 16777217
+      → g * sum + 536870912 ≤ 16777216 * m .number + sum
+      → 16777216 * m .number + 536870912 ≤ g * sum + sum
+      → Within g s x
+  measured-within g f a b = record {
+    some = m .some;
+    above = margin-less s x sum (m .number) g f (m .near) (m .near-sum) a;
+    below = margin-below s x sum (m .number) g f (m .near) (m .near-sum) b;
+  }
+
   pub measured-low : q .rest < 536870912 → Within (q .whole) s x
   measured-low l =
-      let n = m .number in
-      let f : q .whole ≤ 16777217 = omega (arith, measured-whole) in
       let e = m .divided .parts in
-      record {
-        some = m .some;
-        above = margin-less s x sum n (q .whole) f (m .near) (m .near-sum) (omega (arith, e, m .large));
-        below = margin-below s x sum n (q .whole) f (m .near) (m .near-sum) (omega (arith, e, m .large));
-      }
+      measured-within (q .whole) (omega (arith, measured-whole)) (omega (arith, e, m .large))
+      (omega (arith, e, m .large))
 
   pub measured-high : 536870912 ≤ q .rest → Within (q .whole + 1) s x
   measured-high l =
-      let n = m .number in
-      let g = q .whole + 1 in
-      let f : g ≤ 16777217 = omega (arith, measured-next l) in
       let d = m .divided in
-      record {
-        some = m .some;
-        above = margin-less s x sum n g f (m .near) (m .near-sum) (omega (arith, d .parts));
-        below = margin-below s x sum n g f (m .near) (m .near-sum) (omega (arith, d .parts, d .left, m .large));
-      }
+      measured-within (q .whole + 1) (omega (arith, measured-next l)) (omega (arith, d .parts))
+      (omega (arith, d .parts, d .left, m .large))

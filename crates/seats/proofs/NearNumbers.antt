@@ -123,6 +123,13 @@ apart-by x e m n p l h = record {
 }
 
 -- two such errors, subtracted or added
+less-low : (a c A C : ℕ) → NearPhi a A → NearPhi c C → NonNeg (w 4 +φ ((part c -φ w C) -φ (part a -φ w A)))
+less-low a c A C na nc = nonneg-by
+    (solve φ-ring (part a ∷ part c ∷ w A ∷ w C ∷ [])
+    ((var 1 ⊝ var 3) ⊕ (var 2 ⊕ lit 2 ⊝ var 0) ⊕ lit 2)
+    (lit 4 ⊕ ((var 1 ⊝ var 3) ⊝ (var 0 ⊝ var 2))) refl)
+    (add-nonneg _ _ (add-nonneg _ _ (nc .low) (na .high)) (whole-nonneg 2))
+
 module _ (a c A C : ℕ) (na : NearPhi a A) (nc : NearPhi c C) where
   abbrev dA : Golden
   dA = part a -φ w A
@@ -138,17 +145,11 @@ module _ (a c A C : ℕ) (na : NearPhi a A) (nc : NearPhi c C) where
       (var 0 ⊗ (var 2 ⊕ var 3) ⊕ var 6 ⊕ ((var 0 ⊗ (var 3 ⊗ var 4) ⊝ var 6) ⊝ (var 0 ⊗ (var 1 ⊗ var 4) ⊝ var 5))) refl
       ∙ ap (λ (z : Golden). z +φ (dC -φ dA)) (sym
       (w-sum (524288 * (b + c)) C
-      ∙ ap (λ (z : Golden). z +φ w C) (w-product 524288 (b + c) ∙ ap (λ (z : Golden). w 524288 *φ z) (w-sum b c)))))
-      (nonneg-by
-      (solve φ-ring (part a ∷ part c ∷ w A ∷ w C ∷ [])
-      ((var 1 ⊝ var 3) ⊕ (var 2 ⊕ lit 2 ⊝ var 0) ⊕ lit 2)
-      (lit 4 ⊕ ((var 1 ⊝ var 3) ⊝ (var 0 ⊝ var 2))) refl)
-      (add-nonneg _ _ (add-nonneg _ _ (nc .low) (na .high)) (whole-nonneg 2)))
-      (nonneg-by
-      (solve φ-ring (part a ∷ part c ∷ w A ∷ w C ∷ [])
-      ((var 0 ⊝ var 2) ⊕ (var 3 ⊕ lit 2 ⊝ var 1) ⊕ lit 2)
-      (lit 4 ⊝ ((var 1 ⊝ var 3) ⊝ (var 0 ⊝ var 2))) refl)
-      (add-nonneg _ _ (add-nonneg _ _ (na .low) (nc .high)) (whole-nonneg 2)))
+      ∙ ap (λ (z : Golden). z +φ w C) (w-product 524288 (b + c)
+      ∙ ap (λ (z : Golden). w 524288 *φ z) (w-sum b c)))))
+      (less-low a c A C na nc)
+      (nonneg-by (solve φ-ring (dA ∷ dC ∷ []) (lit 4 ⊕ (var 0 ⊝ var 1)) (lit 4 ⊝ (var 1 ⊝ var 0)) refl)
+      (less-low c a C A nc na))
 
   sum-low : NonNeg (w 4 +φ (dA +φ dC))
   sum-low = add-nonneg _ _ (whole-nonneg 4) (add-nonneg _ _ (na .low) (nc .low))
@@ -169,7 +170,8 @@ module _ (a c A C : ℕ) (na : NearPhi a A) (nc : NearPhi c C) where
       (var 0 ⊗ var 3 ⊕ var 5 ⊕ var 6 ⊕ ((var 0 ⊗ (var 1 ⊗ var 4) ⊝ var 5) ⊕ (var 0 ⊗ (var 3 ⊗ var 4) ⊝ var 6))) refl
       ∙ ap (λ (z : Golden). z +φ (dA +φ dC)) (sym
       (w-sum (524288 * c + A) C
-      ∙ ap (λ (z : Golden). z +φ w C) (w-sum (524288 * c) A ∙ ap (λ (z : Golden). z +φ w A) (w-product 524288 c)))))
+      ∙ ap (λ (z : Golden). z +φ w C) (w-sum (524288 * c) A
+      ∙ ap (λ (z : Golden). z +φ w A) (w-product 524288 c)))))
       sum-low sum-high
 
 -- 2^19·2bφ

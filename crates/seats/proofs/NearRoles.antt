@@ -64,7 +64,8 @@ module _ (a b c : ℕ) (f : NonNeg (lean a b c) → ⊥) where
       let h : NonNeg (w c +φ times c phi) = add-nonneg _ _ (whole-nonneg c) (phi-nonneg c) in
       nonneg-by
       (solve φ-ring (w a ∷ w b ∷ w c ∷ phi ∷ [])
-      ((var 2 ⊕ var 2 ⊗ var 3) ⊕ (var 2 ⊕ var 2 ⊗ var 3) ⊕ ⊖ (var 1 ⊕ (var 2 ⊕ var 2 ⊗ var 3) ⊝ var 0 ⊗ var 3))
+      ((var 2 ⊕ var 2 ⊗ var 3) ⊕ (var 2 ⊕ var 2 ⊗ var 3) ⊕ ⊖
+      (var 1 ⊕ (var 2 ⊕ var 2 ⊗ var 3) ⊝ var 0 ⊗ var 3))
       (var 0 ⊗ var 3 ⊕ (var 2 ⊕ var 2 ⊗ var 3) ⊝ var 1) refl)
       (add-nonneg _ _ (add-nonneg _ _ h h) second-nonneg)
 
@@ -178,7 +179,7 @@ turned-2 a b c = record { kind-small = omega arith; sum = omega arith; first = r
 pub turned-3 : (a b c : ℕ) → Turned 3 a b c c a b
 turned-3 a b c = record { kind-small = omega arith; sum = omega arith; first = refl; second = refl; third = refl }
 
-module _ (k a b c x y z : ℕ) (t : Turned k a b c x y z) (r : Roles) (e : r .kind ≡ k) (h : AreBeyond x y z r) where
+module _ {k a b c x y z : ℕ} (t : Turned k a b c x y z) (r : Roles) (e : r .kind ≡ k) (h : AreBeyond x y z r) where
   pub roles-beyond : AreRoles a b c r
   roles-beyond = record {
     kind-small = rw e (t .kind-small);

@@ -17,9 +17,19 @@ pub packed-second : (k : ℕ) → k < 32 → 16690016339199190942 / 2 ^ (2 * k) 
 unfolding secondAt
 packed-second = sound (below 32 λ k. same (16690016339199190942 / 2 ^ (2 * k) % 4) (secondAt k)) refl
 
--- the row of every kind from 3 up
+-- what holds from 3 up holds for a kind that is none of the first three
+pub from-three :
+    (P : ℕ → Type 0)
+    → ((k : ℕ) → P (suc (suc (suc k))))
+    → (k : ℕ)
+    → (k ≡ 0 → ⊥)
+    → (k ≡ 1 → ⊥)
+    → (k ≡ 2 → ⊥)
+    → P k
+from-three P h zero n0 n1 n2 = absurd (n0 refl)
+from-three P h (suc zero) n0 n1 n2 = absurd (n1 refl)
+from-three P h (suc (suc zero)) n0 n1 n2 = absurd (n2 refl)
+from-three P h (suc (suc (suc k))) n0 n1 n2 = h k
+
 pub row-last : (k : ℕ) → (k ≡ 0 → ⊥) → (k ≡ 1 → ⊥) → (k ≡ 2 → ⊥) → 492254663300 ≡ rowOf k
-row-last zero f g h = absurd (f refl)
-row-last (suc zero) f g h = absurd (g refl)
-row-last (suc (suc zero)) f g h = absurd (h refl)
-row-last (suc (suc (suc k))) f g h = refl
+row-last = from-three (λ k. 492254663300 ≡ rowOf k) (λ k. refl)

@@ -53,12 +53,14 @@ planeOf (suc (suc (suc k))) i = turned (turned (beyondPlane i))
 module _ (a b c : ℕ) where
   dot-turned : (v : Coordinates) → dot3 b c a v ≡ dot3 a b c (turned v)
   dot-turned v =
-      solve φ-ring (w a ∷ w b ∷ w c ∷ v .x ∷ v .y ∷ v .z ∷ []) (var 1 ⊗ var 3 ⊕ var 2 ⊗ var 4 ⊕ var 0 ⊗ var 5)
+      solve φ-ring (w a ∷ w b ∷ w c ∷ v .x ∷ v .y ∷ v .z ∷ [])
+      (var 1 ⊗ var 3 ⊕ var 2 ⊗ var 4 ⊕ var 0 ⊗ var 5)
       (var 0 ⊗ var 5 ⊕ var 1 ⊗ var 3 ⊕ var 2 ⊗ var 4) refl
 
   dot-opposite : (v : Coordinates) → negφ (dot3 a b c v) ≡ dot3 a b c (opposite v)
   dot-opposite v =
-      solve φ-ring (w a ∷ w b ∷ w c ∷ v .x ∷ v .y ∷ v .z ∷ []) (⊖ (var 0 ⊗ var 3 ⊕ var 1 ⊗ var 4 ⊕ var 2 ⊗ var 5))
+      solve φ-ring (w a ∷ w b ∷ w c ∷ v .x ∷ v .y ∷ v .z ∷ [])
+      (⊖ (var 0 ⊗ var 3 ⊕ var 1 ⊗ var 4 ⊕ var 2 ⊗ var 5))
       (var 0 ⊗ ⊖ (var 3) ⊕ var 1 ⊗ ⊖ (var 4) ⊕ var 2 ⊗ ⊖ (var 5)) refl
 
   dot-lean : lean a b c ≡ dot3 a b c leanPlane
@@ -73,7 +75,8 @@ module _ (a b c : ℕ) where
 
   dot-double : double b ≡ dot3 a b c (beyondPlane 3)
   dot-double =
-      solve φ-ring (w a ∷ w b ∷ w c ∷ phi ∷ []) (var 1 ⊗ var 3 ⊕ var 1 ⊗ var 3) (var 0 ⊗ lit 0 ⊕ var 1 ⊗ (var 3 ⊕ var
+      solve φ-ring (w a ∷ w b ∷ w c ∷ phi ∷ []) (var 1 ⊗ var 3 ⊕ var 1 ⊗ var 3)
+      (var 0 ⊗ lit 0 ⊕ var 1 ⊗ (var 3 ⊕ var
       3) ⊕ var 2 ⊗ lit 0) refl
 
   dot-beyond : (i : ℕ) → nth i (outer a b c) (negφ (lean a b c)) (double b) ≡ dot3 a b c (beyondPlane i)
@@ -101,7 +104,8 @@ dot-times m a b c v =
     solve φ-ring (w m ∷ w a ∷ w b ∷ w c ∷ v .x ∷ v .y ∷ v .z ∷ [])
     (var 0 ⊗ (var 1 ⊗ var 4 ⊕ var 2 ⊗ var 5 ⊕ var 3 ⊗ var 6))
     ((var 0 ⊗ var 1) ⊗ var 4 ⊕ (var 0 ⊗ var 2) ⊗ var 5 ⊕ (var 0 ⊗ var 3) ⊗ var 6) refl
-    ∙ λ i. sym (of-mulφ (pos m) (pos a)) i *φ v .x +φ sym (of-mulφ (pos m) (pos b)) i *φ v .y +φ sym (of-mulφ (pos m)
+    ∙ λ i. sym (of-mulφ (pos m) (pos a)) i *φ v .x +φ sym (of-mulφ (pos m) (pos b)) i *φ v .y +φ sym
+    (of-mulφ (pos m)
     (pos c)) i *φ v .z
 
 pub role-times : (m a b c k i : ℕ) → times m (roleOf k i a b c) ≡ roleOf k i (m * a) (m * b) (m * c)
@@ -135,7 +139,8 @@ sign-small (negsuc n) z l = omega arith
 abbrev pub roleAt : (j i : ℕ) → ℕ
 roleAt j i = nth i (firstAt j) (secondAt j) (thirdAt j)
 
-planes-are : (q : ℕ) → q < 2 → (r : ℕ) → r < 2 → (s : ℕ) → s < 2 → (k : ℕ) → k < 4 → (i : ℕ) → OneToThree i
+planes-are : (q : ℕ) → q < 2 → (r : ℕ) → r < 2 → (s : ℕ) → s < 2 → (k : ℕ) → k < 4 → (i : ℕ)
+    → OneToThree i
     → plane (sideAt (seat q r s k)) i ≡ signedBy q r s (planeOf k (roleAt (seat q r s k) i))
 unfolding sideAt firstAt secondAt cornerVertex _+φ_ negφ _*φ_
 planes-are q hq r hr s hs k hk i hi =
@@ -148,7 +153,8 @@ IsSeat j =
     (4 ≤ sideAt j) × ((sideAt j < 24) × ((1 ≤ firstAt j) × ((firstAt j ≤ 3) × ((1 ≤ secondAt j) × ((secondAt j ≤ 3)
     × ((firstAt j ≡ secondAt j → ⊥)))))))
 
-seats-are : (q : ℕ) → q < 2 → (r : ℕ) → r < 2 → (s : ℕ) → s < 2 → (k : ℕ) → k < 4 → IsSeat (seat q r s k)
+seats-are : (q : ℕ) → q < 2 → (r : ℕ) → r < 2 → (s : ℕ) → s < 2 → (k : ℕ) → k < 4
+    → IsSeat (seat q r s k)
 unfolding sideAt firstAt secondAt
 seats-are = sound (below 2 λ q. below 2 λ r. below 2 λ s. below 4 λ k. most 4 (sideAt (seat q r s k)) and (less
     (sideAt (seat q r s k)) 24 and (most 1 (firstAt (seat q r s k)) and (most (firstAt (seat q r s k)) 3 and (most 1

@@ -26,6 +26,33 @@ use Rattle.seats.proofs.SeatPlanes.{seat-first, seat-second, seat-apart
 
 -- ---- three in another order
 
+-- what holds in each of the six orders
+pub orders :
+    (P : (i j k : ℕ) → Type 0)
+    → P 1 2 3
+    → P 1 3 2
+    → P 2 1 3
+    → P 2 3 1
+    → P 3 1 2
+    → P 3 2 1
+    → (i : ℕ)
+    → OneToThree i
+    → (j : ℕ)
+    → OneToThree j
+    → (i ≡ j → ⊥)
+    → P i j (6 - i - j)
+orders P a b c d e f = each-of-three (λ i. (j : ℕ) → OneToThree j → (i ≡ j → ⊥) → P i j (6 - i - j))
+    (each-of-three (λ j. (1 ≡ j → ⊥) → P 1 j (5 - j)) (λ n. absurd (n refl)) (λ n. a) (λ n. b))
+    (each-of-three (λ j. (2 ≡ j → ⊥) → P 2 j (4 - j)) (λ n. c) (λ n. absurd (n refl)) (λ n. d))
+    (each-of-three (λ j. (3 ≡ j → ⊥) → P 3 j (3 - j)) (λ n. e) (λ n. f) (λ n. absurd (n refl)))
+
+third-of : (i : ℕ) → OneToThree i → (j : ℕ) → OneToThree j → (i ≡ j → ⊥) → OneToThree (6 - i - j)
+third-of =
+    let one : OneToThree 1 = (omega arith, omega arith) in
+    let two : OneToThree 2 = (omega arith, omega arith) in
+    let last : OneToThree 3 = (omega arith, omega arith) in
+    orders (λ i j k. OneToThree k) last two last one two one
+
 module _ (p : ℕ) (F : Floors) (G : Gaps) (x y z : Golden) (i : Stands p F G (three x y z)) where
   abbrev Ordered : (j k l : ℕ) → Type 0
   Ordered j k l =
@@ -33,56 +60,45 @@ module _ (p : ℕ) (F : Floors) (G : Gaps) (x y z : Golden) (i : Stands p F G (t
       (gaps (nth j (G .g1) (G .g2) (G .g3)) (nth k (G .g1) (G .g2) (G .g3)) (nth l (G .g1) (G .g2) (G .g3)))
       (three (nth j x y z) (nth k x y z) (nth l x y z))
 
-  share-of : (j : ℕ) → OneToThree j → Share p (nth j (F .f1) (F .f2) (F .f3)) (nth j (G .g1) (G .g2) (G .g3)) (x +φ y
-      +φ z) (nth j x y z)
-  share-of =
-      each-of-three (λ j. Share p (nth j (F .f1) (F .f2) (F .f3)) (nth j (G .g1) (G .g2) (G .g3)) (x +φ y +φ z) (nth
-      j x y z)) (i .s1) (i .s2) (i .s3)
+  share-of :
+      (s : Golden)
+      → x +φ y +φ z ≡ s
+      → (j : ℕ)
+      → OneToThree j
+      → Share p (nth j (F .f1) (F .f2) (F .f3)) (nth j (G .g1) (G .g2) (G .g3)) s (nth j x y z)
+  share-of s e =
+      each-of-three (λ j. Share p (nth j (F .f1) (F .f2) (F .f3)) (nth j (G .g1) (G .g2) (G .g3)) s (nth j x y z))
+      (rw e at (i .s1)) (rw e at (i .s2)) (rw e at (i .s3))
 
   in-order : (j k l : ℕ) → OneToThree j → OneToThree k → OneToThree l
       → x +φ y +φ z ≡ nth j x y z +φ nth k x y z +φ nth l x y z → Ordered j k l
   in-order j k l hj hk hl e = record {
     some = subst NonNeg e (i .some);
     more = subst (λ (s : Golden). NonNeg (negφ s) → ⊥) e (i .more);
-    s1 = subst (λ (s : Golden). Share p (nth j (F .f1) (F .f2) (F .f3)) (nth j (G .g1) (G .g2) (G .g3)) s (nth j x y
-        z)) e (share-of j hj);
-    s2 = subst (λ (s : Golden). Share p (nth k (F .f1) (F .f2) (F .f3)) (nth k (G .g1) (G .g2) (G .g3)) s (nth k x y
-        z)) e (share-of k hk);
-    s3 = subst (λ (s : Golden). Share p (nth l (F .f1) (F .f2) (F .f3)) (nth l (G .g1) (G .g2) (G .g3)) s (nth l x y
-        z)) e (share-of l hl);
+    s1 = share-of _ e j hj;
+    s2 = share-of _ e k hk;
+    s3 = share-of _ e l hl;
   }
 
   -- the three in any order have the same sum
   sums : (j : ℕ) → OneToThree j → (k : ℕ) → OneToThree k → (j ≡ k → ⊥)
       → x +φ y +φ z ≡ nth j x y z +φ nth k x y z +φ nth (6 - j - k) x y z
-  sums = each-of-three (λ j. (k : ℕ) → OneToThree k → (j ≡ k → ⊥)
-      → x +φ y +φ z ≡ nth j x y z +φ nth k x y z +φ nth (6 - j - k) x y z)
-      (each-of-three (λ k. (1 ≡ k → ⊥) → x +φ y +φ z ≡ x +φ nth k x y z +φ nth (5 - k) x y z)
-      (λ f. absurd (f refl)) (λ f. refl) (λ f. solve φ-ring (x ∷ y ∷ z ∷ []) (var 0 ⊕ var 1 ⊕ var 2) (var 0 ⊕ var 2 ⊕
-      var 1) refl))
-      (each-of-three (λ k. (2 ≡ k → ⊥) → x +φ y +φ z ≡ y +φ nth k x y z +φ nth (4 - k) x y z)
-      (λ f. solve φ-ring (x ∷ y ∷ z ∷ []) (var 0 ⊕ var 1 ⊕ var 2) (var 1 ⊕ var 0 ⊕ var 2) refl) (λ f. absurd (f
-      refl)) (λ f. solve φ-ring (x ∷ y ∷ z ∷ []) (var 0 ⊕ var 1 ⊕ var 2) (var 1 ⊕ var 2 ⊕ var 0) refl))
-      (each-of-three (λ k. (3 ≡ k → ⊥) → x +φ y +φ z ≡ z +φ nth k x y z +φ nth (3 - k) x y z)
-      (λ f. solve φ-ring (x ∷ y ∷ z ∷ []) (var 0 ⊕ var 1 ⊕ var 2) (var 2 ⊕ var 0 ⊕ var 1) refl) (λ f. solve φ-ring (x
-      ∷ y ∷ z ∷ []) (var 0 ⊕ var 1 ⊕ var 2) (var 2 ⊕ var 1 ⊕ var 0) refl) (λ f. absurd (f refl)))
+  sums = orders (λ j k l. x +φ y +φ z ≡ nth j x y z +φ nth k x y z +φ nth l x y z)
+      refl
+      (solve φ-ring (x ∷ y ∷ z ∷ []) (var 0 ⊕ var 1 ⊕ var 2) (var 0 ⊕ var 2 ⊕ var 1) refl)
+      (solve φ-ring (x ∷ y ∷ z ∷ []) (var 0 ⊕ var 1 ⊕ var 2) (var 1 ⊕ var 0 ⊕ var 2) refl)
+      (solve φ-ring (x ∷ y ∷ z ∷ []) (var 0 ⊕ var 1 ⊕ var 2) (var 1 ⊕ var 2 ⊕ var 0) refl)
+      (solve φ-ring (x ∷ y ∷ z ∷ []) (var 0 ⊕ var 1 ⊕ var 2) (var 2 ⊕ var 0 ⊕ var 1) refl)
+      (solve φ-ring (x ∷ y ∷ z ∷ []) (var 0 ⊕ var 1 ⊕ var 2) (var 2 ⊕ var 1 ⊕ var 0) refl)
 
-  pub ordered : (j : ℕ) → OneToThree j → (k : ℕ) → OneToThree k → (j ≡ k → ⊥) → Ordered j k (6 - j - k)
-  ordered j hj k hk f = in-order j k (6 - j - k) hj hk (
-    omega (arith, hj .0, hj .1, hk .0, hk .1, f),
-    omega (
-      arith,
-      hj .0,
-      hj .1,
-      hk .0,
-      hk .1,
-      f,
-    ),
-  ) (sums j hj k hk f)
+  pub ordered : (j : ℕ) → OneToThree j → (k : ℕ) → OneToThree k → (j ≡ k → ⊥)
+      → Ordered j k (6 - j - k)
+  ordered j hj k hk f = in-order j k (6 - j - k) hj hk (third-of j hj k hk f) (sums j hj k hk f)
 
 -- ---- in a seat
 
-role-nth : (k a b c j : ℕ) → OneToThree j → nth j (roleOf k 1 a b c) (roleOf k 2 a b c) (roleOf k 3 a b c) ≡ roleOf k
+role-nth : (k a b c j : ℕ) → OneToThree j → nth j (roleOf k 1 a b c) (roleOf k 2 a b c) (roleOf k 3 a b c)
+    ≡ roleOf k
     j a b c
 role-nth k a b c = each-of-three (λ j. nth j (roleOf k 1 a b c) (roleOf k 2 a b c) (roleOf k 3 a b c) ≡ roleOf k j a
     b c) refl refl refl
@@ -93,10 +109,8 @@ module _ (d : Direction) (x y z : ℕ) (hx : x < 2) (hy : y < 2) (hz : z < 2) (k
 
   pub seat-third : OneToThree (thirdAt here)
   seat-third =
-      let i = seat-first d x y z hx hy hz k hk in
-      let j = seat-second d x y z hx hy hz k hk in
-      let f = seat-apart d x y z hx hy hz k hk in
-      (omega (arith, i .0, i .1, j .0, j .1, f), omega (arith, i .0, i .1, j .0, j .1, f))
+      third-of _ (seat-first d x y z hx hy hz k hk) _ (seat-second d x y z hx hy hz k hk)
+      (seat-apart d x y z hx hy hz k hk)
 
   pub seat-stands :
       (p : ℕ) (F : Floors) (G : Gaps)

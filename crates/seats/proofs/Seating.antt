@@ -1,6 +1,6 @@
 -- A direction in the seat of its signs: numbers near to the roles are near to the determinants of the side. Assumes
 -- nothing.
-use mathlib.Core.Path.{_≡_, refl, sym, _∙_, ap, subst}
+use mathlib.Core.Path.{_≡_, sym, _∙_, ap, subst}
 use Prim.Native.Nat.{ℕ, suc, _+_, _-_, _*_, _≤_, _<_}
 use native.Mathlib.Omega.{arith}
 use lib.IntN.{natAbs}
@@ -18,19 +18,20 @@ use Rattle.seats.specs.Means.Octants.{roleOf, seatOf, sideAt, firstAt, s
 use Rattle.seats.specs.Means.Roles.{AreScaled, AreRoles, IsSeated, seatedAt}
 use Rattle.seats.specs.Means.Finding.{IsSome}
 use Rattle.seats.proofs.SeatPlanes.{role-times, seat-side, seat-first, seat-second, seat-apart, seat-dets}
-use Rattle.seats.proofs.SeatShares.{seat-third}
+use Rattle.seats.proofs.SeatShares.{orders, seat-third}
 
 -- three numbers in another order have the same sum
 same-sum : (x y z i : ℕ) → OneToThree i → (j : ℕ) → OneToThree j → (i ≡ j → ⊥)
     → nth i x y z + nth j x y z + nth (6 - i - j) x y z ≡ x + y + z
-same-sum x y z = each-of-three (λ i. (j : ℕ) → OneToThree j → (i ≡ j → ⊥)
-    → nth i x y z + nth j x y z + nth (6 - i - j) x y z ≡ x + y + z)
-    (each-of-three (λ j. (1 ≡ j → ⊥) → x + nth j x y z + nth (5 - j) x y z ≡ x + y + z) (λ f. absurd (f refl)) (λ f.
-    omega arith) (λ f. omega arith))
-    (each-of-three (λ j. (2 ≡ j → ⊥) → y + nth j x y z + nth (4 - j) x y z ≡ x + y + z) (λ f. omega arith) (λ f.
-    absurd (f refl)) (λ f. omega arith))
-    (each-of-three (λ j. (3 ≡ j → ⊥) → z + nth j x y z + nth (3 - j) x y z ≡ x + y + z) (λ f. omega arith) (λ f.
-    omega arith) (λ f. absurd (f refl)))
+same-sum x y z = orders (λ i j k. nth i x y z + nth j x y z + nth k x y z ≡ x + y + z)
+    (omega arith) (omega arith) (omega arith) (omega arith) (omega arith) (omega arith)
+
+-- the roles of sizes some times as large
+pub role-scaled :
+    (a b c : ℕ) (n : Sizes) (s : AreScaled a b c n) (k j : ℕ)
+    → times (suc (s .scale)) (roleOf k j a b c) ≡ roleOf k j (n .a) (n .b) (n .c)
+role-scaled a b c n s k j =
+    role-times (suc (s .scale)) a b c k j ∙ λ i. roleOf k j (sym (s .a-is) i) (sym (s .b-is) i) (sym (s .c-is) i)
 
 module _ (d : Direction) (some : IsSome d) (n : Sizes) (s : AreScaled (natAbs (d .x)) (natAbs (d .y)) (natAbs (d .z))
     n) (r : Roles) (h : AreRoles (n .a) (n .b) (n .c) r) where
@@ -56,9 +57,7 @@ module _ (d : Direction) (some : IsSome d) (n : Sizes) (s : AreScaled (natAbs (d
   near-at : (j : ℕ) → OneToThree j → Near 4 (times (suc (s .scale)) (roleOf k j (natAbs (d .x)) (natAbs (d .y))
       (natAbs (d .z)))) (at j)
   near-at j hj =
-      subst (λ (x : Golden). Near 4 x (at j)) (sym (role-times (suc (s .scale)) (natAbs (d .x)) (natAbs (d .y))
-      (natAbs (d .z)) k j
-      ∙ λ i. roleOf k j (sym (s .a-is) i) (sym (s .b-is) i) (sym (s .c-is) i)))
+      subst (λ (x : Golden). Near 4 x (at j)) (sym (role-scaled _ _ _ n s k j))
       (each-of-three (λ j. Near 4 (roleOf k j (n .a) (n .b) (n .c)) (at j)) (h .near1) (h .near2) (h .near3) j hj)
 
   all-near : AllNear (scaledBy (suc (s .scale)) (sideDets d (sideAt here))) (at (firstAt here)) (at (secondAt here))

@@ -19,7 +19,8 @@ use Rattle.shares.proofs.LeastPath.{not-held}
 
 -- ---- lists one after the other, nearly all empty
 
-none-joined : (m k : ℕ) (f : ℕ → List ℕ) → ((j : ℕ) → k ≤ j → j < k + m → f j ≡ []) → joined m k f ≡ []
+none-joined : (m k : ℕ) (f : ℕ → List ℕ) → ((j : ℕ) → k ≤ j → j < k + m → f j ≡ [])
+    → joined m k f ≡ []
 unfolding joined
 none-joined zero k f n = refl
 none-joined (suc m) k f n = rw (n k (omega arith) (omega arith)) (none-joined m (suc k) f (λ j a b. n j (omega arith)
@@ -27,7 +28,8 @@ none-joined (suc m) k f n = rw (n k (omega arith) (omega arith)) (none-joined m 
 
 -- all are empty before s
 joined-from :
-    (m k : ℕ) (f : ℕ → List ℕ) (s : ℕ) → k ≤ s → s < k + m → ((j : ℕ) → k ≤ j → j < s → f j ≡ [])
+    (m k : ℕ) (f : ℕ → List ℕ) (s : ℕ) → k ≤ s → s < k + m
+    → ((j : ℕ) → k ≤ j → j < s → f j ≡ [])
     → joined m k f ≡ f s ++ joined (k + m - suc s) (suc s) f
 unfolding joined
 joined-from zero k f s a b n = absurd (omega arith)
@@ -62,7 +64,8 @@ module _ (d : Direction) (n s : ℕ) (hs : IsSide s) where
   one-side only =
       joined-from 20 4 (sideWords d n) s (hs .0) (omega (arith, hs .1)) (λ u a b. empty-side u (λ h. let e = only u
       (a, omega (arith, hs .1)) h in omega arith))
-      ∙ ap (λ (x : List ℕ). sideWords d n s ++ x) (rest-empty s (hs .0) (hs .1) (λ u hu l h. let e = only u hu h in
+      ∙ ap (λ (x : List ℕ). sideWords d n s ++ x) (rest-empty s (hs .0) (hs .1)
+      (λ u hu l h. let e = only u hu h in
       omega arith))
       ∙ append-nil (sideWords d n s)
 
@@ -80,6 +83,7 @@ module _ (d : Direction) (n s : ℕ) (hs : IsSide s) where
       (joined-from (4 + 20 - suc s) (suc s) (sideWords d n) t (omega arith) (omega (arith, ht .1))
       (λ u a b. empty-side u (no u (omega (arith, hs .0), omega (arith, ht .1)) (λ e. omega arith) (λ e. omega arith)))
       ∙ ap (λ (l : ℕ). sideWords d n t ++ joined l (suc t) (sideWords d n)) q
-      ∙ ap (λ (x : List ℕ). sideWords d n t ++ x) (rest-empty t (ht .0) (ht .1) (λ u hu m. no u hu (λ e. omega arith)
+      ∙ ap (λ (x : List ℕ). sideWords d n t ++ x) (rest-empty t (ht .0) (ht .1)
+      (λ u hu m. no u hu (λ e. omega arith)
       (λ e. omega arith)))
       ∙ append-nil (sideWords d n t))

@@ -130,7 +130,8 @@ fn cut_beyond(kind: u64, a: u64, ta: u64, b: u64, tb: u64, c: u64, tc: u64) -> R
 }
 
 fn by_signs(a: u64, ta: u64, b: u64, tb: u64, c: u64, tc: u64) -> Roles
-    requires { ⌜ (a ≤ 1000000000) × (b ≤ 1000000000) × (c ≤ 1000000000) × NearPhi a ta × NearPhi b tb × NearPhi c tc ⌝ }
+    requires { ⌜ (a ≤ 1000000000) × (b ≤ 1000000000) × (c ≤ 1000000000) × NearPhi a ta × NearPhi b tb
+        × NearPhi c tc ⌝ }
     ensures { λ r. ⌜ AreHeld a b c r ⌝ }
 {
     if is_beyond(a, b, c) {

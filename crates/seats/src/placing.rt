@@ -62,7 +62,8 @@ pub fn size(c: i32) -> u64
 // them.
 fn scale_of(bits: u64) -> u64
     ensures { λ r. ⌜
-        (0 < r) × (r ≤ 32768) × ((x : Prim.Native.Nat.ℕ) → x ≤ bits → x ≤ 1000000000 → r * x ≤ 1000000000)
+        (0 < r) × (r ≤ 32768) × ((x : Prim.Native.Nat.ℕ) → x ≤ bits → x ≤ 1000000000
+        → r * x ≤ 1000000000)
         × (0 < bits → 32768 ≤ r * bits)
         ⌝ }
 {
@@ -152,7 +153,8 @@ fn beyond(kind: u64, a: u64, ta: u64, b: u64, tb: u64, c: u64, tc: u64, p: u64) 
 
 // By the sizes and what φ times them comes to.
 fn by_products(a: u64, ta: u64, b: u64, tb: u64, c: u64, tc: u64) -> Roles
-    requires { ⌜ (a ≤ 1000000000) × (b ≤ 1000000000) × (c ≤ 1000000000) × NearPhi a ta × NearPhi b tb × NearPhi c tc ⌝ }
+    requires { ⌜ (a ≤ 1000000000) × (b ≤ 1000000000) × (c ≤ 1000000000) × NearPhi a ta × NearPhi b tb
+        × NearPhi c tc ⌝ }
     ensures { λ r. ⌜ AreRoles a b c r ⌝ }
 {
     let p = leaning(b, c, tc);

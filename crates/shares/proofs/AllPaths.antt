@@ -129,7 +129,8 @@ all-paths (suc n) k F G D v i =
     ap (λ (h : ℕ). and-others n h F G v (leastDigit h F G) (inChild h (leastDigit h F G) F G)) (half-power n k)
     ∙ step n (2 ^ (n + k)) (2 ^ (suc n + k)) (two-halves n k) F G D i v
     (λ K E u. all-paths n k K G E u)
-    ∙ ap (λ (u : ℕ). holders n (childDets 0 D) u ++ held n D v 1 ++ held n D v 2 ++ held n D v 3) (add-zero (4 * v))
+    ∙ ap (λ (u : ℕ). holders n (childDets 0 D) u ++ held n D v 1 ++ held n D v 2 ++ held n D v 3)
+    (add-zero (4 * v))
 
 pub all-24 :
     (n : ℕ) (F : Floors) (G : Gaps) (D : Determinants) (v : ℕ)

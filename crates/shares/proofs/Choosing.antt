@@ -35,7 +35,8 @@ module _ (h : ℕ) (F : Floors) (G : Gaps) (P : ℕ → Floors → Type 0) where
   pub choose :
       (h < F .f1 + G .g1 → P 1 (floors (F .f1 - h) (F .f2) (F .f3)))
       → (F .f1 + G .g1 ≤ h → h < F .f2 + G .g2 → P 2 (floors (F .f1) (F .f2 - h) (F .f3)))
-      → (F .f1 + G .g1 ≤ h → F .f2 + G .g2 ≤ h → h < F .f3 + G .g3 → P 3 (floors (F .f1) (F .f2) (F .f3 - h)))
+      → (F .f1 + G .g1 ≤ h → F .f2 + G .g2 ≤ h → h < F .f3 + G .g3
+      → P 3 (floors (F .f1) (F .f2) (F .f3 - h)))
       → (F .f1 + G .g1 ≤ h → F .f2 + G .g2 ≤ h → F .f3 + G .g3 ≤ h
       → P 0 (floors (h - (F .f1 + G .g1)) (h - (F .f2 + G .g2)) (h - (F .f3 + G .g3))))
       → P (leastDigit h F G) (inChild h (leastDigit h F G) F G)

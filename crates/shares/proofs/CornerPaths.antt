@@ -28,7 +28,8 @@ module _ (G : Gaps) (g : Few G) where
   abbrev Kept : (h d : ℕ) → Floors → Type 0
   Kept h d F = (leastDigit h F G ≡ d) × (floorAt d (inChild h (leastDigit h F G) F G) ≡ h)
 
-  kept : (h : ℕ) → 0 < h → (F : Floors) → Fair (h + h) F G → (d : ℕ) → OneToThree d → floorAt d F ≡ h + h → Kept h d F
+  kept : (h : ℕ) → 0 < h → (F : Floors) → Fair (h + h) F G → (d : ℕ) → OneToThree d
+      → floorAt d F ≡ h + h → Kept h d F
   kept h z F i = three (λ d. floorAt d F ≡ h + h → Kept h d F)
       (λ e. choose h F G (λ k K. (k ≡ 1) × (floorAt 1 K ≡ h))
       (λ a. (refl, omega arith))
@@ -62,7 +63,8 @@ module _ (G : Gaps) (g : Few G) where
       let t : (4 * 2 ^ (2 * n) - 1) / 3 ≡ 2 ^ (2 * n) + (2 ^ (2 * n) - 1) / 3 =
       next-thirds (2 ^ (2 * n)) (thirds n .0) (thirds n .1) in
       ap (λ (x : ℕ). leastPath n x (inChild x (leastDigit x F G) F G) G (4 * v + leastDigit x F G)) (half-power n k)
-      ∙ corner-path n k d (inChild h (leastDigit h F G) F G) (4 * v + leastDigit h F G) o (fair-least h F G j g) (s .1)
+      ∙ corner-path n k d (inChild h (leastDigit h F G) F G) (4 * v + leastDigit h F G) o (fair-least h F G j g)
+      (s .1)
       ∙ ap (λ (x : ℕ). q * (4 * v + x) + d * ((q - 1) / 3)) (s .0)
       ∙ rw (four n, t) (omega arith)
 

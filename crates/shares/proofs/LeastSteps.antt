@@ -35,7 +35,8 @@ module _ (h : ℕ) (F : Floors) (G : Gaps) where
   step-2 a b = let p = no (F .f1 + G .g1) a in let q = yes (F .f2 + G .g2) b in (simp (p, q), refl)
 
   pub step-3 :
-      F .f1 + G .g1 ≤ h → F .f2 + G .g2 ≤ h → h < F .f3 + G .g3 → IsLeast 3 (floors (F .f1) (F .f2) (F .f3 - h))
+      F .f1 + G .g1 ≤ h → F .f2 + G .g2 ≤ h → h < F .f3 + G .g3
+      → IsLeast 3 (floors (F .f1) (F .f2) (F .f3 - h))
   unfolding leastDigit inChild
   step-3 a b c =
       let p = no (F .f1 + G .g1) a in

@@ -62,7 +62,8 @@ same a b e =
 
 -- by the gap nothing, or more than 0 and less than s
 abbrev Rest : (g : ℕ) → (s d : Golden) → Type 0
-Rest g s d = ((g ≡ 0) × (d ≡ whole (pos 0))) ⊎ ((g ≡ 1) × (NonNeg (negφ d) → ⊥) × (NonNeg (d -φ s) → ⊥))
+Rest g s d = ((g ≡ 0) × (d ≡ whole (pos 0))) ⊎ ((g ≡ 1) × (NonNeg (negφ d) → ⊥)
+    × (NonNeg (d -φ s) → ⊥))
 
 abbrev pub over-floor : (p f : ℕ) → (s x : Golden) → Golden
 over-floor p f s x = times p x -φ times f s
@@ -119,7 +120,8 @@ module _ (p f g : ℕ) (s x : Golden) (w : Share p f g s x) where
 
   pub share-high : NonNeg (times (f + g) s -φ times p x)
   share-high = nonneg-by
-      (solve φ-ring (times p x ∷ times f s ∷ times g s ∷ []) (var 2 ⊝ (var 0 ⊝ var 1)) (var 1 ⊕ var 2 ⊝ var 0) refl
+      (solve φ-ring (times p x ∷ times f s ∷ times g s ∷ []) (var 2 ⊝ (var 0 ⊝ var 1))
+      (var 1 ⊕ var 2 ⊝ var 0) refl
       ∙ ap (λ (y : Golden). y -φ times p x) (sym (sum-times f g s refl)))
       (rest-nonneg g s (times g s -φ d) (turned g s d (to-rest p f g s x w)))
 
@@ -135,7 +137,8 @@ module _ (p f g : ℕ) (s x : Golden) (w : Share p f g s x) where
       where
         low : NonNeg (times f s -φ times p x)
         low = nonneg-by
-            (solve φ-ring (whole (pos p) ∷ x ∷ times f s ∷ []) (var 2 ⊕ var 0 ⊗ ⊖ (var 1)) (var 2 ⊝ var 0 ⊗ var 1) refl)
+            (solve φ-ring (whole (pos p) ∷ x ∷ times f s ∷ []) (var 2 ⊕ var 0 ⊗ ⊖ (var 1))
+            (var 2 ⊝ var 0 ⊗ var 1) refl)
             (add-nonneg _ _ (times-nonneg f s n) (times-nonneg p _ t))
 
         exact : (g ≡ 0) × (times p x ≡ times f s) → ⊥
@@ -143,7 +146,8 @@ module _ (p f g : ℕ) (s x : Golden) (w : Share p f g s x) where
             (ap (λ (y : Golden). times k s -φ y) (q ∙ sum-times 1 k s (omega arith))
             ∙ solve φ-ring (times k s ∷ s ∷ []) (var 0 ⊝ (lit 1 ⊗ var 1 ⊕ var 0)) (⊖ (var 1)) refl)
             (nonneg-by
-            (solve φ-ring (whole (pos p) ∷ x ∷ times k s ∷ []) (var 2 ⊕ var 0 ⊗ ⊖ (var 1)) (var 2 ⊝ var 0 ⊗ var 1) refl)
+            (solve φ-ring (whole (pos p) ∷ x ∷ times k s ∷ []) (var 2 ⊕ var 0 ⊗ ⊖ (var 1))
+            (var 2 ⊝ var 0 ⊗ var 1) refl)
             (add-nonneg _ _ (times-nonneg k s n) (times-nonneg p _ t))))
 
     -- 0 has no part and no gap
@@ -163,18 +167,21 @@ module _ (p f g : ℕ) (s x : Golden) (w : Share p f g s x) where
             (ap (λ (y : Golden). times k s +φ (times p x -φ y) +φ times p (s -φ x))
             (sum-times p (1 + k) s (omega arith) ∙ ap (λ (y : Golden). times p s +φ y) (sum-times 1 k s refl))
             ∙ solve φ-ring (whole (pos p) ∷ s ∷ x ∷ times k s ∷ [])
-            (var 3 ⊕ (var 0 ⊗ var 2 ⊝ (var 0 ⊗ var 1 ⊕ (lit 1 ⊗ var 1 ⊕ var 3))) ⊕ var 0 ⊗ (var 1 ⊝ var 2))
+            (var 3 ⊕ (var 0 ⊗ var 2 ⊝ (var 0 ⊗ var 1 ⊕ (lit 1 ⊗ var 1 ⊕ var 3))) ⊕ var 0 ⊗
+            (var 1 ⊝ var 2))
             (⊖ (var 1)) refl)
             (add-nonneg _ _ (add-nonneg _ _ (times-nonneg k s n) share-low) (times-nonneg p _ u))
 
   pub share-zero : 0 < p → f ≡ 0 → g ≡ 0 → x ≡ whole (pos 0)
   share-zero l a b = ⊎-elim
-      (λ q. divide-zero p x l (q .1 ∙ ap (λ (n : ℕ). times n s) a ∙ solve φ-ring (s ∷ []) (lit 0 ⊗ var 0) (lit 0) refl))
+      (λ q. divide-zero p x l (q .1 ∙ ap (λ (n : ℕ). times n s) a
+      ∙ solve φ-ring (s ∷ []) (lit 0 ⊗ var 0) (lit 0) refl))
       (λ q. absurd (omega (arith, q .0)))
       w
 
 -- of a determinant and a sum m + 1 times as large
-pub share-unscaled : (m p f g : ℕ) (s x : Golden) → Share p f g (times (suc m) s) (times (suc m) x) → Share p f g s x
+pub share-unscaled : (m p f g : ℕ) (s x : Golden) → Share p f g (times (suc m) s) (times (suc m) x)
+    → Share p f g s x
 share-unscaled m p f g s x (inl (a, q)) =
     let M = whole (pos (suc m)) in
     let P = whole (pos p) in

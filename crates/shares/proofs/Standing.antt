@@ -86,7 +86,8 @@ stands-unscaled m p F G D i =
     record {
       some = divide-nonneg m (total D) (subst NonNeg e (i .some));
       more = λ t. i .more (nonneg-by
-          (solve φ-ring (M ∷ total D ∷ []) (var 0 ⊗ ⊖ (var 1)) (⊖ (var 0 ⊗ var 1)) refl ∙ ap negφ (sym e))
+          (solve φ-ring (M ∷ total D ∷ []) (var 0 ⊗ ⊖ (var 1)) (⊖ (var 0 ⊗ var 1)) refl
+          ∙ ap negφ (sym e))
           (times-nonneg (suc m) _ t));
       s1 = each (F .f1) (G .g1) (D .d1) (i .s1);
       s2 = each (F .f2) (G .g2) (D .d2) (i .s2);

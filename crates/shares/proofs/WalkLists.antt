@@ -28,7 +28,8 @@ module _ (w : Walk) (F : Floors) (v : ℕ) where
   -- ---- below the other children
 
   corner-some :
-      (n h k : ℕ) → h ≤ floorAt k F → cornerWords w n h F v k ≡ walkWords w n h (inChild h k F (gapsOf w)) (4 * v + k)
+      (n h k : ℕ) → h ≤ floorAt k F → cornerWords w n h F v k
+      ≡ walkWords w n h (inChild h k F (gapsOf w)) (4 * v + k)
   unfolding cornerWords
   corner-some n h k l = rw (le-leb h (floorAt k F) l) refl
 
@@ -81,7 +82,8 @@ module _ (w : Walk) (F : Floors) (v : ℕ) where
 
   -- ---- below all
 
-  pub this-word : (n p x : ℕ) → n ≡ 0 → x ≡ wordOf (w .side) (w .degree) v → walkWords w n p F v ≡ x ∷ []
+  pub this-word : (n p x : ℕ) → n ≡ 0 → x ≡ wordOf (w .side) (w .degree) v
+      → walkWords w n p F v ≡ x ∷ []
   unfolding walkWords paths
   this-word n p x z q = rw (z, q) refl
 
@@ -98,7 +100,8 @@ module _ (w : Walk) (F : Floors) (v : ℕ) where
       let G = gapsOf w in
       let e = i .parts in
       let one : paths n p F G v ≡ leastPath n p F G v ∷ [] =
-      subst (λ (p : ℕ). paths n p F G v ≡ leastPath n p F G v ∷ []) (sym e) (single-paths n (i .rest) F G v (i .few)
+      subst (λ (p : ℕ). paths n p F G v ≡ leastPath n p F G v ∷ []) (sym e)
+      (single-paths n (i .rest) F G v (i .few)
       (subst (λ (p : ℕ). Single p F G) e s)
       (subst (λ (p : ℕ). Fair p F G) e (i .fair))) in
       ap (each (wordOf (w .side) (w .degree))) one

@@ -105,7 +105,8 @@ module _ (w : Walk) (n h : ℕ) (F K : Floors) (v k : ℕ) (i : IsWalk w (suc n)
       walk-child (rw (e .0) (digit-small h F G)) (e .1)
       (rw (e .1, e .0) (fair-least h F G (i .fair) (i .few)))
 
-  pub walk-to-corner : 1 ≤ k → k ≤ 3 → h ≤ floorAt k F → K ≡ inChild h k F (gapsOf w) → IsWalk w n h K (4 * v + k)
+  pub walk-to-corner : 1 ≤ k → k ≤ 3 → h ≤ floorAt k F → K ≡ inChild h k F (gapsOf w)
+      → IsWalk w n h K (4 * v + k)
   walk-to-corner l m a e =
       walk-child (omega arith) e (rw e (fair-corner h F (gapsOf w) (i .fair) k l a))
 

@@ -14,7 +14,8 @@ pub struct Child {
 
 // The least child that holds, where an edge has 2h parts and one of the child h.
 pub fn least_child(h: u64, f1: u64, f2: u64, f3: u64, g1: u64, g2: u64, g3: u64) -> Child
-    requires { ⌜ (f1 ≤ 16777216) × (f2 ≤ 16777216) × (f3 ≤ 16777216) × (g1 ≤ 1) × (g2 ≤ 1) × (g3 ≤ 1) ⌝ }
+    requires { ⌜ (f1 ≤ 16777216) × (f2 ≤ 16777216) × (f3 ≤ 16777216) × (g1 ≤ 1) × (g2 ≤ 1)
+        × (g3 ≤ 1) ⌝ }
     ensures { λ r. ⌜ (r .digit ≡ leastDigit h (floors f1 f2 f3) (gaps g1 g2 g3))
         × (r .floors ≡ inChild h (r .digit) (floors f1 f2 f3) (gaps g1 g2 g3)) ⌝ }
 {

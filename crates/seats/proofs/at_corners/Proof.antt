@@ -1,6 +1,5 @@
 -- Each is the one of the three that the table names. Assumes nothing.
 use borrow.Author.Needs.{needs}
-use mathlib.Core.Path.{_≡_, refl}
 use Rattle.seats.proofs.at_corners.Statement.{statement}
 use Rattle.seats.proofs.at_corners.Tie as tie
 
@@ -26,17 +25,7 @@ of-three-requires-3 : tie.Need-of-three-requires-3
 of-three-requires-3 c κs = search needs
 
 returns : tie.Need-returns
-returns c =
-    let j = c .before .before .before in
-    let i = j .before in
-    rw (
-      c .of-three3 .ensures,
-      c .before .of-three2 .ensures,
-      c .before .before .of-three .ensures,
-      i .first-at
-          .ensures,
-      j .second-at .ensures,
-    ) refl
+returns c = cc
 
 pub at-corners-spec : {M : Type 1} → statement M
 at-corners-spec =

@@ -2,12 +2,13 @@
 -- nothing.
 use borrow.Author.Needs.{needs}
 use mathlib.Core.Path.{_≡_, _∙_, ap}
-use Prim.Native.Nat.{ℕ, _+_, _*_, _-_}
+use Prim.Native.Nat.{ℕ, _+_, _*_, _-_, _≤_, _<_}
 use native.Mathlib.Omega.{arith}
 use lib.Pow.{pow-pos}
 use Rattle.words.specs.Words.{wordOf}
 use Rattle.shares.specs.Means.Paths.{leastPath}
 use Rattle.seats.specs.declared.exact.Stand.{Stand}
+use Rattle.seats.specs.Means.Octants.{firstAt, secondAt}
 use Rattle.seats.specs.Means.Roles.{floorsAt, gapsAt}
 use Rattle.seats.proofs.ExactWords.{octant-below, here-below, here-is, here-ordered, corner-floors}
 use Rattle.seats.proofs.ExactWords.{corner-gaps, exact-low, exact-filed}
@@ -27,23 +28,22 @@ add-k c =
     let s = c .before in
     record { fits = omega (arith, here-below (s .args .d) (s .pre .2) (c .stand-of .result) (c .stand-of .ensures)) }
 
-at-corners-requires : tie.Need-at-corners-requires
-at-corners-requires c κs =
-    let t = c .before .before in
-    let s = t .before in
-    let h = t .stand-of .ensures in (
-      here-below (s .args .d) (s .pre .2) (t .stand-of .result) h,
-      here-ordered (s .args .d) (s .pre .2) (t .stand-of .result) h,
+seat-fits :
+    (c : tie.After-stand-of)
+    → let k = 4 * c .stand-of .result .octant + c .stand-of .result .kind in
+    (k < 32) × (firstAt k + secondAt k ≤ 6)
+seat-fits c =
+    let s = c .before in
+    let h = c .stand-of .ensures in (
+      here-below (s .args .d) (s .pre .2) (c .stand-of .result) h,
+      here-ordered (s .args .d) (s .pre .2) (c .stand-of .result) h,
     )
 
+at-corners-requires : tie.Need-at-corners-requires
+at-corners-requires c κs = seat-fits (c .before .before)
+
 at-corners-requires-2 : tie.Need-at-corners-requires-2
-at-corners-requires-2 c κs =
-    let t = c .before .before .before in
-    let s = t .before in
-    let h = t .stand-of .ensures in (
-      here-below (s .args .d) (s .pre .2) (t .stand-of .result) h,
-      here-ordered (s .args .d) (s .pre .2) (t .stand-of .result) h,
-    )
+at-corners-requires-2 c κs = seat-fits (c .before .before .before)
 
 descend-requires : tie.Need-descend-requires
 descend-requires c κs =

@@ -16,7 +16,7 @@ returns : tie.Need-returns
 returns c =
     let a = c .before .before .before .args in
     let h = c .cut-beyond .ensures in
-    held-beyond 1 (a .a) (a .b) (a .c) _ _ _ (turned-1 (a .a) (a .b) (a .c)) (c .cut-beyond .result) (h .0) (h .1)
+    held-beyond (turned-1 (a .a) (a .b) (a .c)) (c .cut-beyond .result) (h .0) (h .1)
     (c .before .before .is-beyond .ensures .0 (c .before .if1 .taken))
 
 is-beyond-requires-2 : tie.Need-is-beyond-requires-2
@@ -31,7 +31,7 @@ returns-2 : tie.Need-returns-2
 returns-2 c =
     let a = c .before .before .before .before .before .args in
     let h = c .cut-beyond2 .ensures in
-    held-beyond 2 (a .a) (a .b) (a .c) _ _ _ (turned-2 (a .a) (a .b) (a .c)) (c .cut-beyond2 .result) (h .0) (h .1)
+    held-beyond (turned-2 (a .a) (a .b) (a .c)) (c .cut-beyond2 .result) (h .0) (h .1)
     (c .before .before .is-beyond2 .ensures .0 (c .before .if2 .taken))
 
 is-beyond-requires-3 : tie.Need-is-beyond-requires-3
@@ -46,7 +46,7 @@ returns-3 : tie.Need-returns-3
 returns-3 c =
     let a = c .before .before .before .before .before .before .before .args in
     let h = c .cut-beyond3 .ensures in
-    held-beyond 3 (a .a) (a .b) (a .c) _ _ _ (turned-3 (a .a) (a .b) (a .c)) (c .cut-beyond3 .result) (h .0) (h .1)
+    held-beyond (turned-3 (a .a) (a .b) (a .c)) (c .cut-beyond3 .result) (h .0) (h .1)
     (c .before .before .is-beyond3 .ensures .0 (c .before .if3 .taken))
 
 leaning-requires : tie.Need-leaning-requires

@@ -2,10 +2,10 @@
 use borrow.Author.Needs.{needs}
 use mathlib.Core.Path.{_≡_, _∙_}
 use native.Mathlib.Omega.{arith}
-use Rattle.golden.specs.Numbers.{_+φ_, negφ}
+use Rattle.golden.specs.Numbers.{negφ}
 use Rattle.filing.specs.Holding.{three}
 use Rattle.seats.specs.Means.Octants.{lean, outer}
-use Rattle.seats.proofs.ExactRoles.{outer-is, opposite-is, double-is, parts-small}
+use Rattle.seats.proofs.ExactRoles.{outer-is, opposite-is, double-is, both-small, less-is}
 use Rattle.seats.proofs.exact.determinants_beyond.Statement.{statement}
 use Rattle.seats.proofs.exact.determinants_beyond.Tie as tie
 
@@ -20,10 +20,8 @@ of-parts-requires-2 c κs = search needs
 
 minus-requires : tie.Need-minus-requires
 minus-requires c κs =
-    let p = c .before .before .pre in (
-      parts-small _ _ _ (omega (arith, p)) (omega (arith, p)) (c .before .of-parts .ensures),
-      parts-small _ _ _ (omega (arith, p)) (omega arith) (c .of-parts2 .ensures),
-    )
+    let p = c .before .before .pre in
+    both-small (c .before .of-parts .ensures) (c .of-parts2 .ensures) (omega (arith, p)) (omega (arith, p))
 
 of-parts-requires-3 : tie.Need-of-parts-requires-3
 of-parts-requires-3 c κs = search needs
@@ -36,10 +34,8 @@ of-parts-requires-4 c κs = search needs
 
 minus-requires-2 : tie.Need-minus-requires-2
 minus-requires-2 c κs =
-    let p = c .before .before .before .before .before .pre in (
-      parts-small _ _ _ (omega arith) (omega (arith, p)) (c .before .of-parts3 .ensures),
-      parts-small _ _ _ (omega (arith, p)) (omega (arith, p)) (c .of-parts4 .ensures),
-    )
+    let p = c .before .before .before .before .before .pre in
+    both-small (c .before .of-parts3 .ensures) (c .of-parts4 .ensures) (omega (arith, p)) (omega (arith, p))
 
 mul-of-parts : tie.Need-mul-of-parts
 mul-of-parts c = search needs
@@ -47,12 +43,12 @@ mul-of-parts c = search needs
 of-parts-requires-5 : tie.Need-of-parts-requires-5
 of-parts-requires-5 c κs = search needs
 
-first : (c : tie.After-minus) → let a = c .before .before .before .args in c .minus .result ≡ outer (a .a) (a .b) (a .c)
+first : (c : tie.After-minus) → let a = c .before .before .before .args in
+    c .minus .result ≡ outer (a .a) (a .b) (a .c)
 first c =
     let a = c .before .before .before .args in
-    c .minus .ensures
-    ∙ (λ i. c .before .before .of-parts .ensures i +φ negφ (c .before .of-parts2 .ensures i))
-    ∙ outer-is (a .a) (a .b) (a .c)
+    less-is (c .before .before .of-parts .ensures) (c .before .of-parts2 .ensures) (c .minus .ensures)
+    (outer-is (a .a) (a .b) (a .c))
 
 second :
     (c : tie.After-minus2)
@@ -60,9 +56,8 @@ second :
     c .minus2 .result ≡ negφ (lean (a .a) (a .b) (a .c))
 second c =
     let a = c .before .before .before .before .before .before .args in
-    c .minus2 .ensures
-    ∙ (λ i. c .before .before .of-parts3 .ensures i +φ negφ (c .before .of-parts4 .ensures i))
-    ∙ opposite-is (a .a) (a .b) (a .c)
+    less-is (c .before .before .of-parts3 .ensures) (c .before .of-parts4 .ensures) (c .minus2 .ensures)
+    (opposite-is (a .a) (a .b) (a .c))
 
 returns : tie.Need-returns
 returns c =

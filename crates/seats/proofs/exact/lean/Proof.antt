@@ -1,9 +1,7 @@
 -- `seats::exact::lean` meets its contract. Assumes nothing.
 use borrow.Author.Needs.{needs}
-use mathlib.Core.Path.{_∙_}
 use native.Mathlib.Omega.{arith}
-use Rattle.golden.specs.Numbers.{_+φ_, negφ}
-use Rattle.seats.proofs.ExactRoles.{lean-is, parts-small}
+use Rattle.seats.proofs.ExactRoles.{lean-is, both-small, less-is}
 use Rattle.seats.proofs.exact.lean.Statement.{statement}
 use Rattle.seats.proofs.exact.lean.Tie as tie
 
@@ -18,18 +16,15 @@ of-parts-requires-2 c κs = search needs
 
 minus-requires : tie.Need-minus-requires
 minus-requires c κs =
-    let p = c .before .before .pre in (
-      parts-small _ _ _ (omega (arith, p)) (omega (arith, p)) (c .before .of-parts .ensures),
-      parts-small _ _ _ (omega arith) (omega (arith, p)) (c .of-parts2 .ensures),
-    )
+    let p = c .before .before .pre in
+    both-small (c .before .of-parts .ensures) (c .of-parts2 .ensures) (omega (arith, p)) (omega (arith, p))
 
 returns : tie.Need-returns
 returns c =
     let d = c .before in
     let a = d .before .before .args in
-    c .minus .ensures
-    ∙ (λ i. d .before .of-parts .ensures i +φ negφ (d .of-parts2 .ensures i))
-    ∙ lean-is (a .a) (a .b) (a .c)
+    less-is (d .before .of-parts .ensures) (d .of-parts2 .ensures) (c .minus .ensures)
+    (lean-is (a .a) (a .b) (a .c))
 
 pub lean-spec : {M : Type 1} → statement M
 lean-spec = tie.close (tie.spec add-of-parts of-parts-requires of-parts-requires-2 minus-requires returns)

@@ -10,7 +10,8 @@ use Rattle.seats.proofs.exact.many.Statement.{statement}
 use Rattle.seats.proofs.exact.many.Tie as tie
 
 part :
-    (f : ℕ) (x : ℤ) {r : ℤ} → f ≤ 16777217 → natAbs x ≤ 8000000000 → r ≡ pos f *ℤ again x → again r ≡ pos f *ℤ x
+    (f : ℕ) (x : ℤ) {r : ℤ} → f ≤ 16777217 → natAbs x ≤ 8000000000 → r ≡ pos f *ℤ again x
+    → again r ≡ pos f *ℤ x
 part f x l h e = again-of (rw (again-is x (omega arith)) at e) (omega (arith, product-small f x l h))
 
 u-most : (c : tie.Start) → natAbs (c .args .x .u) ≤ 8000000000

@@ -11,7 +11,7 @@ use Rattle.shares.specs.Means.Shares.{Share}
 use Rattle.seats.specs.Means.Octants.{rolesOf}
 use Rattle.seats.specs.Means.Roles.{Measured}
 use Rattle.seats.proofs.ExactRoles.{Small, roles-small, small-wide, two-wide, small-bound}
-use Rattle.seats.proofs.ExactStands.{measured-1, measured-2, measured-3, stands-exactly}
+use Rattle.seats.proofs.ExactStands.{all-measured, stands-exactly}
 use Rattle.seats.proofs.Seating.{roles-large}
 use Rattle.seats.proofs.exact.stand_of.Statement.{statement}
 use Rattle.seats.proofs.exact.stand_of.Tie as tie
@@ -97,13 +97,9 @@ measured c =
     let d = s .before .args .d in
     let some = s .before .pre .1 in
     let q = v .divide-three .result in
-    let m1 = measured-1 d some (s .sizes-of .result) (s .sizes-of .ensures) (b .by-signs .result) (b .by-signs
-    .ensures) q (v .divide-three .ensures .0) (v .divide-three .ensures .1) in
-    let m2 = measured-2 d some (s .sizes-of .result) (s .sizes-of .ensures) (b .by-signs .result) (b .by-signs
-    .ensures) q (v .divide-three .ensures .0) (v .divide-three .ensures .1) in
-    let m3 = measured-3 d some (s .sizes-of .result) (s .sizes-of .ensures) (b .by-signs .result) (b .by-signs
-    .ensures) q (v .divide-three .ensures .0) (v .divide-three .ensures .1) in
-    rw (sum-is c, t .determinants-of .ensures) (m1, m2, m3)
+    rw (sum-is c, t .determinants-of .ensures)
+    (all-measured d some (s .sizes-of .result) (s .sizes-of .ensures) (b .by-signs .result) (b .by-signs .ensures)
+    q (v .divide-three .ensures .0) (v .divide-three .ensures .1))
 
 part-of-requires : tie.Need-part-of-requires
 part-of-requires c κs = (small-bound _ (small (c .before .before)) _ (sum-is c) .b1, measured c .0)

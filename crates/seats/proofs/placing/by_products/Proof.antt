@@ -14,7 +14,7 @@ returns : tie.Need-returns
 returns c =
     let a = c .before .before .before .args in
     let h = c .beyond .ensures in
-    roles-beyond 1 (a .a) (a .b) (a .c) _ _ _ (turned-1 (a .a) (a .b) (a .c)) (c .beyond .result) (h .0) (h .1)
+    roles-beyond (turned-1 (a .a) (a .b) (a .c)) (c .beyond .result) (h .0) (h .1)
 
 leaning-requires-2 : tie.Need-leaning-requires-2
 leaning-requires-2 c κs = search needs
@@ -26,7 +26,7 @@ returns-2 : tie.Need-returns-2
 returns-2 c =
     let a = c .before .before .before .before .before .args in
     let h = c .beyond2 .ensures in
-    roles-beyond 2 (a .a) (a .b) (a .c) _ _ _ (turned-2 (a .a) (a .b) (a .c)) (c .beyond2 .result) (h .0) (h .1)
+    roles-beyond (turned-2 (a .a) (a .b) (a .c)) (c .beyond2 .result) (h .0) (h .1)
 
 leaning-requires-3 : tie.Need-leaning-requires-3
 leaning-requires-3 c κs = search needs
@@ -38,7 +38,7 @@ returns-3 : tie.Need-returns-3
 returns-3 c =
     let a = c .before .before .before .before .before .before .before .args in
     let h = c .beyond3 .ensures in
-    roles-beyond 3 (a .a) (a .b) (a .c) _ _ _ (turned-3 (a .a) (a .b) (a .c)) (c .beyond3 .result) (h .0) (h .1)
+    roles-beyond (turned-3 (a .a) (a .b) (a .c)) (c .beyond3 .result) (h .0) (h .1)
 
 returns-4 : tie.Need-returns-4
 returns-4 c =

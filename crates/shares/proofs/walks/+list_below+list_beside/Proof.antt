@@ -200,7 +200,8 @@ list-below-slice-write-out-2 t c =
     let a = s .args in
     puts-one (a .count) (c .word-of2 .result) _ (now (a .out)) (words-one t c) (s .pre .1 .1) .0
 
-list-below-add-result-2 : (t : ℕ) → list-below-lts.Need-add-result-2 (below-calls t) (list-below-at t) list-below.Post
+list-below-add-result-2 : (t : ℕ) → list-below-lts.Need-add-result-2 (below-calls t) (list-below-at t)
+    list-below.Post
 list-below-add-result-2 t c = search needs
 
 list-below-same-length-2 :

@@ -1,13 +1,13 @@
 -- The least side that holds a direction, and the least code below it. Assumes nothing.
 use mathlib.Core.Path.{_≡_}
-use Prim.Native.Nat.{ℕ, zero, suc, _+_, _*_, _-_, _^_, _≤_, _<_}
+use Prim.Native.Nat.{ℕ, zero, suc, _+_, _*_, _^_, _≤_, _<_}
 use native.Mathlib.Omega.{arith}
 use native.Mathlib.Nat.{pow-suc}
 use Rattle.words.specs.Words.{wordOf}
 use Rattle.words.specs.Family.{codeOf}
 use Rattle.net.specs.Sides.{IsSide}
 use Rattle.filing.specs.Filing.{IsFiled}
-use Rattle.filing.specs.Means.Descent.{childDets, holds, first, leastChild, descent}
+use Rattle.filing.specs.Means.Descent.{childDets, holds, leastChild, descent}
 use Rattle.filing.specs.Means.Sides.{sideDets, leastFrom}
 use Rattle.filing.specs.declared.Direction.{Direction}
 use Rattle.filing.specs.declared.Determinants.{Determinants}

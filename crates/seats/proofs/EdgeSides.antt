@@ -1,7 +1,7 @@
 -- A direction lies on the edge between two sides where one coordinate is 0, and then the side of the chosen signs
 -- comes first. Assumes nothing.
 use mathlib.Core.Path.{_≡_, refl, sym, _∙_, ap, subst}
-use mathlib.Core.Logic.{_⊎_, inl, inr, ⊎-elim}
+use mathlib.Core.Logic.{_⊎_, inr, ⊎-elim}
 use mathlib.Core.List.{[], _∷_, _++_}
 use Prim.Native.Nat.{ℕ, zero, suc, _+_, _-_, _*_, _≤_, _<_}
 use native.Mathlib.Omega.{arith}
@@ -23,7 +23,7 @@ use Rattle.shares.specs.declared.Gaps.{Gaps}
 use Rattle.shares.specs.Means.Shares.{Stands}
 use Rattle.shares.proofs.Standing.{stands-holds}
 use Rattle.seats.specs.Means.Octants.{phi, double, roleOf, rolesOf, signAt, seat, seatOf, firstX, firstY}
-use Rattle.seats.specs.Means.Octants.{firstZ, otherOctant, sideAt, firstAt, secondAt, thirdAt}
+use Rattle.seats.specs.Means.Octants.{firstZ, otherOctant, sideAt, firstAt, secondAt}
 use Rattle.seats.specs.Means.Roles.{floorsAt, gapsAt}
 use Rattle.seats.specs.Means.Finding.{IsSome}
 use Rattle.seats.proofs.ExactRoles.{lean-zero, outer-zero, opposite-zero, double-zero}

@@ -1,10 +1,10 @@
 -- Where a direction stands exactly: its shares in the roles of the kind that holds it. Assumes nothing.
-use mathlib.Core.Path.{_≡_, refl, sym, ap, subst}
+use mathlib.Core.Path.{_≡_, refl, sym, subst}
 use mathlib.Core.List.{[], _∷_}
-use Prim.Native.Nat.{ℕ, suc, _+_, _-_, _*_, _≤_, _<_}
+use Prim.Native.Nat.{ℕ, suc, _+_, _-_, _≤_, _<_}
 use native.Mathlib.Omega.{arith}
 use lib.IntN.{natAbs}
-use Rattle.golden.specs.Numbers.{_+φ_, negφ}
+use Rattle.golden.specs.Numbers.{negφ}
 use Rattle.golden.specs.Order.{NonNeg}
 use Rattle.golden.specs.declared.Golden.{Golden}
 use Rattle.golden.proofs.Polynomials.{var, _⊕_, _⊝_, _⊗_, ⊖}

@@ -1,14 +1,13 @@
 -- The words of a degree where a direction stands exactly: the least, and all. Assumes nothing.
-use mathlib.Core.Path.{_≡_, refl, sym, _∙_, ap, subst}
+use mathlib.Core.Path.{_≡_, sym, _∙_, ap, subst}
 use mathlib.Core.List.{List, _++_}
 use mathlib.Core.Logic.{⊎-elim}
-use Prim.Native.Nat.{ℕ, _+_, _-_, _*_, _^_, _≤_, _<_}
+use Prim.Native.Nat.{ℕ, _+_, _*_, _^_, _≤_, _<_}
 use native.Mathlib.Omega.{arith}
-use lib.IntN.{pos, natAbs}
-use Rattle.golden.specs.Numbers.{whole}
+use lib.IntN.{natAbs}
 use Rattle.words.specs.Words.{wordOf}
 use Rattle.words.specs.Family.{codeOf}
-use Rattle.net.specs.Sides.{OneToThree, IsSide}
+use Rattle.net.specs.Sides.{IsSide}
 use Rattle.net.specs.Division.{each}
 use Rattle.filing.specs.Filing.{IsFiled}
 use Rattle.filing.specs.Means.Descent.{descent}
@@ -17,15 +16,13 @@ use Rattle.filing.specs.Means.Sides.{sideDets, leastFrom}
 use Rattle.filing.specs.declared.Direction.{Direction}
 use Rattle.filing.proofs.HolderLists.{room-first}
 use Rattle.filing.proofs.LeastSide.{found-code}
-use Rattle.shares.specs.declared.Floors.{Floors}
-use Rattle.shares.specs.declared.Gaps.{Gaps}
 use Rattle.shares.specs.Means.Shares.{Stands}
 use Rattle.shares.specs.Means.Paths.{leastPath}
 use Rattle.shares.proofs.ShareLaws.{share-zero, zero-share}
 use Rattle.shares.proofs.Standing.{stands-gaps, stands-floors}
 use Rattle.shares.proofs.AllPaths.{all-24}
 use Rattle.seats.specs.declared.exact.Stand.{Stand}
-use Rattle.seats.specs.Means.Octants.{roleOf, otherOctant, sideAt, firstAt, secondAt}
+use Rattle.seats.specs.Means.Octants.{otherOctant, sideAt, firstAt, secondAt}
 use Rattle.seats.specs.Means.Roles.{floorsAt, gapsAt, seatWords}
 use Rattle.seats.specs.Means.Finding.{IsSome, StandsAt}
 use Rattle.seats.proofs.EdgeSides.{OnPlane, zero-role, plane-role, octant, octant-small, here-side, here-order}

@@ -1,8 +1,8 @@
 -- Where a direction stands strictly inside a side, no other side holds it, and one word of each degree. Assumes
 -- nothing.
-use mathlib.Core.Path.{_≡_, sym, _∙_, ap, subst}
+use mathlib.Core.Path.{_≡_, sym, _∙_, ap}
 use mathlib.Core.List.{[], _∷_}
-use Prim.Native.Nat.{ℕ, suc, _+_, _-_, _*_, _^_, _≤_, _<_}
+use Prim.Native.Nat.{ℕ, _+_, _*_, _^_, _≤_, _<_}
 use native.Mathlib.Omega.{arith}
 use lib.IntN.{pos}
 use Rattle.golden.specs.Numbers.{whole}
@@ -11,8 +11,8 @@ use Rattle.words.specs.Words.{wordOf}
 use Rattle.net.specs.Sides.{OneToThree, IsSide}
 use Rattle.net.specs.Division.{each}
 use Rattle.net.proofs.Table.{three as each-of-three}
-use Rattle.filing.specs.Means.Descent.{descent, holders, total}
-use Rattle.filing.specs.Means.Lists.{sideWords, allWords}
+use Rattle.filing.specs.Means.Descent.{descent, total}
+use Rattle.filing.specs.Means.Lists.{sideWords}
 use Rattle.filing.specs.Means.Sides.{sideDets, leastFrom}
 use Rattle.filing.specs.declared.Determinants.{Determinants}
 use Rattle.filing.specs.declared.Direction.{Direction}
@@ -22,7 +22,7 @@ use Rattle.filing.proofs.TwoSides.{SideHolds}
 use Rattle.shares.specs.declared.Floors.{Floors}
 use Rattle.shares.specs.declared.Gaps.{Gaps}
 use Rattle.shares.specs.Means.Shares.{Share, Stands, floors, strict}
-use Rattle.shares.specs.Means.Paths.{leastPath, paths}
+use Rattle.shares.specs.Means.Paths.{leastPath}
 use Rattle.shares.proofs.ShareLaws.{zero-share}
 use Rattle.shares.proofs.Standing.{stands-holds, stands-unscaled}
 use Rattle.shares.proofs.LeastPath.{least-24}

@@ -4,7 +4,6 @@ use mathlib.Core.Logic.{inr, ⊎-elim}
 use mathlib.Core.List.{[], _∷_}
 use Prim.Native.Nat.{ℕ, _+_, _-_, _*_, _≤_, _<_}
 use native.Mathlib.Omega.{arith}
-use lib.IntN.{pos}
 use Rattle.golden.specs.Numbers.{whole, _+φ_, negφ, _*φ_}
 use Rattle.golden.specs.Order.{NonNeg}
 use Rattle.golden.specs.declared.Golden.{Golden}
@@ -12,7 +11,6 @@ use Rattle.golden.proofs.Polynomials.{var, lit, _⊕_, _⊝_, _⊗_, ⊖}
 use Rattle.golden.proofs.RingSolver.{solve}
 use Rattle.golden.proofs.GoldenRing.{φ-ring}
 use Rattle.golden.proofs.GoldenOrder.{nonneg-by, add-nonneg, total as either}
-use Rattle.golden.proofs.GoldenProduct.{whole-nonneg}
 use Rattle.filing.specs.Holding.{_-φ_}
 use Rattle.filing.specs.Means.Descent.{total}
 use Rattle.filing.specs.declared.Determinants.{Determinants}

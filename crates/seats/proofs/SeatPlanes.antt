@@ -1,21 +1,20 @@
 -- The side of an octant and a kind has the determinants that the table says, in the order that it says. Assumes
 -- nothing.
-use mathlib.Core.Path.{_≡_, refl, sym, _∙_, ap, subst}
+use mathlib.Core.Path.{_≡_, refl, sym, _∙_, ap}
 use mathlib.Core.List.{[], _∷_}
-use Prim.Native.Nat.{ℕ, zero, suc, _+_, _-_, _*_, _≤_, _<_}
+use Prim.Native.Nat.{ℕ, zero, suc, _+_, _*_, _≤_, _<_}
 use native.Mathlib.Omega.{arith}
 use lib.IntN.{ℤ, pos, negsuc, natAbs}
-use Rattle.golden.specs.Numbers.{golden, whole, _+φ_, negφ, _*φ_}
+use Rattle.golden.specs.Numbers.{whole, _+φ_, negφ, _*φ_}
 use Rattle.golden.specs.declared.Golden.{Golden}
 use Rattle.golden.proofs.Polynomials.{var, lit, _⊕_, _⊝_, _⊗_, ⊖}
 use Rattle.golden.proofs.RingSolver.{solve}
 use Rattle.golden.proofs.GoldenRing.{φ-ring, of-mulφ}
 use Rattle.net.specs.Sides.{nth, OneToThree, IsSide, cornerVertex}
-use Rattle.net.proofs.Table.{sound, three as each-of-three, below, threes, less, most, no, same, _and_}
+use Rattle.net.proofs.Table.{sound, below, threes, less, most, no, same, _and_}
 use Rattle.filing.specs.Coordinates.{coordinates}
-use Rattle.filing.specs.Holding.{_-φ_, along, dot, three}
+use Rattle.filing.specs.Holding.{along, dot, three}
 use Rattle.filing.specs.declared.Coordinates.{Coordinates}
-use Rattle.filing.specs.declared.Determinants.{Determinants}
 use Rattle.filing.specs.declared.Direction.{Direction}
 use Rattle.filing.specs.Means.Sides.{sideDets}
 use Rattle.filing.proofs.GoldenTests.{sameᵛ, ᵛ-same}

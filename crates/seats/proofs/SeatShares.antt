@@ -1,5 +1,5 @@
 -- Shares in the order of the roles are shares in the order of a side's corners. Assumes nothing.
-use mathlib.Core.Path.{_≡_, refl, sym, _∙_, ap, subst}
+use mathlib.Core.Path.{_≡_, refl, sym, _∙_, subst}
 use mathlib.Core.List.{[], _∷_}
 use Prim.Native.Nat.{ℕ, _+_, _-_, _<_}
 use native.Mathlib.Omega.{arith}
@@ -13,9 +13,7 @@ use Rattle.golden.proofs.GoldenRing.{φ-ring}
 use Rattle.net.specs.Sides.{nth, OneToThree}
 use Rattle.net.proofs.Table.{three as each-of-three}
 use Rattle.filing.specs.Holding.{three}
-use Rattle.filing.specs.Means.Descent.{total}
 use Rattle.filing.specs.Means.Sides.{sideDets}
-use Rattle.filing.specs.declared.Determinants.{Determinants}
 use Rattle.filing.specs.declared.Direction.{Direction}
 use Rattle.shares.specs.declared.Floors.{Floors}
 use Rattle.shares.specs.declared.Gaps.{Gaps}

@@ -1,14 +1,13 @@
 -- A direction in the seat of its signs: numbers near to the roles are near to the determinants of the side. Assumes
 -- nothing.
-use mathlib.Core.Path.{_≡_, sym, _∙_, ap, subst}
-use Prim.Native.Nat.{ℕ, suc, _+_, _-_, _*_, _≤_, _<_}
+use mathlib.Core.Path.{_≡_, sym, _∙_, subst}
+use Prim.Native.Nat.{ℕ, suc, _+_, _-_, _≤_}
 use native.Mathlib.Omega.{arith}
 use lib.IntN.{natAbs}
 use Rattle.golden.specs.declared.Golden.{Golden}
 use Rattle.net.specs.Sides.{nth, OneToThree}
 use Rattle.net.proofs.Table.{three as each-of-three}
 use Rattle.filing.specs.Means.Sides.{sideDets}
-use Rattle.filing.specs.declared.Determinants.{Determinants}
 use Rattle.filing.specs.declared.Direction.{Direction}
 use Rattle.shares.specs.Means.Shares.{times, scaledBy}
 use Rattle.seats.specs.declared.placing.Roles.{Roles}

@@ -12,7 +12,6 @@ use placing::side_at;
 use shares::Floors;
 use shares::Gaps;
 ghost use mathlib.Core.Path.{_≡_};
-ghost use mathlib.Core.Bool.{true, false};
 ghost use Prim.Native.Nat.{_+_, _*_, _<_, _≤_};
 ghost use Rattle.words.specs.Family.{codeOf};
 ghost use Rattle.filing.specs.Filing.{IsFiled};

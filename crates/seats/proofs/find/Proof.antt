@@ -1,7 +1,6 @@
 -- The near numbers are divided, and what is clear stands so (FoundWords). Assumes nothing.
 use borrow.Author.Needs.{needs}
 use borrow.Author.Tests.{not-false}
-use mathlib.Core.Path.{_≡_}
 use Rattle.seats.proofs.FoundWords.{found-in}
 use Rattle.seats.proofs.find.Statement.{statement}
 use Rattle.seats.proofs.find.Tie as tie

@@ -1,8 +1,6 @@
 -- The words of the least side, and where the direction lies on its edge those of the other (ExactWords). Assumes
 -- nothing.
 use borrow.Author.Needs.{needs}
-use mathlib.Core.Path.{_≡_}
-use Prim.Native.Nat.{_+_}
 use native.Mathlib.Omega.{arith}
 use denote.Ref.{now}
 use Rattle.filing.proofs.HolderLists.{room-rest, puts-both}

@@ -1,5 +1,5 @@
 -- One sign turned over, by the kind. Assumes nothing.
-use mathlib.Core.Path.{_≡_, refl}
+use mathlib.Core.Path.{refl}
 use Rattle.seats.proofs.EdgeSides.{other-last}
 use Rattle.seats.proofs.other_octant.Statement.{statement}
 use Rattle.seats.proofs.other_octant.Tie as tie

@@ -1,6 +1,6 @@
 -- The path of the floors that were found, and its word (FoundWords). Assumes nothing.
 use borrow.Author.Needs.{needs}
-use mathlib.Core.Path.{_≡_, refl}
+use mathlib.Core.Path.{refl}
 use native.Mathlib.Omega.{arith}
 use Rattle.shares.proofs.Standing.{strict-whole}
 use Rattle.seats.specs.Means.Finding.{FoundIn}

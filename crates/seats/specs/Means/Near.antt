@@ -1,6 +1,6 @@
 -- Whole numbers near to determinants, and floors by dividing them. What the code is proved by, and no promise.
 -- Assumes nothing.
-use Prim.Native.Nat.{ℕ, _+_, _-_, _*_, _≤_, _<_}
+use Prim.Native.Nat.{ℕ, _+_, _-_, _*_, _≤_}
 use mathlib.Core.Path.{_≡_}
 use lib.IntN.{pos}
 use Rattle.golden.specs.Numbers.{whole, _+φ_}

@@ -9,7 +9,7 @@ use Rattle.golden.specs.Order.{NonNeg}
 use Rattle.golden.specs.declared.Golden.{Golden}
 use Rattle.words.specs.Words.{wordOf}
 use Rattle.net.specs.Division.{each}
-use Rattle.net.specs.Sides.{IsSide, OneToThree, nth}
+use Rattle.net.specs.Sides.{IsSide, nth}
 use Rattle.filing.specs.Holding.{_-φ_}
 use Rattle.filing.specs.Means.Sides.{sideDets}
 use Rattle.filing.specs.declared.Determinants.{Determinants}

@@ -1,7 +1,7 @@
 -- Where a direction stands in a triangle: each determinant as a share of their sum, in whole parts. What the code is
 -- proved by, and no promise.
 -- Assumes nothing.
-use Prim.Native.Nat.{ℕ, suc}
+use Prim.Native.Nat.{ℕ}
 use mathlib.Core.Path.{_≡_}
 use mathlib.Core.Logic.{_⊎_}
 use lib.IntN.{pos}

@@ -1,14 +1,11 @@
 -- The roles by signs, their near numbers divided, and each share made exact (ExactStands). Assumes nothing.
 use borrow.Author.Needs.{needs}
-use mathlib.Core.Path.{_≡_, sym, _∙_, ap, subst}
-use Prim.Native.Nat.{_+_, _<_}
+use mathlib.Core.Path.{_≡_, _∙_, ap}
+use Prim.Native.Nat.{_+_}
 use native.Mathlib.Omega.{arith}
 use Rattle.golden.specs.Numbers.{_+φ_}
 use Rattle.golden.specs.declared.Golden.{Golden}
 use Rattle.filing.specs.Means.Descent.{total}
-use Rattle.filing.specs.declared.Determinants.{Determinants}
-use Rattle.shares.specs.Means.Shares.{Share}
-use Rattle.seats.specs.Means.Octants.{rolesOf}
 use Rattle.seats.specs.Means.Roles.{Measured}
 use Rattle.seats.proofs.ExactRoles.{Small, roles-small, small-wide, two-wide, small-bound}
 use Rattle.seats.proofs.ExactStands.{all-measured, stands-exactly}

@@ -1,6 +1,5 @@
 -- The near numbers of the roles, in the seat of the signs (Seating). Assumes nothing.
 use borrow.Author.Needs.{needs}
-use mathlib.Core.Path.{_≡_}
 use Rattle.seats.proofs.Seating.{seated}
 use Rattle.seats.proofs.placing.sit.Statement.{statement}
 use Rattle.seats.proofs.placing.sit.Tie as tie

@@ -8,7 +8,8 @@ use lib.ListN.{length, take, drop, length-append}
 use lib.Seq.{take-append-seam}
 use Rattle.words.specs.Words.{cornerNumber, degreeOf, digitOf, digits, sideOf}
 use Rattle.words.specs.Refusals.{IsCode}
-use Rattle.words.specs.Family.{codeAnswer, refuseParent, refuseChild, parentOf, childOf, parentAnswer, childAnswer, noCode}
+use Rattle.words.specs.Family.{codeAnswer, refuseParent, refuseChild, parentOf, childOf, parentAnswer, childAnswer}
+use Rattle.words.specs.Family.{noCode}
 use Rattle.words.specs.declared.TriangleCode.{TriangleCode}
 use Rattle.words.specs.declared.CodeAnswer.{CodeAnswer}
 use Rattle.words.proofs.Codes.{code-degree, is-code}
@@ -29,7 +30,8 @@ use Rattle.filing.specs.Coordinates.{exact}
 use Rattle.filing.proofs.OnePoint.{same-point}
 use Rattle.filing.proofs.Weighted.{corner-twelve}
 use Rattle.corners.specs.Refusals.{refuseNumbered}
-use Rattle.corners.specs.Answers.{Answer, Lent, Put, stepAnswer, nameAnswer, Named, CrossAnswer, NamingAnswer, BackAnswer}
+use Rattle.corners.specs.Answers.{Answer, Lent, Put, stepAnswer, nameAnswer, Named, CrossAnswer, NamingAnswer}
+use Rattle.corners.specs.Answers.{BackAnswer}
 use Rattle.corners.specs.declared.StepAnswer.{StepAnswer}
 use Rattle.corners.specs.declared.NameAnswer.{NameAnswer}
 use Rattle.corners.proofs.Refused.{numbered-passes, weights-passes, name-weights-passes, back-passes}
@@ -42,12 +44,15 @@ use Rattle.grid.specs.Demands.{Keeps, WithList, Demand1, Demand2Codes, D
 -- ---- 1
 
 -- the number of an answer is the refusal's
-number-is : {A : Type 0} {f : ℕ} {Good : A → Type 0} {zeros : ℕ → A} (number : A → ℕ) → number (zeros f) ≡ f → ((r : A) → Good r → number r ≡ 0)
+number-is : {A : Type 0} {f : ℕ} {Good : A → Type 0} {zeros : ℕ → A} (number : A → ℕ)
+    → number (zeros f) ≡ f → ((r : A) → Good r → number r ≡ 0)
     → (r : A) → Answer f Good zeros r → number r ≡ f
-number-is {A} {f} number z g r a = ⊎-elim (λ e. g r (a .answered e) ∙ sym e) (λ n. ap number (a .refused n) ∙ z) (either-way (same f 0))
+number-is {A} {f} number z g r a =
+    ⊎-elim (λ e. g r (a .answered e) ∙ sym e) (λ n. ap number (a .refused n) ∙ z) (either-way (same f 0))
 
 -- an answer whose number is 0 is what was asked for
-module _ {A : Type 0} {f : ℕ} {Good : A → Type 0} {zeros : ℕ → A} (number : A → ℕ) (z : number (zeros f) ≡ f) (g : (r : A) → Good r → number r ≡ 0) where
+module _ {A : Type 0} {f : ℕ} {Good : A → Type 0} {zeros : ℕ → A} (number : A → ℕ)
+    (z : number (zeros f) ≡ f) (g : (r : A) → Good r → number r ≡ 0) where
   passed : {r : A} → Answer f Good zeros r → number r ≡ 0 → f ≡ 0
   passed {r} a e = sym (number-is number z g r a) ∙ e
 
@@ -55,28 +60,46 @@ module _ {A : Type 0} {f : ℕ} {Good : A → Type 0} {zeros : ℕ → A} (numbe
   good a e = a .answered (passed a e)
 
 module _ {A : Type 0} {f : ℕ} {Good : A → Type 0} {zeros : ℕ → A} {number : A → ℕ} where
-  keeps : ((r : A) × Answer f Good zeros r) → ((r r′ : A) → Answer f Good zeros r → Answer f Good zeros r′ → r ≡ r′)
-      → number (zeros f) ≡ f → ((r : A) → Good r → number r ≡ 0) → Keeps f (Answer f Good zeros) number zeros
+  keeps : ((r : A) × Answer f Good zeros r)
+      → ((r r′ : A) → Answer f Good zeros r → Answer f Good zeros r′ → r ≡ r′)
+      → number (zeros f) ≡ f → ((r : A) → Good r → number r ≡ 0)
+      → Keeps f (Answer f Good zeros) number zeros
   keeps some one z g = record {
     one = (some .0, record { meets = some .1; only = λ r a. one r (some .0) a (some .1) });
     exactly = number-is number z g;
     refused = λ r a n. a .refused n;
   }
 
-module _ {A : Type 0} {f : ℕ} {Good : A → List ℕ → Type 0} {zeros : ℕ → A} {out : List ℕ} {number : A → ℕ} where
+module _ {A : Type 0} {f : ℕ} {Good : A → List ℕ → Type 0} {zeros : ℕ → A} {out : List ℕ}
+    {number : A → ℕ} where
   keeps-lent : ((r : A) × (new : List ℕ) × Lent f Good zeros out r new)
-      → ((r r′ : A) (new new′ : List ℕ) → Lent f Good zeros out r new → Lent f Good zeros out r′ new′ → (r ≡ r′) × (new ≡ new′))
+      → ((r r′ : A) (new new′ : List ℕ) → Lent f Good zeros out r new → Lent f Good zeros out r′ new′
+      → (r ≡ r′) × (new ≡ new′))
       → number (zeros f) ≡ f → ((r : A) (new : List ℕ) → Good r new → number r ≡ 0)
-      → Keeps {A = WithList A} f (λ r. Lent f Good zeros out (r .0) (r .1)) (λ r. number (r .0)) (λ k. (zeros k, out))
+      → Keeps {A = WithList A} f (λ r. Lent f Good zeros out (r .0) (r .1)) (λ r. number (r .0))
+      (λ k. (zeros k, out))
   keeps-lent some one z g = record {
-    one = ((some .0, some .1), record { meets = some .2; only = λ r a. let e = one (r .0) (some .0) (r .1) (some .1) a (some .2) in λ i. (e .0 i, e .1 i) });
-    exactly = λ r a. ⊎-elim (λ e. g (r .0) (r .1) (a .answered e) ∙ sym e) (λ n. ap number (a .refused n .0) ∙ z) (either-way (same f 0));
+    one = (
+      (some .0, some .1),
+      record {
+        meets = some .2;
+        only = λ r a. let e = one (r .0) (some .0) (r .1) (some .1) a (some .2) in λ i. (e .0 i, e .1 i);
+      },
+    );
+    exactly = λ r a.
+        ⊎-elim (λ e. g (r .0) (r .1) (a .answered e) ∙ sym e) (λ n. ap number (a .refused n .0) ∙ z)
+        (either-way (same f 0));
     refused = λ r a n. let e = a .refused n in λ i. (e .0 i, e .1 i);
   }
 
 -- an answer that is an equation
-keeps-is : {A : Type 0} {f : ℕ} {number : A → ℕ} {zeros : ℕ → A} (v : A) → number v ≡ f → ((f ≡ 0 → ⊥) → v ≡ zeros f) → Keeps f (λ r. r ≡ v) number zeros
-keeps-is {A} {f} {number} {zeros} v h k = record { one = (v, record { meets = refl; only = λ r e. e }); exactly = λ r e. ap number e ∙ h; refused = λ r e n. e ∙ k n }
+keeps-is : {A : Type 0} {f : ℕ} {number : A → ℕ} {zeros : ℕ → A} (v : A) → number v ≡ f
+    → ((f ≡ 0 → ⊥) → v ≡ zeros f) → Keeps f (λ r. r ≡ v) number zeros
+keeps-is {A} {f} {number} {zeros} v h k = record {
+  one = (v, record { meets = refl; only = λ r e. e });
+  exactly = λ r e. ap number e ∙ h;
+  refused = λ r e n. e ∙ k n;
+}
 
 code-number : (f : ℕ) (t : TriangleCode) → codeAnswer f t .refusal ≡ f
 code-number zero t = refl
@@ -91,11 +114,14 @@ unfolding parentAnswer childAnswer
 demand-1 = record {
   check = λ t. keeps-is _ refl (λ n. refl);
   checkNames = λ q. keeps-is _ refl (λ n. refl);
-  parent = λ t. keeps-is (parentAnswer t) (code-number (refuseParent t) (parentOf t)) (code-zeros (refuseParent t) (parentOf t));
-  child = λ t d. keeps-is (childAnswer t d) (code-number (refuseChild t d) (childOf t d)) (code-zeros (refuseChild t d) (childOf t d));
+  parent = λ t. keeps-is (parentAnswer t) (code-number (refuseParent t) (parentOf t))
+      (code-zeros (refuseParent t) (parentOf t));
+  child = λ t d. keeps-is (childAnswer t d) (code-number (refuseChild t d) (childOf t d))
+      (code-zeros (refuseChild t d) (childOf t d));
   cross = λ t k. keeps (corners.cross-some t k) (corners.cross-one t k) refl (λ r g. g .number);
   weights = λ t i out. keeps-lent (corners.weights-some t i out) (corners.weights-one t i out) refl (λ r new g. g .0);
-  nameWeights = λ q out. keeps-lent (corners.name-weights-some q out) (corners.name-weights-one q out) refl (λ r new g. g .0);
+  nameWeights = λ q out. keeps-lent (corners.name-weights-some q out) (corners.name-weights-one q out) refl
+      (λ r new g. g .0);
   coordinates = λ t i. keeps (points.place-some t i) (points.place-one t i) refl (λ r g. g .number);
   nameCoordinates = λ q. keeps (points.name-place-some q) (points.name-place-one q) refl (λ r g. g .number);
   ticks = λ t i. keeps (points.tick-answer-some t i) (points.tick-answer-one t i) refl (λ r g. g .number);
@@ -104,9 +130,11 @@ demand-1 = record {
   nameDrawn = λ q. keeps (points.name-draw-some q) (points.name-draw-one q) refl (λ r g. g .number);
   naming = λ t i. keeps (corners.naming-some t i) (corners.naming-one t i) refl (λ r g. g .number);
   back = λ n weights. keeps (corners.back-some n weights) (corners.back-one n weights) refl (λ r g. g .number);
-  ring = λ q out. keeps-lent (corners.ring-answer-some q out) (corners.ring-answer-one q out) refl (λ r new g. ap (λ (x : _). x .refusal) (g .count));
+  ring = λ q out. keeps-lent (corners.ring-answer-some q out) (corners.ring-answer-one q out) refl
+      (λ r new g. ap (λ (x : _). x .refusal) (g .count));
   file = λ n d. keeps (directions.file-some n d) (directions.file-one n d) refl (λ r g. g .number);
-  list = λ n d out. keeps-lent (directions.list-some n d out) (directions.list-one n d out) refl (λ r new g. ap (λ (x : _). x .refusal) (g .count));
+  list = λ n d out. keeps-lent (directions.list-some n d out) (directions.list-one n d out) refl
+      (λ r new g. ap (λ (x : _). x .refusal) (g .count));
 }
 
 -- ---- 2, from code to corner
@@ -120,7 +148,8 @@ side-corners : (t : TriangleCode) → IsCode 0 t → triangleOf t ≡ triangleAt
 unfolding digits
 side-corners t c = triangle-at t ∙ ap (λ (n : ℕ). triangleAt (sideOf (t .0)) (digits (t .0) n)) (c .degreeIs)
 
-child-corners : (t : TriangleCode) (d : ℕ) → refuseChild t d ≡ 0 → triangleOf (childOf t d) ≡ divide d (triangleOf t)
+child-corners : (t : TriangleCode) (d : ℕ) → refuseChild t d ≡ 0
+    → triangleOf (childOf t d) ≡ divide d (triangleOf t)
 unfolding triangleAt
 child-corners t d z =
     let h = child-has t d z in
@@ -131,7 +160,8 @@ child-corners t d z =
     ∙ ap (divide d) (sym (triangle-at t))
 
 -- an answered parent or child
-was-answered : {r : CodeAnswer} (f : ℕ) (t : TriangleCode) → r ≡ codeAnswer f t → r .refusal ≡ 0 → (f ≡ 0) × (r .code ≡ t)
+was-answered : {r : CodeAnswer} (f : ℕ) (t : TriangleCode) → r ≡ codeAnswer f t → r .refusal ≡ 0
+    → (f ≡ 0) × (r .code ≡ t)
 was-answered {r} f t e z = go f e (sym (code-number f t) ∙ ap (λ (x : CodeAnswer). x .refusal) (sym e) ∙ z)
   where
     go : (f : ℕ) → r ≡ codeAnswer f t → f ≡ 0 → (f ≡ 0) × (r .code ≡ t)
@@ -143,14 +173,16 @@ front : (p out : List ℕ) → length p ≡ 12 → take 12 (over p out) ≡ p
 front p out e = ap (λ (n : ℕ). take n (over p out)) (sym e) ∙ take-append-seam p (drop (length p) out)
 
 -- weights that were answered, with 0
-put : {f : ℕ} (p : Weights) {out new : List ℕ} → Lent f (Put p out) (λ k. k) out 0 new → (f ≡ 0) × (new ≡ over p out)
+put : {f : ℕ} (p : Weights) {out new : List ℕ} → Lent f (Put p out) (λ k. k) out 0 new
+    → (f ≡ 0) × (new ≡ over p out)
 put {f} p a = ⊎-elim (λ e. (e, a .answered e .1)) (λ n. absurd (n (sym (a .refused n .0)))) (either-way (same f 0))
 
 numbered : (t : TriangleCode) (i : ℕ) → refuseNumbered t i ≡ 0 → IsCode (degreeOf (t .0)) t × OneToThree i
 numbered t i z = let p = numbered-passes t i .0 z in (is-code t (p .0), p .1)
 
 -- the name of a corner, where naming answers
-naming-is : (t : TriangleCode) (i : ℕ) (s : NameAnswer) → NamingAnswer t i s → s .refusal ≡ 0 → (refuseNumbered t i ≡ 0) × IsName (degreeOf (t .0)) (corner t i) (s .name)
+naming-is : (t : TriangleCode) (i : ℕ) (s : NameAnswer) → NamingAnswer t i s → s .refusal ≡ 0
+    → (refuseNumbered t i ≡ 0) × IsName (degreeOf (t .0)) (corner t i) (s .name)
 naming-is t i s a z =
     let f = passed (λ r. r .refusal) refl (λ r g. g .number) a z in
     (f, a .answered f .is)
@@ -159,9 +191,16 @@ pub demand-2-codes : Demand2Codes
 unfolding parentAnswer childAnswer triangleAt
 demand-2-codes = record {
   side = side-corners;
-  child = λ t d r e z. let p = was-answered (refuseChild t d) (childOf t d) e z in ap triangleOf (p .1) ∙ child-corners t d (p .0);
-  childParent = λ t d r e z. let p = was-answered (refuseChild t d) (childOf t d) e z in ap parentAnswer (p .1) ∙ child-then-parent t d (p .0);
-  parentChild = λ t r e z. let p = was-answered (refuseParent t) (parentOf t) e z in ap (λ (u : TriangleCode). childAnswer u (digitOf (t .0) (degreeOf (t .0)))) (p .1) ∙ parent-then-child t (p .0);
+  child = λ t d r e z.
+      let p = was-answered (refuseChild t d) (childOf t d) e z in
+      ap triangleOf (p .1) ∙ child-corners t d (p .0);
+  childParent = λ t d r e z.
+      let p = was-answered (refuseChild t d) (childOf t d) e z in
+      ap parentAnswer (p .1) ∙ child-then-parent t d (p .0);
+  parentChild = λ t r e z.
+      let p = was-answered (refuseParent t) (parentOf t) e z in
+      ap (λ (u : TriangleCode). childAnswer u (digitOf (t .0) (degreeOf (t .0)))) (p .1)
+      ∙ parent-then-child t (p .0);
   weights = λ t i out new a.
       let p = put (corner t i) a in
       let c = numbered t i (weights-passes t i out .0 (p .0) .0) in
@@ -170,7 +209,8 @@ demand-2-codes = record {
       let n = naming-is t i s a z in
       let e : named (s .name) ≡ corner t i = n .1 .there in
       let c = numbered t i (n .0) in
-      ap (take 12) (put (named (s .name)) b .1) ∙ front (named (s .name)) out (ap length e ∙ corner-twelve (c .0) i .places) ∙ e;
+      ap (take 12) (put (named (s .name)) b .1)
+      ∙ front (named (s .name)) out (ap length e ∙ corner-twelve (c .0) i .places) ∙ e;
   coordinates = λ t i r a z. good (λ r. r .refusal) refl (λ r g. g .number) a z .is;
   nameCoordinates = λ t i s r a z b.
       let n = naming-is t i s a z in
@@ -182,14 +222,16 @@ demand-2-codes = record {
 -- ---- 2, from weights back to the name
 
 -- twelve weights of a corner at the front of a list are not refused, and have its name
-back-answered : (n : ℕ) (t : TriangleCode) (i : ℕ) (out : List ℕ) (q : NameAnswer) → IsCode n t → OneToThree i → Named n (corner t i) q → BackAnswer n (over (corner t i) out) q
+back-answered : (n : ℕ) (t : TriangleCode) (i : ℕ) (out : List ℕ) (q : NameAnswer) → IsCode n t → OneToThree i
+    → Named n (corner t i) q → BackAnswer n (over (corner t i) out) q
 back-answered n t i out q c l g =
     let p = corner t i in
     let twelve : length p ≡ 12 = corner-twelve c i .places in
     let m = weights-mean n p (code-degree c) twelve .1 (t, c, (i, l, refl)) in
     let e : take 12 (over p out) ≡ p = front p out twelve in
     let long : 12 ≤ length (over p out) = omega (arith, length-append p (drop (length p) out)) in
-    answering (back-passes n (over p out) .1 (code-degree c, long, ap sum e ∙ m .0, ap onOneSide e ∙ m .1)) (subst (λ (w : Weights). Named n w q) (sym e) g)
+    answering (back-passes n (over p out) .1 (code-degree c, long, ap sum e ∙ m .0, ap onOneSide e ∙ m .1))
+    (subst (λ (w : Weights). Named n w q) (sym e) g)
 
 pub demand-2-back : Demand2Back
 demand-2-back = record {
@@ -197,13 +239,17 @@ demand-2-back = record {
       let p = put (corner t i) w in
       let z = weights-passes t i out .0 (p .0) .0 in
       let c = numbered t i z in
-      corners.back-one (degreeOf (t .0)) new r s b (subst (λ (l : List ℕ). BackAnswer (degreeOf (t .0)) l s) (sym (p .1)) (back-answered _ t i out s (c .0) (c .1) (a .answered z)));
+      corners.back-one (degreeOf (t .0)) new r s b
+      (subst (λ (l : List ℕ). BackAnswer (degreeOf (t .0)) l s) (sym (p .1))
+      (back-answered _ t i out s (c .0) (c .1) (a .answered z)));
   round = λ n weights r b z. good (λ r. r .refusal) refl (λ r g. g .number) b z .is .there;
   again = λ q out new r w b.
       let p = put (named q) w in
       let x = name-means q .0 (name-weights-passes q out .0 (p .0) .0) .1 in
       corners.back-one (degreeOf (q .0)) new r (nameAnswer 0 q) b
-      (subst (λ (l : List ℕ). BackAnswer (degreeOf (q .0)) l (nameAnswer 0 q)) (sym (p .1)) (back-answered _ (codeInside q) (cornerNumber (q .0)) out (nameAnswer 0 q) (x .code) (x .number) (record { number = refl; is = x })));
+      (subst (λ (l : List ℕ). BackAnswer (degreeOf (q .0)) l (nameAnswer 0 q)) (sym (p .1))
+      (back-answered _ (codeInside q) (cornerNumber (q .0)) out (nameAnswer 0 q) (x .code) (x .number)
+      (record { number = refl; is = x })));
 }
 
 pub demand-2-files : Demand2Files
@@ -223,7 +269,8 @@ crossed-is t k r a z =
     (c .0, c .1, a .answered f .across)
 
 -- of the numbers 1 to 3 the two that are not k
-other-two : (k : ℕ) → OneToThree k → (i : ℕ) → OneToThree i → (i ≡ k) ⊎ ((next k ≡ i) ⊎ (prev k ≡ i))
+other-two : (k : ℕ) → OneToThree k → (i : ℕ) → OneToThree i
+    → (i ≡ k) ⊎ ((next k ≡ i) ⊎ (prev k ≡ i))
 other-two = sound (threes λ k. threes λ i. same i k or (same (next k) i or same (prev k) i)) refl
 
 pub demand-3 : Demand3
@@ -245,23 +292,30 @@ demand-3 = record {
             let i = h .0 .0 in
             let e : corner t i ≡ p = h .0 .2 in
             let u : HasCorner (r .code) (corner t i) = (h .1 .0, h .1 .1, h .1 .2 ∙ sym e) in
-            ⊎-elim (λ f. inl (ap (corner t) f ∙ e)) (λ f. inr (ap (corner t) f ∙ e)) (⊎-elim (λ f. absurd (just i (h .0 .1) .0 u f)) (λ f. f) (other-two k (x .1) i (h .0 .1))),
+            ⊎-elim (λ f. inl (ap (corner t) f ∙ e)) (λ f. inr (ap (corner t) f ∙ e))
+            (⊎-elim (λ f. absurd (just i (h .0 .1) .0 u f)) (λ f. f) (other-two k (x .1) i (h .0 .1))),
         ⊎-elim
-            (λ e. shared t (r .code) (next k) (next-three k (x .1)) e (just (next k) (next-three k (x .1)) .1 (next-not k (x .1))))
-            (λ e. shared t (r .code) (prev k) (prev-three k (x .1)) e (just (prev k) (prev-three k (x .1)) .1 (prev-not k (x .1)))),
+            (λ e. shared t (r .code) (next k) (next-three k (x .1)) e
+            (just (next k) (next-three k (x .1)) .1 (next-not k (x .1))))
+            (λ e. shared t (r .code) (prev k) (prev-three k (x .1)) e
+            (just (prev k) (prev-three k (x .1)) .1 (prev-not k (x .1)))),
       );
   back = λ t k r s a z b.
       let x = crossed-is t k r a z in
       let y = x .2 in
       let d = y .code .degreeIs in
-      let v : Across (degreeOf (r .code .0)) (r .code) (r .edge) t k = subst (λ (m : ℕ). Across m (r .code) (r .edge) t k) (sym d) (across-back (x .0) (x .1) y) in
+      let v : Across (degreeOf (r .code .0)) (r .code) (r .edge) t k =
+      subst (λ (m : ℕ). Across m (r .code) (r .edge) t k) (sym d) (across-back (x .0) (x .1) y) in
       corners.cross-one (r .code) (r .edge) s (stepAnswer 0 t k) b
-      (answering (numbered-passes (r .code) (r .edge) .1 (y .code .passes, y .edge)) (record { number = refl; across = v }));
+      (answering (numbered-passes (r .code) (r .edge) .1 (y .code .passes, y .edge))
+      (record { number = refl; across = v }));
   names = λ t u i j r s a b y z d.
       let p = naming-is t i r a y .1 in
       let q = naming-is u j s b z .1 in
-      names-equal (degreeOf (t .0)) (corner t i) (corner u j) (r .name) (s .name) p (subst (λ (m : ℕ). IsName m (corner u j) (s .name)) (sym d) q);
+      names-equal (degreeOf (t .0)) (corner t i) (corner u j) (r .name) (s .name) p
+      (subst (λ (m : ℕ). IsName m (corner u j) (s .name)) (sym d) q);
 }
   where
-    shared : (t u : TriangleCode) {p : Weights} (i : ℕ) → OneToThree i → corner t i ≡ p → HasCorner u (corner t i) → HasCorner t p × HasCorner u p
+    shared : (t u : TriangleCode) {p : Weights} (i : ℕ) → OneToThree i → corner t i ≡ p
+        → HasCorner u (corner t i) → HasCorner t p × HasCorner u p
     shared t u i l e h = ((i, l, e), (h .0, h .1, h .2 ∙ e))

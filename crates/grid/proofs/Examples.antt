@@ -1,4 +1,5 @@
--- Document 01's examples (specs/Examples.antt), each computed, and by the laws that there is no other answer. Assumes nothing.
+-- Document 01's examples (specs/Examples.antt), each computed, and by the laws that there is no other answer. Assumes
+-- nothing.
 use mathlib.Core.Path.{_≡_, refl}
 use lib.Dec.{lit≤}
 use lib.IntN.{pos}
@@ -27,7 +28,9 @@ use Rattle.corners.specs.Refusals.{refuseNumbered, refuseWeights, refuseBack, r
 use Rattle.directions.specs.Refusals.{refuseFile, refuseList}
 use Rattle.grid.specs.Writing.{decimals, written, cornerIn, minus, up, ticks, point}
 use Rattle.grid.specs.Examples.{Examples, Family, Weighed, Rings, Places, Points}
-use Rattle.grid.proofs.Showing.{files, lists, lists-refused, crosses, names, backs, weighs, weighs-name, weighs-refused, rings-by, rings-refused, passes-by, placed, ticked, pointed, placed-name, ticked-name, pointed-name, not-placed, not-pointed}
+use Rattle.grid.proofs.Showing.{files, lists, lists-refused, crosses, names, backs, weighs, weighs-name}
+use Rattle.grid.proofs.Showing.{weighs-refused, rings-by, rings-refused, passes-by, placed, ticked, pointed}
+use Rattle.grid.proofs.Showing.{placed-name, ticked-name, pointed-name, not-placed, not-pointed}
 
 -- ---- the name of V(41), its t, and what is drawn
 
@@ -50,7 +53,10 @@ point-41 = record {
 -- ---- E1 to E12
 
 pub examples : Examples
-unfolding refusal refuseFile refuseNumbered refuseBack decimals written path wordOf digits corner cornerOf triangleAt unitAt cornerVertex sum stepOf cross seamSide seamKept around wordAt nameAt leastName leastFrom first holds nonNeg sideDets determinants replaced determinant exact _+φ_ negφ _*φ_ descent leastChild allWords sideWords joined holders
+unfolding refusal refuseFile refuseNumbered refuseBack decimals written path wordOf digits corner cornerOf triangleAt
+    unitAt cornerVertex sum stepOf cross seamSide seamKept around wordAt nameAt leastName leastFrom first holds nonNeg
+    sideDets determinants replaced determinant exact _+φ_ negφ _*φ_ descent leastChild allWords sideWords joined
+    holders
 examples = record {
   e1 = refl;
   e2 = refl;
@@ -78,7 +84,8 @@ unfolding refusal refuseParent refuseChild parentOf childOf parentAnswer childAn
 family = record { child = refl; parent = refl; no-parent = refl; no-child = refl }
 
 passes-weighed : checkName (cornerIn 10000 1) ≡ 0
-unfolding checkNameFields refusal decimals written path wordOf digits stepOf cross seamSide seamKept around wordAt nameAt leastName
+unfolding checkNameFields refusal decimals written path wordOf digits stepOf cross seamSide seamKept around wordAt
+    nameAt leastName
 passes-weighed = passes-by (cornerIn 10000 1) refl refl
 
 pub weighed : Weighed
@@ -91,21 +98,26 @@ weighed = record {
 }
 
 passes-five : checkName (cornerIn 100 1) ≡ 0
-unfolding checkNameFields refusal decimals written path wordOf digits stepOf cross seamSide seamKept around wordAt nameAt leastName
+unfolding checkNameFields refusal decimals written path wordOf digits stepOf cross seamSide seamKept around wordAt
+    nameAt leastName
 passes-five = passes-by (cornerIn 100 1) refl refl
 
 passes-six : checkName (cornerIn 1000 3) ≡ 0
-unfolding checkNameFields refusal decimals written path wordOf digits stepOf cross seamSide seamKept around wordAt nameAt leastName
+unfolding checkNameFields refusal decimals written path wordOf digits stepOf cross seamSide seamKept around wordAt
+    nameAt leastName
 passes-six = passes-by (cornerIn 1000 3) refl refl
 
 pub rings : Rings
-unfolding decimals written path wordOf digits corner cornerOf triangleAt unitAt cornerVertex stepOf cross seamSide seamKept around wordAt ringWords
-rings = record { five = rings-by (cornerIn 100 1) _ passes-five refl; six = rings-by (cornerIn 1000 3) _ passes-six refl }
+unfolding decimals written path wordOf digits corner cornerOf triangleAt unitAt cornerVertex stepOf cross seamSide
+    seamKept around wordAt ringWords
+rings =
+    record { five = rings-by (cornerIn 100 1) _ passes-five refl; six = rings-by (cornerIn 1000 3) _ passes-six refl }
 
 -- ---- lent lists
 
 pub places : Places
-unfolding refusal refuseWeights refuseNumbered refuseRing refuseList checkName canonical everyCode codeAt decimals written path wordOf digits corner cornerOf triangleAt unitAt cornerVertex
+unfolding refusal refuseWeights refuseNumbered refuseRing refuseList checkName canonical everyCode codeAt decimals
+    written path wordOf digits corner cornerOf triangleAt unitAt cornerVertex
 places = record {
   ring = rings .five (replicate 7 7) (lit≤ tt);
   holders = examples .whole (replicate 7 7) (lit≤ tt);
@@ -130,7 +142,8 @@ point-six = record {
 }
 
 pub points : Points
-unfolding refusal refuseNumbered checkName decimals written path wordOf digits corner cornerOf triangleAt unitAt cornerVertex exact _+φ_ _*φ_
+unfolding refusal refuseNumbered checkName decimals written path wordOf digits corner cornerOf triangleAt unitAt
+    cornerVertex exact _+φ_ _*φ_
 points = record {
   v41 = placed (written 401) 1 refl _ refl;
   v41-name = placed-name (nameOf 0x7000000000000002) passes _ refl;

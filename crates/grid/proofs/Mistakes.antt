@@ -1,5 +1,5 @@
--- The mistakes of document 01 (specs/Mistakes.antt) are refused: by the examples, beside which there is no other answer, and by what the promises say. Assumes
--- nothing.
+-- The mistakes of document 01 (specs/Mistakes.antt) are refused: by the examples, beside which there is no other
+-- answer, and by what the promises say. Assumes nothing.
 use mathlib.Core.Path.{_≡_, _∙_, refl, sym, ap, subst}
 use mathlib.Core.List.{List, [], _∷_}
 use mathlib.Core.Logic.{_⊎_, inl, inr, ⊎-elim}
@@ -57,21 +57,25 @@ use Rattle.grid.proofs.Examples.{examples, rings}
 -- ---- close to an edge
 
 close-filed : FileAnswer 24 close gives codeAnswer 0 holder
-unfolding refusal refuseFile decimals written path wordOf triangleAt unitAt cornerVertex leastFrom first holds nonNeg sideDets determinants replaced determinant exact _+φ_ negφ _*φ_ descent leastChild
+unfolding refusal refuseFile decimals written path wordOf triangleAt unitAt cornerVertex leastFrom first holds nonNeg
+    sideDets determinants replaced determinant exact _+φ_ negφ _*φ_ descent leastChild
 close-filed = files 24 close holder refl refl
 
 close-outside : Holds across-edge close → ⊥
-unfolding decimals written path wordOf digits corner cornerOf triangleAt unitAt cornerVertex determinants replaced determinant exact _+φ_ negφ _*φ_
+unfolding decimals written path wordOf digits corner cornerOf triangleAt unitAt cornerVertex determinants replaced
+    determinant exact _+φ_ negφ _*φ_
 close-outside h = not-nonneg (dets across-edge close .d1) tt (h .n1)
 
 -- ---- strictly inside
 
 -- the triangles of degree 2 that hold (0, 0, 1)
 abbrev six : List ℕ
-six = written 10003 .0 ∷ written 10012 .0 ∷ written 10021 .0 ∷ written 50002 .0 ∷ written 50013 .0 ∷ written 50031 .0 ∷ []
+six = written 10003 .0 ∷ written 10012 .0 ∷ written 10021 .0
+    ∷ written 50002 .0 ∷ written 50013 .0 ∷ written 50031 .0 ∷ []
 
 all-six : allWords up 2 4 ≡ six
-unfolding decimals written path wordOf triangleAt unitAt cornerVertex holds nonNeg sideDets determinants replaced determinant exact _+φ_ negφ _*φ_ allWords sideWords joined holders
+unfolding decimals written path wordOf triangleAt unitAt cornerVertex holds nonNeg sideDets determinants replaced
+    determinant exact _+φ_ negφ _*φ_ allWords sideWords joined holders
 all-six = refl
 
 -- one of the first two determinants is 0
@@ -79,7 +83,8 @@ abbrev OnEdge : ℕ → Type 0
 OnEdge w = (dets (codeOf w) up .d1 ≡ whole (pos 0)) ⊎ (dets (codeOf w) up .d2 ≡ whole (pos 0))
 
 each-on-edge : (m : ℕ) → m < 6 → OnEdge (getD six m 0)
-unfolding decimals written path wordOf digits corner cornerOf triangleAt unitAt cornerVertex determinants replaced determinant exact _+φ_ negφ _*φ_
+unfolding decimals written path wordOf digits corner cornerOf triangleAt unitAt cornerVertex determinants replaced
+    determinant exact _+φ_ negφ _*φ_
 each-on-edge zero l = inl refl
 each-on-edge (suc zero) l = inl refl
 each-on-edge (suc (suc zero)) l = inr refl
@@ -90,18 +95,21 @@ each-on-edge (suc (suc (suc (suc (suc (suc m)))))) l = absurd (omega arith)
 
 in-none : (t : TriangleCode) → IsCode 2 t → StrictlyInside t up → ⊥
 in-none t c h =
-    let x = subst (AreHolders 2 up) all-six (all-holders 2 up (lit≤ tt)) .complete t c (record { n1 = h .0 .0; n2 = h .1 .0; n3 = h .2 .0 }) in
+    let x = subst (AreHolders 2 up) all-six (all-holders 2 up (lit≤ tt)) .complete t c
+    (record { n1 = h .0 .0; n2 = h .1 .0; n3 = h .2 .0 }) in
     ⊎-elim (h .0 .1) (h .1 .1) (subst OnEdge (x .2) (each-on-edge (x .0) (x .1)))
 
 -- ---- one fixed code, one fixed name
 
 -- what is filed lies in the least side that holds
-filed-side : (n : ℕ) (d : Direction) (t : TriangleCode) → n ≤ 24 → refuseFile n d ≡ 0 → FileAnswer n d (codeAnswer 0 t) → sideOf (t .0) ≡ leastFrom d 4
+filed-side : (n : ℕ) (d : Direction) (t : TriangleCode) → n ≤ 24 → refuseFile n d ≡ 0
+    → FileAnswer n d (codeAnswer 0 t) → sideOf (t .0) ≡ leastFrom d 4
 filed-side n d t l z a =
     let v = descent n (sideDets d (leastFrom d 4)) 0 in
     let e : t ≡ codeOf (wordOf (leastFrom d 4) n v) = filed-once (a .answered z .is) (found-code n d l) in
     let k : 0 + n ≡ n = omega arith in
-    ap (λ (t : TriangleCode). sideOf (t .0)) e ∙ side-word (leastFrom d 4) n v l (rw k at (descent-low n (sideDets d (leastFrom d 4)) 0 0 (omega arith)))
+    ap (λ (t : TriangleCode). sideOf (t .0)) e
+    ∙ side-word (leastFrom d 4) n v l (rw k at (descent-low n (sideDets d (leastFrom d 4)) 0 0 (omega arith)))
 
 -- (1, 1, 1) and (-1, -1, -1) lie in different sides
 abbrev there : Direction
@@ -111,18 +119,27 @@ abbrev opposite : Direction
 opposite = towards (minus 1) (minus 1) (minus 1)
 
 two-sides : (leastFrom there 4 ≡ 8) × (leastFrom opposite 4 ≡ 18)
-unfolding triangleAt unitAt cornerVertex leastFrom first holds nonNeg sideDets determinants replaced determinant exact _+φ_ negφ _*φ_
+unfolding triangleAt unitAt cornerVertex leastFrom first holds nonNeg sideDets determinants replaced determinant exact
+    _+φ_ negφ _*φ_
 two-sides = (refl, refl)
 
-fixed-code : (n : ℕ) (t : TriangleCode) → n ≤ 24 → ((d : Direction) → refuseFile n d ≡ 0 → FileAnswer n d (codeAnswer 0 t)) → ⊥
+fixed-code : (n : ℕ) (t : TriangleCode) → n ≤ 24
+    → ((d : Direction) → refuseFile n d ≡ 0 → FileAnswer n d (codeAnswer 0 t)) → ⊥
 fixed-code n t l f =
     let z : refuseFile n there ≡ 0 = sym (refuse-by n there (le-ltb 24 n l) refl refl) in
     let z′ : refuseFile n opposite ≡ 0 = sym (refuse-by n opposite (le-ltb 24 n l) refl refl) in
-    omega (arith, filed-side n there t l z (f there z), filed-side n opposite t l z′ (f opposite z′), two-sides .0, two-sides .1)
+    omega (
+      arith,
+      filed-side n there t l z (f there z),
+      filed-side n opposite t l z′ (f opposite z′),
+      two-sides .0,
+      two-sides .1,
+    )
 
 -- corners 1 and 2 of a triangle have different names
 fixed-name : (n : ℕ) (q : CornerName) → n ≤ 24
-    → ((t : TriangleCode) (i : ℕ) → refuseNumbered t i ≡ 0 → degreeOf (t .0) ≡ n → NamingAnswer t i (nameAnswer 0 q)) → ⊥
+    → ((t : TriangleCode) (i : ℕ) → refuseNumbered t i ≡ 0 → degreeOf (t .0) ≡ n
+    → NamingAnswer t i (nameAnswer 0 q)) → ⊥
 fixed-name n q l f =
     let t = codeOf (zeroDigits n) in
     let c : IsCode n t = path-code 4 n (lit≤ tt) (lit≤ tt) l 0 (pow-pos (2 * n)) in
@@ -130,17 +147,28 @@ fixed-name n q l f =
     let z′ : refuseNumbered t 2 ≡ 0 = numbered-passes t 2 .1 (c .passes, (lit≤ tt, lit≤ tt)) in
     let x = f t 1 z (c .degreeIs) .answered z .is in
     let y = f t 2 z′ (c .degreeIs) .answered z′ .is in
-    let e : _≡_ {A = ℕ} 1 2 = corner-one c (lit≤ tt, lit≤ tt) (lit≤ tt, lit≤ tt) (sym (x .there) ∙ y .there) in
+    let e : _≡_ {A = ℕ} 1 2 =
+    corner-one c (lit≤ tt, lit≤ tt) (lit≤ tt, lit≤ tt) (sym (x .there) ∙ y .there) in
     omega arith
 
 -- ---- all of them
 
 pub mistakes : Mistakes
-unfolding refusal refuseNumbered refuseBack checkCode decimals written path wordOf digits corner cornerOf triangleAt unitAt cornerVertex sum stepOf cross seamSide seamKept leastFrom first holds nonNeg sideDets determinants replaced determinant exact _+φ_ negφ _*φ_ descent leastChild refuseFile
+unfolding refusal refuseNumbered refuseBack checkCode decimals written path wordOf digits corner cornerOf triangleAt
+    unitAt cornerVertex sum stepOf cross seamSide seamKept leastFrom first holds nonNeg sideDets determinants replaced
+    determinant exact _+φ_ negφ _*φ_ descent leastChild refuseFile
 mistakes = record {
-  edge-kept = λ a. let e : _≡_ {A = ℕ} 2 3 = ap (λ (r : StepAnswer). r .edge) (examples .e8 .only _ a) in omega arith;
-  own-name = λ a. let e : _≡_ {A = ℕ} (written 200 .0 + 2) 0x2000000000000003 = ap (λ (r : NameAnswer). r .name .0) (examples .e11-corner .only _ a) in omega arith;
-  zero-bit = λ a. let e : _≡_ {A = ℕ} 0x2000000000000007 0x2000000000000003 = ap (λ (r : NameAnswer). r .name .0) (examples .e11-corner .only _ a) in omega arith;
+  edge-kept = λ a.
+      let e : _≡_ {A = ℕ} 2 3 = ap (λ (r : StepAnswer). r .edge) (examples .e8 .only _ a) in
+      omega arith;
+  own-name = λ a.
+      let e : _≡_ {A = ℕ} (written 200 .0 + 2) 0x2000000000000003 =
+      ap (λ (r : NameAnswer). r .name .0) (examples .e11-corner .only _ a) in
+      omega arith;
+  zero-bit = λ a.
+      let e : _≡_ {A = ℕ} 0x2000000000000007 0x2000000000000003 =
+      ap (λ (r : NameAnswer). r .name .0) (examples .e11-corner .only _ a) in
+      omega arith;
   close-above = is-nonneg (golden (pos 14472334024676221) (minus 8944394323791464)) tt;
   close-below = not-nonneg (golden (pos 23416728348467685) (minus 14472334024676221)) tt;
   close-filed = close-filed;
@@ -149,18 +177,36 @@ mistakes = record {
   close-wrong = λ a. close-outside (a .answered refl .is .holds);
   on-edge = (refl, refl);
   in-none = in-none;
-  truncated = λ a. let e : _≡_ {A = ℕ} 106039 106040 = ap (λ (r : TicksAnswer). natAbs (r .at .x)) (examples .e12-corner .only _ a) in omega arith;
-  truncated-name = λ a. let e : _≡_ {A = ℕ} 106039 106040 = ap (λ (r : TicksAnswer). natAbs (r .at .x)) (examples .e12 .only _ a) in omega arith;
+  truncated = λ a.
+      let e : _≡_ {A = ℕ} 106039 106040 =
+      ap (λ (r : TicksAnswer). natAbs (r .at .x)) (examples .e12-corner .only _ a) in
+      omega arith;
+  truncated-name = λ a.
+      let e : _≡_ {A = ℕ} 106039 106040 =
+      ap (λ (r : TicksAnswer). natAbs (r .at .x)) (examples .e12 .only _ a) in
+      omega arith;
   refusing = λ k a. let e : suc k ≡ 0 = ap (λ (r : CodeAnswer). r .refusal) (examples .e3 .only _ a) in omega arith;
   fixed-code = fixed-code;
   fixed-name = fixed-name;
   itself = λ t k j z a. a .answered z .across .other refl;
   nothing = λ t k j z a. let e : _≡_ {A = ℕ} 2 0 = a .answered z .across .code .passes in omega arith;
-  then-zeros = λ a. let e : written 10000 .0 ≡ written 10003 .0 = ap (λ (r : CodeAnswer). r .code .0) (examples .e3 .only _ a) in omega arith;
+  then-zeros = λ a.
+      let e : written 10000 .0 ≡ written 10003 .0 =
+      ap (λ (r : CodeAnswer). r .code .0) (examples .e3 .only _ a) in
+      omega arith;
   also-holds = test-holds (dets (written 500) up) refl;
-  not-least = λ a. let e : written 500 .0 ≡ written 100 .0 = ap (λ (r : CodeAnswer). r .code .0) (files 0 up (written 100) refl refl .only _ a) in omega arith;
+  not-least = λ a.
+      let e : written 500 .0 ≡ written 100 .0 =
+      ap (λ (r : CodeAnswer). r .code .0) (files 0 up (written 100) refl refl .only _ a) in
+      omega arith;
   holder-count = λ k out new l n a. n (ap (λ (r : CountAnswer). r .count) (examples .whole out l .only _ new a .0));
   ring-count = λ k out new l n a. n (ap (λ (r : CountAnswer). r .count) (rings .five out l .only _ new a .0));
-  written-on = λ r out new l n a. n (a .refused (λ z. let e : 9 ≡ refuseWeights (written 100) 1 out = weights-nine (written 100) 1 out refl l in omega (arith, e, z)) .1);
-  wrapped-sum = λ q a. let e : _≡_ {A = ℕ} 0 11 = ap (λ (r : NameAnswer). r .refusal) (a .refused (λ z. let e : _≡_ {A = ℕ} 11 0 = z in omega arith)) in omega arith;
+  written-on = λ r out new l n a.
+      n (a .refused (λ z.
+      let e : 9 ≡ refuseWeights (written 100) 1 out = weights-nine (written 100) 1 out refl l in
+      omega (arith, e, z)) .1);
+  wrapped-sum = λ q a.
+      let e : _≡_ {A = ℕ} 0 11 =
+      ap (λ (r : NameAnswer). r .refusal) (a .refused (λ z. let e : _≡_ {A = ℕ} 11 0 = z in omega arith)) in
+      omega arith;
 }

@@ -22,7 +22,8 @@ use Rattle.net.proofs.Crossing.{across-is, codeAcross, edgeAcross}
 use Rattle.net.proofs.LeastName.{least-is-name, place-in, placeIn}
 use Rattle.net.proofs.RingCodes.{ring-is}
 use Rattle.corners.specs.Refusals.{refuseNumbered, refuseWeights, refuseBack, refuseRing}
-use Rattle.corners.specs.Answers.{CrossAnswer, WeightsAnswer, NameWeightsAnswer, NamingAnswer, BackAnswer, RingAnswer, stepAnswer, nameAnswer, countAnswer}
+use Rattle.corners.specs.Answers.{CrossAnswer, WeightsAnswer, NameWeightsAnswer, NamingAnswer, BackAnswer, RingAnswer}
+use Rattle.corners.specs.Answers.{stepAnswer, nameAnswer, countAnswer}
 use Rattle.corners.proofs.Refused.{numbered-passes, weights-passes, name-weights-passes, ring-passes}
 use Rattle.corners.proofs.Calls.{answering, refusing, answering-lent, refusing-lent}
 use Rattle.corners.proofs.OneAnswer.{cross-one, naming-one, back-one, weights-one, name-weights-one, ring-answer-one}
@@ -36,7 +37,8 @@ use Rattle.filing.specs.declared.Coordinates.{Coordinates}
 use Rattle.filing.specs.declared.Direction.{Direction}
 use Rattle.filing.proofs.AllHolders.{all-holders}
 use Rattle.filing.proofs.LeastSide.{found-code}
-use Rattle.points.specs.Answers.{PlaceAnswer, NamePlaceAnswer, TickAnswer, NameTickAnswer, DrawAnswer, NameDrawAnswer, noCoordinates, noPoint}
+use Rattle.points.specs.Answers.{PlaceAnswer, NamePlaceAnswer, TickAnswer, NameTickAnswer, DrawAnswer, NameDrawAnswer}
+use Rattle.points.specs.Answers.{noCoordinates, noPoint}
 use Rattle.points.specs.declared.TicksAnswer.{TicksAnswer}
 use Rattle.points.specs.declared.PointAnswer.{PointAnswer}
 use Rattle.points.proofs.OnePlace.{place-one, name-place-one, tick-answer-one, name-tick-one, draw-one, name-draw-one}
@@ -49,10 +51,12 @@ use Rattle.grid.specs.Writing.{_gives_, _leaves_}
 -- ---- filing and listing
 
 -- by the side and the digits that the descent finds
-pub files : (n : ℕ) (d : Direction) (t : TriangleCode) → refuseFile n d ≡ 0 → codeOf (wordOf (leastFrom d 4) n (descent n (sideDets d (leastFrom d 4)) 0)) ≡ t
+pub files : (n : ℕ) (d : Direction) (t : TriangleCode) → refuseFile n d ≡ 0
+    → codeOf (wordOf (leastFrom d 4) n (descent n (sideDets d (leastFrom d 4)) 0)) ≡ t
     → FileAnswer n d gives codeAnswer 0 t
 files n d t z e =
-    let is : FileAnswer n d (codeAnswer 0 t) = answering z (record { number = refl; is = subst (IsFiled n d) e (found-code n d (allowed n d z .low)) }) in
+    let is : FileAnswer n d (codeAnswer 0 t) =
+    answering z (record { number = refl; is = subst (IsFiled n d) e (found-code n d (allowed n d z .low)) }) in
     record { meets = is; only = λ s a. file-one n d s _ a is }
 
 -- by the walk through the sides
@@ -60,10 +64,16 @@ pub lists : (n : ℕ) (d : Direction) (ws : List ℕ) → refuseFile n d ≡ 0 �
     → (out : List ℕ) → 6 ≤ length out → ListAnswer n d out leaves (countAnswer 0 (length ws), over ws out)
 lists n d ws z e out h =
     let is : ListAnswer n d out (countAnswer 0 (length ws)) (over ws out) =
-    answering-lent (list-passes n d out .1 (z, h)) (record { list = ws; good = subst (AreHolders n d) e (all-holders n d (allowed n d z .low)); count = refl; put = refl }) in
+    answering-lent (list-passes n d out .1 (z, h)) (record {
+      list = ws;
+      good = subst (AreHolders n d) e (all-holders n d (allowed n d z .low));
+      count = refl;
+      put = refl;
+    }) in
     record { meets = is; only = λ s new a. list-one n d out s _ new _ a is }
 
-pub lists-refused : (n : ℕ) (d : Direction) (out : List ℕ) (k : ℕ) → suc k ≡ refuseList n d out → ListAnswer n d out leaves (countAnswer (suc k) 0, out)
+pub lists-refused : (n : ℕ) (d : Direction) (out : List ℕ) (k : ℕ) → suc k ≡ refuseList n d out
+    → ListAnswer n d out leaves (countAnswer (suc k) 0, out)
 lists-refused n d out k e =
     let is : ListAnswer n d out (countAnswer (suc k) 0) out = refusing-lent e (λ z. omega arith) in
     record { meets = is; only = λ s new a. list-one n d out s _ new _ a is }
@@ -74,36 +84,46 @@ numbered : (t : TriangleCode) (i : ℕ) → refuseNumbered t i ≡ 0 → IsCode 
 numbered t i z = let p = numbered-passes t i .0 z in (is-code t (p .0), p .1)
 
 -- by the step over the edge
-pub crosses : (t : TriangleCode) (k : ℕ) (u : TriangleCode) (j : ℕ) → refuseNumbered t k ≡ 0 → codeAcross k t ≡ u → edgeAcross k t ≡ j
-    → CrossAnswer t k gives stepAnswer 0 u j
+pub crosses : (t : TriangleCode) (k : ℕ) (u : TriangleCode) (j : ℕ) → refuseNumbered t k ≡ 0
+    → codeAcross k t ≡ u → edgeAcross k t ≡ j → CrossAnswer t k gives stepAnswer 0 u j
 crosses t k u j z e f =
     let c = numbered t k z in
     let n = degreeOf (t .0) in
-    let x : Across n t k u (edgeAcross k t) = subst (λ (u : TriangleCode). Across n t k u (edgeAcross k t)) e (across-is (c .0) k (c .1)) in
-    let is : CrossAnswer t k (stepAnswer 0 u j) = answering z (record { number = refl; across = subst (λ (j : ℕ). Across n t k u j) f x }) in
+    let x : Across n t k u (edgeAcross k t) =
+    subst (λ (u : TriangleCode). Across n t k u (edgeAcross k t)) e (across-is (c .0) k (c .1)) in
+    let is : CrossAnswer t k (stepAnswer 0 u j) =
+    answering z (record { number = refl; across = subst (λ (j : ℕ). Across n t k u j) f x }) in
     record { meets = is; only = λ s a. cross-one t k s _ a is }
 
 -- by the walk round the corner
-least-name : {n : ℕ} {t : TriangleCode} (i w : ℕ) → IsCode n t → OneToThree i → leastName 5 (placeIn t i) ≡ w → IsName n (corner t i) (nameOf w)
-least-name {n} {t} i w c l e = subst (λ (w : ℕ). IsName n (corner t i) (nameOf w)) e (least-is-name n (corner t i) (placeIn t i) (place-in c l) (code-degree c))
+least-name : {n : ℕ} {t : TriangleCode} (i w : ℕ) → IsCode n t → OneToThree i
+    → leastName 5 (placeIn t i) ≡ w → IsName n (corner t i) (nameOf w)
+least-name {n} {t} i w c l e = subst (λ (w : ℕ). IsName n (corner t i) (nameOf w)) e
+    (least-is-name n (corner t i) (placeIn t i) (place-in c l) (code-degree c))
 
-pub names : (t : TriangleCode) (i : ℕ) (w : ℕ) → refuseNumbered t i ≡ 0 → leastName 5 (placeIn t i) ≡ w → NamingAnswer t i gives nameAnswer 0 (nameOf w)
+pub names : (t : TriangleCode) (i : ℕ) (w : ℕ) → refuseNumbered t i ≡ 0 → leastName 5 (placeIn t i) ≡ w
+    → NamingAnswer t i gives nameAnswer 0 (nameOf w)
 names t i w z e =
     let c = numbered t i z in
-    let is : NamingAnswer t i (nameAnswer 0 (nameOf w)) = answering z (record { number = refl; is = least-name i w (c .0) (c .1) e }) in
+    let is : NamingAnswer t i (nameAnswer 0 (nameOf w)) =
+    answering z (record { number = refl; is = least-name i w (c .0) (c .1) e }) in
     record { meets = is; only = λ s a. naming-one t i s _ a is }
 
 -- the same corner from its weights
-pub backs : (n : ℕ) (weights : List ℕ) (w : ℕ) (t : TriangleCode) (i : ℕ) → refuseBack n weights ≡ 0 → refuseNumbered t i ≡ 0 → degreeOf (t .0) ≡ n
-    → corner t i ≡ take 12 weights → leastName 5 (placeIn t i) ≡ w → BackAnswer n weights gives nameAnswer 0 (nameOf w)
+pub backs : (n : ℕ) (weights : List ℕ) (w : ℕ) (t : TriangleCode) (i : ℕ) → refuseBack n weights ≡ 0
+    → refuseNumbered t i ≡ 0 → degreeOf (t .0) ≡ n → corner t i ≡ take 12 weights
+    → leastName 5 (placeIn t i) ≡ w → BackAnswer n weights gives nameAnswer 0 (nameOf w)
 backs n weights w t i z z′ d p e =
     let c = numbered t i z′ in
-    let x : IsName n (take 12 weights) (nameOf w) = subst (λ (p : Weights). IsName n p (nameOf w)) p (least-name i w (subst (λ (n : ℕ). IsCode n t) d (c .0)) (c .1) e) in
+    let x : IsName n (take 12 weights) (nameOf w) =
+    subst (λ (p : Weights). IsName n p (nameOf w)) p
+    (least-name i w (subst (λ (n : ℕ). IsCode n t) d (c .0)) (c .1) e) in
     let is : BackAnswer n weights (nameAnswer 0 (nameOf w)) = answering z (record { number = refl; is = x }) in
     record { meets = is; only = λ s a. back-one n weights s _ a is }
 
 -- a word passes as a name where it is the least round its corner
-pub passes-by : (q : CornerName) → checkNameFields q ≡ 0 → leastName 5 (placeIn (codeInside q) (cornerNumber (q .0))) ≡ q .0 → checkName q ≡ 0
+pub passes-by : (q : CornerName) → checkNameFields q ≡ 0
+    → leastName 5 (placeIn (codeInside q) (cornerNumber (q .0))) ≡ q .0 → checkName q ≡ 0
 passes-by q z e =
     let p = name-passes q .0 z in
     name-means q .1 (z, least-name (cornerNumber (q .0)) (q .0) (name-code q z) (p .2, p .3) e)
@@ -113,31 +133,37 @@ passes-by q z e =
 pub weighs : (t : TriangleCode) (i : ℕ) (p : Weights) → refuseNumbered t i ≡ 0 → corner t i ≡ p
     → (out : List ℕ) → 12 ≤ length out → WeightsAnswer t i out leaves (0, over p out)
 weighs t i p z e out h =
-    let is : WeightsAnswer t i out 0 (over p out) = answering-lent (weights-passes t i out .1 (z, h)) (refl, ap (λ (p : Weights). over p out) (sym e)) in
+    let is : WeightsAnswer t i out 0 (over p out) =
+    answering-lent (weights-passes t i out .1 (z, h)) (refl, ap (λ (p : Weights). over p out) (sym e)) in
     record { meets = is; only = λ s new a. weights-one t i out s _ new _ a is }
 
 pub weighs-name : (q : CornerName) (p : Weights) → checkName q ≡ 0 → named q ≡ p
     → (out : List ℕ) → 12 ≤ length out → NameWeightsAnswer q out leaves (0, over p out)
 weighs-name q p z e out h =
-    let is : NameWeightsAnswer q out 0 (over p out) = answering-lent (name-weights-passes q out .1 (z, h)) (refl, ap (λ (p : Weights). over p out) (sym e)) in
+    let is : NameWeightsAnswer q out 0 (over p out) =
+    answering-lent (name-weights-passes q out .1 (z, h)) (refl, ap (λ (p : Weights). over p out) (sym e)) in
     record { meets = is; only = λ s new a. name-weights-one q out s _ new _ a is }
 
-pub weighs-refused : (t : TriangleCode) (i : ℕ) (out : List ℕ) (k : ℕ) → suc k ≡ refuseWeights t i out → WeightsAnswer t i out leaves (suc k, out)
+pub weighs-refused : (t : TriangleCode) (i : ℕ) (out : List ℕ) (k : ℕ) → suc k ≡ refuseWeights t i out
+    → WeightsAnswer t i out leaves (suc k, out)
 weighs-refused t i out k e =
     let is : WeightsAnswer t i out (suc k) out = refusing-lent e (λ z. omega arith) in
     record { meets = is; only = λ s new a. weights-one t i out s _ new _ a is }
 
 -- ---- rings
 
-pub rings-by : (q : CornerName) (ws : List ℕ) → checkName q ≡ 0 → ringWords (ringSize (nonZeros (named q))) (placeIn (codeInside q) (cornerNumber (q .0))) ≡ ws
+pub rings-by : (q : CornerName) (ws : List ℕ) → checkName q ≡ 0
+    → ringWords (ringSize (nonZeros (named q))) (placeIn (codeInside q) (cornerNumber (q .0))) ≡ ws
     → (out : List ℕ) → 6 ≤ length out → RingAnswer q out leaves (countAnswer 0 (length ws), over ws out)
 rings-by q ws z e out h =
     let n = name-means q .0 z .1 in
     let is : RingAnswer q out (countAnswer 0 (length ws)) (over ws out) =
-    answering-lent (ring-passes q out .1 (z, h)) (record { list = ws; good = subst (IsRing q) e (ring-is q (n .code) (n .number)); count = refl; put = refl }) in
+    answering-lent (ring-passes q out .1 (z, h))
+    (record { list = ws; good = subst (IsRing q) e (ring-is q (n .code) (n .number)); count = refl; put = refl }) in
     record { meets = is; only = λ s new a. ring-answer-one q out s _ new _ a is }
 
-pub rings-refused : (q : CornerName) (out : List ℕ) (k : ℕ) → suc k ≡ refuseRing q out → RingAnswer q out leaves (countAnswer (suc k) 0, out)
+pub rings-refused : (q : CornerName) (out : List ℕ) (k : ℕ) → suc k ≡ refuseRing q out
+    → RingAnswer q out leaves (countAnswer (suc k) 0, out)
 rings-refused q out k e =
     let is : RingAnswer q out (countAnswer (suc k) 0) out = refusing-lent e (λ z. omega arith) in
     record { meets = is; only = λ s new a. ring-answer-one q out s _ new _ a is }
@@ -150,34 +176,41 @@ module _ (t : TriangleCode) (i : ℕ) (z : refuseNumbered t i ≡ 0) where
       let is : PlaceAnswer t i (record { refusal = 0; at = c }) = answering z (record { number = refl; is = sym e }) in
       record { meets = is; only = λ s a. place-one t i s _ a is }
 
-  pub ticked : (r : TicksAnswer) → r .refusal ≡ 0 → AreTicks (exact (corner t i)) (r .at) → TickAnswer t i gives r
+  pub ticked : (r : TicksAnswer) → r .refusal ≡ 0 → AreTicks (exact (corner t i)) (r .at)
+      → TickAnswer t i gives r
   ticked r f e =
       let is : TickAnswer t i r = answering z (record { number = f; are = e }) in
       record { meets = is; only = λ s a. tick-answer-one t i s _ a is }
 
-  pub pointed : (r : PointAnswer) → r .refusal ≡ 0 → IsPoint (degreeOf (t .0)) (exact (corner t i)) (r .at) → DrawAnswer t i gives r
+  pub pointed : (r : PointAnswer) → r .refusal ≡ 0 → IsPoint (degreeOf (t .0)) (exact (corner t i)) (r .at)
+      → DrawAnswer t i gives r
   pointed r f e =
       let is : DrawAnswer t i r = answering z (record { number = f; is = e }) in
       record { meets = is; only = λ s a. draw-one t i s _ a is }
 
 module _ (q : CornerName) (z : checkName q ≡ 0) where
-  pub placed-name : (c : Coordinates) → exact (named q) ≡ c → NamePlaceAnswer q gives record { refusal = 0; at = c }
+  pub placed-name : (c : Coordinates) → exact (named q) ≡ c
+      → NamePlaceAnswer q gives record { refusal = 0; at = c }
   placed-name c e =
-      let is : NamePlaceAnswer q (record { refusal = 0; at = c }) = answering z (record { number = refl; is = sym e }) in
+      let is : NamePlaceAnswer q (record { refusal = 0; at = c }) =
+      answering z (record { number = refl; is = sym e }) in
       record { meets = is; only = λ s a. name-place-one q s _ a is }
 
-  pub ticked-name : (r : TicksAnswer) → r .refusal ≡ 0 → AreTicks (exact (named q)) (r .at) → NameTickAnswer q gives r
+  pub ticked-name : (r : TicksAnswer) → r .refusal ≡ 0 → AreTicks (exact (named q)) (r .at)
+      → NameTickAnswer q gives r
   ticked-name r f e =
       let is : NameTickAnswer q r = answering z (record { number = f; are = e }) in
       record { meets = is; only = λ s a. name-tick-one q s _ a is }
 
-  pub pointed-name : (r : PointAnswer) → r .refusal ≡ 0 → IsPoint (degreeOf (q .0)) (exact (named q)) (r .at) → NameDrawAnswer q gives r
+  pub pointed-name : (r : PointAnswer) → r .refusal ≡ 0 → IsPoint (degreeOf (q .0)) (exact (named q)) (r .at)
+      → NameDrawAnswer q gives r
   pointed-name r f e =
       let is : NameDrawAnswer q r = answering z (record { number = f; is = e }) in
       record { meets = is; only = λ s a. name-draw-one q s _ a is }
 
 -- refused
-pub not-placed : (t : TriangleCode) (i k : ℕ) → suc k ≡ refuseNumbered t i → PlaceAnswer t i gives noCoordinates (suc k)
+pub not-placed : (t : TriangleCode) (i k : ℕ) → suc k ≡ refuseNumbered t i
+    → PlaceAnswer t i gives noCoordinates (suc k)
 not-placed t i k e =
     let is : PlaceAnswer t i (noCoordinates (suc k)) = refusing e (λ z. omega arith) in
     record { meets = is; only = λ s a. place-one t i s _ a is }

@@ -1,5 +1,5 @@
--- Document 01, 'Examples, proved together as one tabled statement (E1 to E12)', over the promises of the calls; and beside that table what it leaves
--- open, down to each refusal at its bound. Assumes nothing.
+-- Document 01, 'Examples, proved together as one tabled statement (E1 to E12)', over the promises of the calls; and
+-- beside that table what it leaves open, down to each refusal at its bound. Assumes nothing.
 use mathlib.Core.Path.{_≡_}
 use mathlib.Core.List.{List, [], _∷_, _++_}
 use Prim.Native.Nat.{ℕ, _+_, _-_, _*_, _^_, _≤_}
@@ -13,11 +13,14 @@ use Rattle.net.specs.Division.{unitAt}
 use Rattle.net.specs.Corners.{nameOf}
 use Rattle.net.specs.Refusals.{over, checkName}
 use Rattle.corners.specs.Refusals.{refuseNumbered, refuseWeights, refuseNameWeights, refuseBack, refuseRing}
-use Rattle.corners.specs.Answers.{CrossAnswer, WeightsAnswer, NameWeightsAnswer, NamingAnswer, BackAnswer, RingAnswer, stepAnswer, nameAnswer, countAnswer}
-use Rattle.points.specs.Answers.{PlaceAnswer, NamePlaceAnswer, TickAnswer, NameTickAnswer, DrawAnswer, NameDrawAnswer, noCoordinates}
+use Rattle.corners.specs.Answers.{CrossAnswer, WeightsAnswer, NameWeightsAnswer, NamingAnswer, BackAnswer, RingAnswer}
+use Rattle.corners.specs.Answers.{stepAnswer, nameAnswer, countAnswer}
+use Rattle.points.specs.Answers.{PlaceAnswer, NamePlaceAnswer, TickAnswer, NameTickAnswer, DrawAnswer, NameDrawAnswer}
+use Rattle.points.specs.Answers.{noCoordinates}
 use Rattle.directions.specs.Refusals.{refuseFile, refuseList}
 use Rattle.directions.specs.Answers.{FileAnswer, ListAnswer}
-use Rattle.grid.specs.Writing.{_gives_, _leaves_, written, wordsFor, cornerIn, zeroDigits, minus, towards, up, place, ticks, point}
+use Rattle.grid.specs.Writing.{_gives_, _leaves_, written, wordsFor, cornerIn, zeroDigits, minus, towards, up}
+use Rattle.grid.specs.Writing.{place, ticks, point}
 
 -- "Codes are written apq then digits."
 pub record Examples : Type 0 where
@@ -51,7 +54,8 @@ pub record Examples : Type 0 where
   pub e12-corner : TickAnswer (written 401) 1 gives ticks (minus 106040) (pos 0) (minus 65536)
   -- "All holders of (0,0,1) at degree 0, whole: 100, 500; count 2.", in any list of six places or more
   pub whole : (out : List ℕ) → 6 ≤ length out
-      → ListAnswer 0 (towards (pos 0) (pos 0) (pos 1)) out leaves (countAnswer 0 2, over (wordsFor (100 ∷ 500 ∷ [])) out)
+      → ListAnswer 0 (towards (pos 0) (pos 0) (pos 1)) out
+      leaves (countAnswer 0 2, over (wordsFor (100 ∷ 500 ∷ [])) out)
 
 -- Parent and child. (Their promises are equations.)
 pub record Family : Type 0 where
@@ -60,29 +64,39 @@ pub record Family : Type 0 where
   pub no-parent : parentAnswer (written 100) ≡ codeAnswer 6 (codeOf 0)
   pub no-child : childAnswer (written 1001) 4 ≡ codeAnswer 5 (codeOf 0)
 
--- Weights of the corners of 10012, one of them kept: "At each step a kept corner's weights are doubled and a middle's weights are the sum of its two ends'."
+-- Weights of the corners of 10012, one of them kept: "At each step a kept corner's weights are doubled and a middle's
+-- weights are the sum of its two ends'."
 pub record Weighed : Type 0 where
-  pub w1 : (out : List ℕ) → 12 ≤ length out → WeightsAnswer (written 10012) 1 out leaves (0, over (3 ∷ 0 ∷ 1 ∷ replicate 9 0) out)
-  pub w2 : (out : List ℕ) → 12 ≤ length out → WeightsAnswer (written 10012) 2 out leaves (0, over (2 ∷ 0 ∷ 2 ∷ replicate 9 0) out)
-  pub w3 : (out : List ℕ) → 12 ≤ length out → WeightsAnswer (written 10012) 3 out leaves (0, over (2 ∷ 0 ∷ 1 ∷ 1 ∷ replicate 8 0) out)
+  pub w1 : (out : List ℕ) → 12 ≤ length out
+      → WeightsAnswer (written 10012) 1 out leaves (0, over (3 ∷ 0 ∷ 1 ∷ replicate 9 0) out)
+  pub w2 : (out : List ℕ) → 12 ≤ length out
+      → WeightsAnswer (written 10012) 2 out leaves (0, over (2 ∷ 0 ∷ 2 ∷ replicate 9 0) out)
+  pub w3 : (out : List ℕ) → 12 ≤ length out
+      → WeightsAnswer (written 10012) 3 out leaves (0, over (2 ∷ 0 ∷ 1 ∷ 1 ∷ replicate 8 0) out)
   -- the last of these by its name
-  pub named : (out : List ℕ) → 12 ≤ length out → NameWeightsAnswer (cornerIn 10000 1) out leaves (0, over (2 ∷ 0 ∷ 1 ∷ 1 ∷ replicate 8 0) out)
+  pub named : (out : List ℕ) → 12 ≤ length out
+      → NameWeightsAnswer (cornerIn 10000 1) out leaves (0, over (2 ∷ 0 ∷ 1 ∷ 1 ∷ replicate 8 0) out)
 
--- Rings: five round V(00) at degree 0, and six round the middle of the edge from V(00) to V(10) at degree 1, in any list of six places or more.
+-- Rings: five round V(00) at degree 0, and six round the middle of the edge from V(00) to V(10) at degree 1, in any
+-- list of six places or more.
 pub record Rings : Type 0 where
   pub five : (out : List ℕ) → 6 ≤ length out
-      → RingAnswer (cornerIn 100 1) out leaves (countAnswer 0 5, over (wordsFor (100 ∷ 200 ∷ 300 ∷ 400 ∷ 500 ∷ [])) out)
+      → RingAnswer (cornerIn 100 1) out
+      leaves (countAnswer 0 5, over (wordsFor (100 ∷ 200 ∷ 300 ∷ 400 ∷ 500 ∷ [])) out)
   pub six : (out : List ℕ) → 6 ≤ length out
-      → RingAnswer (cornerIn 1000 3) out leaves (countAnswer 0 6, over (wordsFor (1000 ∷ 1001 ∷ 5001 ∷ 5000 ∷ 5003 ∷ 1002 ∷ [])) out)
+      → RingAnswer (cornerIn 1000 3) out
+      leaves (countAnswer 0 6, over (wordsFor (1000 ∷ 1001 ∷ 5001 ∷ 5000 ∷ 5003 ∷ 1002 ∷ [])) out)
 
 -- Lent lists to their last place: 7 stays where nothing is written.
 pub record Places : Type 0 where
   -- "the sixth place stays unchanged when there are 5"
-  pub ring : RingAnswer (cornerIn 100 1) (replicate 7 7) leaves (countAnswer 0 5, wordsFor (100 ∷ 200 ∷ 300 ∷ 400 ∷ 500 ∷ []) ++ replicate 2 7)
+  pub ring : RingAnswer (cornerIn 100 1) (replicate 7 7)
+      leaves (countAnswer 0 5, wordsFor (100 ∷ 200 ∷ 300 ∷ 400 ∷ 500 ∷ []) ++ replicate 2 7)
   -- "places after the count are unchanged"
   pub holders : ListAnswer 0 up (replicate 7 7) leaves (countAnswer 0 2, wordsFor (100 ∷ 500 ∷ []) ++ replicate 5 7)
   -- "A longer list is allowed; only its first 12 or 6 places are used."
-  pub weights : WeightsAnswer (written 100) 3 (replicate 13 7) leaves (0, 0 ∷ 0 ∷ 0 ∷ 1 ∷ replicate 8 0 ++ replicate 1 7)
+  pub weights : WeightsAnswer (written 100) 3 (replicate 13 7)
+      leaves (0, 0 ∷ 0 ∷ 0 ∷ 1 ∷ replicate 8 0 ++ replicate 1 7)
   -- "lent memory keeps its contents"
   pub short-ring : RingAnswer (cornerIn 100 1) (replicate 5 7) leaves (countAnswer 9 0, replicate 5 7)
   pub short-holders : ListAnswer 0 up (replicate 5 7) leaves (countAnswer 9 0, replicate 5 7)
@@ -91,10 +105,13 @@ pub record Places : Type 0 where
 -- Exact coordinates, and drawn coordinates to the bit.
 pub record Points : Type 0 where
   -- V(41): (-φ, 0, -1)
-  pub v41 : PlaceAnswer (written 401) 1 gives place (golden (pos 0) (minus 1)) (golden (pos 0) (pos 0)) (golden (minus 1) (pos 0))
-  pub v41-name : NamePlaceAnswer (nameOf 0x7000000000000002) gives place (golden (pos 0) (minus 1)) (golden (pos 0) (pos 0)) (golden (minus 1) (pos 0))
+  pub v41 : PlaceAnswer (written 401) 1
+      gives place (golden (pos 0) (minus 1)) (golden (pos 0) (pos 0)) (golden (minus 1) (pos 0))
+  pub v41-name : NamePlaceAnswer (nameOf 0x7000000000000002)
+      gives place (golden (pos 0) (minus 1)) (golden (pos 0) (pos 0)) (golden (minus 1) (pos 0))
   -- the middle of the edge from V(00) to V(20): (φ, 1, 1 + φ)
-  pub middle : PlaceAnswer (written 1001) 3 gives place (golden (pos 0) (pos 1)) (golden (pos 1) (pos 0)) (golden (pos 1) (pos 1))
+  pub middle : PlaceAnswer (written 1001) 3
+      gives place (golden (pos 0) (pos 1)) (golden (pos 1) (pos 0)) (golden (pos 1) (pos 1))
   pub no-corner : PlaceAnswer (written 1001) 4 gives noCoordinates 5
   -- V(41) drawn: -106040/65536, 0, -65536/65536
   pub drawn : DrawAnswer (written 401) 1 gives point 0 0xbff9e38000000000 0 0xbff0000000000000

@@ -1,4 +1,5 @@
--- Document 01, 'Mistakes that have looked right' and 'What the contracts owe': answers that the promises of the calls refuse. Assumes nothing.
+-- Document 01, 'Mistakes that have looked right' and 'What the contracts owe': answers that the promises of the calls
+-- refuse. Assumes nothing.
 use mathlib.Core.Path.{_≡_}
 use mathlib.Core.List.{List, _∷_}
 use Prim.Native.Nat.{ℕ, suc, _+_, _-_, _^_, _≤_, _<_}
@@ -15,14 +16,16 @@ use Rattle.net.specs.Corners.{nameOf}
 use Rattle.filing.specs.Holding.{dets, Holds}
 use Rattle.filing.specs.declared.Direction.{Direction}
 use Rattle.corners.specs.Refusals.{refuseNumbered}
-use Rattle.corners.specs.Answers.{CrossAnswer, WeightsAnswer, NamingAnswer, BackAnswer, RingAnswer, stepAnswer, nameAnswer, countAnswer}
+use Rattle.corners.specs.Answers.{CrossAnswer, WeightsAnswer, NamingAnswer, BackAnswer, RingAnswer, stepAnswer}
+use Rattle.corners.specs.Answers.{nameAnswer, countAnswer}
 use Rattle.points.specs.Answers.{TickAnswer, NameTickAnswer}
 use Rattle.directions.specs.Refusals.{refuseFile}
 use Rattle.directions.specs.Answers.{FileAnswer, ListAnswer}
 use Rattle.grid.specs.Writing.{_gives_, written, cornerIn, minus, towards, up, ticks}
 
--- A direction close to an edge of a triangle of degree 24. Its determinant by that edge is about 0.005, u + vφ with u and v above 10^16 in size; in 64-bit
--- floating point it comes out as -4, so that the triangle across the edge, which has the lesser code, seems to hold the direction.
+-- A direction close to an edge of a triangle of degree 24. Its determinant by that edge is about 0.005, u + vφ with u
+-- and v above 10^16 in size; in 64-bit floating point it comes out as -4, so that the triangle across the edge, which
+-- has the lesser code, seems to hold the direction.
 abbrev pub close : Direction
 close = towards (pos 620913201) (minus 951902864) (pos 231958876)
 
@@ -43,8 +46,8 @@ pub record Mistakes : Type 0 where
   pub own-name : NamingAnswer (written 200) 2 (nameAnswer 0 (cornerIn 200 2)) → ⊥
   -- or with one of the four zero bits set
   pub zero-bit : NamingAnswer (written 200) 2 (nameAnswer 0 (nameOf (0x2000000000000003 + 4))) → ⊥
-  -- "Deciding the sign of u + vφ in floating point: wrong close to an edge.": two numbers within 10^-16 of 0, above and below it; in 64-bit floating point
-  -- they come out as -2 and 0
+  -- "Deciding the sign of u + vφ in floating point: wrong close to an edge.": two numbers within 10^-16 of 0, above
+  -- and below it; in 64-bit floating point they come out as -2 and 0
   pub close-above : NonNeg (golden (pos 14472334024676221) (minus 8944394323791464))
   pub close-below : NonNeg (golden (pos 23416728348467685) (minus 14472334024676221)) → ⊥
   -- and so for a direction
@@ -58,25 +61,36 @@ pub record Mistakes : Type 0 where
   -- "Truncating toward zero for t on negative coordinates.": E12
   pub truncated : TickAnswer (written 401) 1 (ticks (minus 106039) (pos 0) (minus 65536)) → ⊥
   pub truncated-name : NameTickAnswer (nameOf 0x7000000000000002) (ticks (minus 106039) (pos 0) (minus 65536)) → ⊥
-  -- "A program that refuses everything breaks demand 1, since refusals are given only when the table says.": any refusal at E3
+  -- "A program that refuses everything breaks demand 1, since refusals are given only when the table says.": any
+  -- refusal at E3
   pub refusing : (k : ℕ) → FileAnswer 2 up (noCode (suc k)) → ⊥
   -- "One fixed code for all directions breaks demand 2's holding rule": at any degree
-  pub fixed-code : (n : ℕ) (t : TriangleCode) → n ≤ 24 → ((d : Direction) → refuseFile n d ≡ 0 → FileAnswer n d (codeAnswer 0 t)) → ⊥
+  pub fixed-code : (n : ℕ) (t : TriangleCode) → n ≤ 24
+      → ((d : Direction) → refuseFile n d ≡ 0 → FileAnswer n d (codeAnswer 0 t)) → ⊥
   -- "one fixed name for all corners breaks demand 3's last clause.": at any degree
   pub fixed-name : (n : ℕ) (q : CornerName) → n ≤ 24
-      → ((t : TriangleCode) (i : ℕ) → refuseNumbered t i ≡ 0 → degreeOf (t .0) ≡ n → NamingAnswer t i (nameAnswer 0 q)) → ⊥
-  -- "A neighbour that returns its own triangle, or does nothing, breaks demand 3's "other triangle".": with any edge number
-  pub itself : (t : TriangleCode) (k j : ℕ) → refuseNumbered t k ≡ 0 → CrossAnswer t k (stepAnswer 0 t j) → ⊥
-  pub nothing : (t : TriangleCode) (k j : ℕ) → refuseNumbered t k ≡ 0 → CrossAnswer t k (stepAnswer 0 (codeOf 0) j) → ⊥
+      → ((t : TriangleCode) (i : ℕ) → refuseNumbered t i ≡ 0 → degreeOf (t .0) ≡ n
+      → NamingAnswer t i (nameAnswer 0 q)) → ⊥
+  -- "A neighbour that returns its own triangle, or does nothing, breaks demand 3's "other triangle".": with any edge
+  -- number
+  pub itself : (t : TriangleCode) (k j : ℕ) → refuseNumbered t k ≡ 0
+      → CrossAnswer t k (stepAnswer 0 t j) → ⊥
+  pub nothing : (t : TriangleCode) (k j : ℕ) → refuseNumbered t k ≡ 0
+      → CrossAnswer t k (stepAnswer 0 (codeOf 0) j) → ⊥
   -- "Finding the first digit honestly and then writing zeros breaks demand 2 at E3."
   pub then-zeros : FileAnswer 2 up (codeAnswer 0 (written 10000)) → ⊥
   -- "The answer is the least code that holds it": 500 holds (0,0,1) too, and is not the least
   pub also-holds : Holds (written 500) up
   pub not-least : FileAnswer 0 up (codeAnswer 0 (written 500)) → ⊥
-  -- "An invented holder or ring count breaks the listed contents.": any but 2 for (0,0,1) at degree 0, any but 5 round V(00)
-  pub holder-count : (k : ℕ) (out new : List ℕ) → 6 ≤ length out → (k ≡ 2 → ⊥) → ListAnswer 0 up out (countAnswer 0 k) new → ⊥
-  pub ring-count : (k : ℕ) (out new : List ℕ) → 6 ≤ length out → (k ≡ 5 → ⊥) → RingAnswer (cornerIn 100 1) out (countAnswer 0 k) new → ⊥
+  -- "An invented holder or ring count breaks the listed contents.": any but 2 for (0,0,1) at degree 0, any but 5 round
+  -- V(00)
+  pub holder-count : (k : ℕ) (out new : List ℕ) → 6 ≤ length out → (k ≡ 2 → ⊥)
+      → ListAnswer 0 up out (countAnswer 0 k) new → ⊥
+  pub ring-count : (k : ℕ) (out new : List ℕ) → 6 ≤ length out → (k ≡ 5 → ⊥)
+      → RingAnswer (cornerIn 100 1) out (countAnswer 0 k) new → ⊥
   -- "lent memory keeps its contents": a list of eleven places or fewer that is changed, whatever number is returned
-  pub written-on : (r : ℕ) (out new : List ℕ) → length out < 12 → (new ≡ out → ⊥) → WeightsAnswer (written 100) 1 out r new → ⊥
+  pub written-on : (r : ℕ) (out new : List ℕ) → length out < 12 → (new ≡ out → ⊥)
+      → WeightsAnswer (written 100) 1 out r new → ⊥
   -- "its sum is meant exactly, never wrapped": weights of V(00) and V(10) that add to 2^64 + 1, taken for 1
-  pub wrapped-sum : (q : CornerName) → BackAnswer 0 ((2 ^ 64 - 1) ∷ 0 ∷ 2 ∷ replicate 9 0) (nameAnswer 0 q) → ⊥
+  pub wrapped-sum : (q : CornerName)
+      → BackAnswer 0 ((2 ^ 64 - 1) ∷ 0 ∷ 2 ∷ replicate 9 0) (nameAnswer 0 q) → ⊥

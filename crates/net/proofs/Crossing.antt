@@ -82,6 +82,16 @@ module _ {n : ℕ} {t : TriangleCode} (c : IsCode n t) (k : ℕ) (l : OneToThree
   across-digits : digitsIn (codeAcross k t) ≡ r .digits
   across-digits = for-digits (r .side) (r .digits) (b .a-side) (b .the-digits) long
 
+  -- what is next here is previous there, and the other way round
+  abbrev Reversed : TriangleCode → ℕ → Type 0
+  Reversed t′ k′ = (corner t (next k) ≡ corner t′ (prev k′)) × (corner t (prev k) ≡ corner t′ (next k′))
+
+  reversed : Reversed (codeAcross k t) (edgeAcross k t)
+  reversed = (
+    corner-at t (next k) ∙ sym (b .after) ∙ sym (across-corner (prev (r .edge))),
+    corner-at t (prev k) ∙ sym (b .before) ∙ sym (across-corner (next (r .edge))),
+  )
+
   -- it lies across
   pub across-is : Across n t k (codeAcross k t) (edgeAcross k t)
   across-is =
@@ -89,10 +99,7 @@ module _ {n : ℕ} {t : TriangleCode} (c : IsCode n t) (k : ℕ) (l : OneToThree
         code = across-code;
         other = λ e. another s ds (code-side c) (in-digits c) k l (sym across-side ∙ ap (λ (u : TriangleCode). sideOf (u .0)) e) (sym across-digits ∙ ap digitsIn e);
         edge = b .an-edge;
-        ends = inr (
-          corner-at t (next k) ∙ sym (b .after) ∙ sym (across-corner (prev (r .edge))),
-          corner-at t (prev k) ∙ sym (b .before) ∙ sym (across-corner (next (r .edge))),
-        );
+        ends = inr reversed;
       }
 
   ends-has : (t′ : TriangleCode) (k′ : ℕ) → Across n t k t′ k′ → HasCorner t′ (corner t (next k)) × HasCorner t′ (corner t (prev k))
@@ -120,6 +127,11 @@ module _ {n : ℕ} {t : TriangleCode} (c : IsCode n t) (k : ℕ) (l : OneToThree
 
   pub across-only : (t′ : TriangleCode) (k′ : ℕ) → Across n t k t′ k′ → (t′ ≡ codeAcross k t) × (k′ ≡ edgeAcross k t)
   across-only t′ e a = (only-code t′ e a, only-edge t′ e a)
+
+  pub across-reversed : {t′ : TriangleCode} {k′ : ℕ} → Across n t k t′ k′ → Reversed t′ k′
+  across-reversed {t′} {k′} a =
+      let o = across-only t′ k′ a in
+      subst (λ (u : TriangleCode). Reversed u k′) (sym (o .0)) (subst (Reversed (codeAcross k t)) (sym (o .1)) reversed)
 
   just : (i : ℕ) → OneToThree i → HasCorner (codeAcross k t) (corner t i) ↔ (i ≡ k → ⊥)
   just i m = (

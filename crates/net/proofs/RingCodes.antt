@@ -22,17 +22,9 @@ use Rattle.net.proofs.CodePlaces.{code-for, codeFor, digitsIn}
 use Rattle.net.proofs.Crossing.{codeAcross, corner-one, ends-only}
 use Rattle.net.proofs.LeastName.{around-first, place-code, place-corner, place-digits, place-in, place-side}
 use Rattle.net.proofs.LeastName.{placeIn, walk-all}
-use Rattle.net.proofs.Rings.{At, around-at, ring-at, ring-closes, ring-differs}
+use Rattle.net.proofs.Rings.{At, around-at, next-next, prev-next, ring-at, ring-closes, ring-differs}
 use Rattle.net.proofs.Stepping.{next-three, prev-three, step-beside}
 use Rattle.net.proofs.Table.{three}
-
--- ---- numbers round
-
-next-next : (i : ℕ) → OneToThree i → next (next i) ≡ prev i
-next-next = three (λ i. next (next i) ≡ prev i) refl refl refl
-
-prev-next : (i : ℕ) → OneToThree i → prev (next i) ≡ i
-prev-next = three (λ i. prev (next i) ≡ i) refl refl refl
 
 next-prev : (i : ℕ) → OneToThree i → prev i ≡ next i → ⊥
 next-prev = three (λ i. prev i ≡ next i → ⊥) (λ e. omega arith) (λ e. omega arith) (λ e. omega arith)

@@ -51,7 +51,7 @@ non-zeros (suc x ∷ P) = omega (arith, non-zeros P)
 pub prev-next : (n : ℕ) → OneToThree n → prev (next n) ≡ n
 prev-next = three (λ n. prev (next n) ≡ n) refl refl refl
 
-next-next : (n : ℕ) → OneToThree n → next (next n) ≡ prev n
+pub next-next : (n : ℕ) → OneToThree n → next (next n) ≡ prev n
 next-next = three (λ n. next (next n) ≡ prev n) refl refl refl
 
 pub around-at : (n : ℕ) (P : List ℕ) (q : Place) → At n P q → At n P (around q)

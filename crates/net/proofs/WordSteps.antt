@@ -299,7 +299,7 @@ module _ (t : TriangleCode) (z : checkCode t ≡ 0) (k : ℕ) (hk : OneToThree k
 
 -- ---- for the code: round a corner
 
-third : (i : ℕ) → OneToThree i → bitXor i (next i) ≡ next (next i)
+pub third : (i : ℕ) → OneToThree i → bitXor i (next i) ≡ next (next i)
 third = sound (threes λ i. same (bitXor i (next i)) (next (next i))) refl
 
 -- the edge that follows the corner

@@ -5,6 +5,7 @@ use mathlib.Core.List.{List, _++_}
 use Prim.Native.Nat.{ℕ, zero, suc, _+_, _*_, _≤_, _<_, _^_}
 use native.Mathlib.Omega.{arith}
 use lib.Seq.{length-take-le}
+use lib.Bits.{bitXor}
 use lib.Dec.{eqb}
 use lib.ListN.{length, take}
 use borrow.Author.Tests.{eqb-true, lt-ltb, le-ltb, eq-eqb}
@@ -16,6 +17,7 @@ use Rattle.words.specs.declared.CornerName.{CornerName}
 use Rattle.words.specs.declared.TriangleCode.{TriangleCode}
 use Rattle.net.specs.Corners.{nameOf, corner, named}
 use Rattle.corners.specs.Answers.{Answer, BackAnswer, CrossAnswer, Lent, NamingAnswer, nameAnswer, stepAnswer}
+use Rattle.corners.specs.Turns.{Turned}
 use Rattle.net.specs.Division.{cornerOf, sum}
 use Rattle.net.specs.Means.Paths.{digitsOf}
 use Rattle.net.specs.Means.Spreads.{pointIn, spread}
@@ -24,7 +26,8 @@ use Rattle.net.specs.Names.{IsName}
 use Rattle.net.specs.Refusals.{canonical, canonicalRows, checkName, listRows, notCanonical, onOneSide, onSide}
 use Rattle.net.specs.Refusals.{oneToThreeRows, weightRows}
 use Rattle.corners.specs.Refusals.{refuseBack, refuseNameWeights, refuseNumbered, refuseRing, refuseWeights}
-use Rattle.net.specs.Sides.{IsSide, OneToThree}
+use Rattle.net.specs.Sides.{IsSide, OneToThree, nth, prev}
+use Rattle.net.specs.Sides.{next as after}
 use Rattle.net.specs.Steps.{Across}
 use Rattle.net.specs.declared.Corner.{Corner}
 use Rattle.net.specs.declared.Point.{Point}
@@ -34,9 +37,11 @@ use Rattle.net.proofs.Crossing.{across-is}
 use Rattle.net.proofs.LeastName.{least-is-name, place-in, placeIn}
 use Rattle.net.proofs.Loads.{sum-spread}
 use Rattle.net.proofs.Names.{one-name}
+use Rattle.net.proofs.Rings.{next-next}
 use Rattle.corners.proofs.Refused.{back-passes, numbered-passes}
+use Rattle.corners.proofs.Turning.{highThere, lowThere, turned-is}
 use Rattle.net.proofs.StateCode.{on-one, spread-of}
-use Rattle.net.proofs.WordSteps.{at-made, at-place, low-degree, made, made-place, numbered-place}
+use Rattle.net.proofs.WordSteps.{at-made, at-place, low-degree, made, made-place, numbered-place, third}
 
 -- ---- an answer from its refusal
 
@@ -73,15 +78,25 @@ module _ (t : TriangleCode) (i : ℕ) where
 
 -- ---- crossing
 
-pub cross-answers : (t : TriangleCode) (k : ℕ) (r : Edge) → refuseNumbered t k ≡ 0
+-- x and y follow the edge there and go before it
+pub cross-answers : (t : TriangleCode) (k : ℕ) (r : Edge) {x y i j : ℕ} → refuseNumbered t k ≡ 0
     → r ≡ edgeThere (stepFrom (record { code = t; number = k }))
-    → CrossAnswer t k (stepAnswer 0 (r .code) (r .number))
-cross-answers t k r z e =
+    → x ≡ after (r .number) → y ≡ bitXor (r .number) x → i ≡ nth k y x y → j ≡ nth k x y x
+    → CrossAnswer t k (stepAnswer 0 (r .code) (r .number) i j)
+cross-answers t k r {x} {y} {i} {j} z e ex ey ei ej =
     let p = numbered-passes t k .0 z in
+    let c = is-code t (p .0) in
+    let a : Across (degreeOf (t .0)) t k (r .code) (r .number) =
+    subst (λ (x : Edge). Across (degreeOf (t .0)) t k (x .code) (x .number)) (sym e) (across-is c k (p .1)) in
+    let f : y ≡ prev (r .number) =
+    ey ∙ ap (bitXor (r .number)) ex ∙ third (r .number) (a .edge) ∙ next-next (r .number) (a .edge) in
+    let low : i ≡ lowThere k (r .number) = ei ∙ (λ s. nth k (f s) (ex s) (f s)) in
+    let high : j ≡ highThere k (r .number) = ej ∙ (λ s. nth k (ex s) (f s) (ex s)) in
     answering z (record {
       number = refl;
-      across = subst (λ (x : Edge). Across (degreeOf (t .0)) t k (x .code) (x .number)) (sym e)
-          (across-is (is-code t (p .0)) k (p .1));
+      across = a;
+      turned = subst (λ (i : ℕ). Turned t k (r .code) i j) (sym low)
+          (subst (Turned t k (r .code) (lowThere k (r .number))) (sym high) (turned-is c (p .1) a));
     })
 
 -- ---- names

@@ -14,12 +14,13 @@ use Rattle.words.specs.declared.CornerName.{CornerName}
 use Rattle.words.specs.declared.TriangleCode.{TriangleCode}
 use Rattle.net.specs.Corners.{nameOf, codeInside, corner, named}
 use Rattle.net.specs.Refusals.{over}
-use Rattle.corners.specs.Answers.{Answer, BackAnswer, CrossAnswer, Crossed, Lent, Listed, NameWeightsAnswer, Named, NamingAnswer, Put, RingAnswer, WeightsAnswer, countAnswer, nameAnswer, stepAnswer}
+use Rattle.corners.specs.Answers.{Answer, BackAnswer, CrossAnswer, Crossed, Lent, Listed, NameWeightsAnswer, Named, NamingAnswer, Put, RingAnswer, WeightsAnswer, countAnswer, nameAnswer, noStep, stepAnswer}
 use Rattle.net.specs.Division.{Weights}
 use Rattle.net.specs.Means.States.{across}
 use Rattle.net.specs.Means.Walks.{leastName, ringWords}
 use Rattle.net.specs.Names.{IsName}
 use Rattle.corners.specs.Refusals.{refuseNumbered}
+use Rattle.corners.specs.Turns.{Turned}
 use Rattle.net.specs.Sides.{OneToThree}
 use Rattle.net.specs.Steps.{IsRing, nonZeros, ringSize}
 use Rattle.corners.specs.declared.CountAnswer.{CountAnswer}
@@ -31,6 +32,7 @@ use Rattle.net.proofs.Demand3.{one-name-each}
 use Rattle.net.proofs.LeastName.{least-is-name, place-in, placeIn}
 use Rattle.net.proofs.Names.{one-name}
 use Rattle.corners.proofs.Refused.{back-passes, numbered-passes, ring-passes}
+use Rattle.corners.proofs.Turning.{turned-is, turned-one}
 use Rattle.net.proofs.RingCodes.{ring-is, ring-one}
 use Rattle.net.proofs.Table.{either-way, same}
 use Rattle.net.proofs.WayBack.{weights-mean}
@@ -68,12 +70,24 @@ cross-one t k r r′ =
     let c = numbered t k z in
     let a = across-only (c .0) k (c .1) (r .code) (r .edge) (x .across) in
     let b = across-only (c .0) k (c .1) (r′ .code) (r′ .edge) (y .across) in
-    λ i. record { refusal = (x .number ∙ sym (y .number)) i; code = (a .0 ∙ sym (b .0)) i; edge = (a .1 ∙ sym (b .1)) i })
+    let e : r .code ≡ r′ .code = a .0 ∙ sym (b .0) in
+    let there : Turned t k (r′ .code) (r .low) (r .high) =
+    subst (λ (u : TriangleCode). Turned t k u (r .low) (r .high)) e (x .turned) in
+    let d = turned-one (y .across .code) there (y .turned) in
+    λ i. record {
+      refusal = (x .number ∙ sym (y .number)) i;
+      code = e i;
+      edge = (a .1 ∙ sym (b .1)) i;
+      low = d .0 i;
+      high = d .1 i;
+    })
 
 pub cross-some : (t : TriangleCode) (k : ℕ) → (r : StepAnswer) × CrossAnswer t k r
 cross-some t k =
-    answer-some _ (Crossed t k) (λ f. stepAnswer f (codeOf 0) 0)
-    (λ z. let c = numbered t k z in (stepAnswer 0 (codeAcross k t) (edgeAcross k t), record { number = refl; across = across-is (c .0) k (c .1) }))
+    answer-some _ (Crossed t k) noStep
+    (λ z. let c = numbered t k z in
+    let a = across-is (c .0) k (c .1) in
+    (stepAnswer 0 (codeAcross k t) (edgeAcross k t) _ _, record { number = refl; across = a; turned = turned-is (c .0) (c .1) a }))
 
 named-one : {n : ℕ} {p : Weights} {r r′ : NameAnswer} → Named n p r → Named n p r′ → r ≡ r′
 named-one x y = λ i. record { refusal = (x .number ∙ sym (y .number)) i; name = one-name (x .is) (y .is) i }

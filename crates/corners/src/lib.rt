@@ -1,5 +1,6 @@
 // The calls of document 01 on corners and edges: checking a name, crossing, weights, naming, the way back, the ring.
 use net::Edge;
+use net::seams;
 use net::steps;
 use words::CornerName;
 use words::TriangleCode;
@@ -9,11 +10,14 @@ ghost use Rattle.corners.specs.Refusals.{refuseNumbered};
 ghost use Rattle.corners.specs.Answers.{CrossAnswer, WeightsAnswer, NameWeightsAnswer, NamingAnswer};
 ghost use Rattle.corners.specs.Answers.{BackAnswer, RingAnswer};
 
-// A neighbour's code and the number of the shared edge there, or a refusal's number with zeros.
+// A neighbour's code, the number of the shared edge there, and the numbers there of the edge's two corners: of the one
+// whose number is lower here, and of the one whose number is higher. Or a refusal's number with zeros.
 pub struct StepAnswer {
     pub refusal: u64,
     pub code: TriangleCode,
     pub edge: u64,
+    pub low: u64,
+    pub high: u64,
 }
 
 // A corner name, or a refusal's number with the name 0.
@@ -67,7 +71,8 @@ pub fn check_name(r: CornerName) -> u64
 
 // ---- crossing
 
-// Crossing an edge: the neighbour's code and the number of the shared edge there.
+// Crossing an edge: the neighbour's code, the number of the shared edge there, and how its corners turned. What follows
+// the edge here goes before it there, and the other way round. (i xor j is k for {i, j, k} = {1, 2, 3}.)
 pub fn cross(t: TriangleCode, edge: u64) -> StepAnswer
     ensures { λ r. ⌜ CrossAnswer t edge r ⌝ }
 {
@@ -77,6 +82,8 @@ pub fn cross(t: TriangleCode, edge: u64) -> StepAnswer
             refusal: f,
             code: TriangleCode(0),
             edge: 0,
+            low: 0,
+            high: 0,
         };
     }
     let here = Edge {
@@ -85,10 +92,14 @@ pub fn cross(t: TriangleCode, edge: u64) -> StepAnswer
     };
     let there = here.neighbour();
     let code = there.code;
+    let next = seams::next_of(there.number);
+    let previous = there.number ^ next;
     StepAnswer {
         refusal: 0,
         code,
         edge: there.number,
+        low: seams::of_three(edge, previous, next, previous),
+        high: seams::of_three(edge, next, previous, next),
     }
 }
 

@@ -21,8 +21,7 @@ use Rattle.net.specs.Names.{IsName}
 use Rattle.net.specs.Steps.{Across}
 use Rattle.net.specs.Refusals.{over, onOneSide}
 use Rattle.net.proofs.Canonical.{name-means, name-passes-all}
-use Rattle.net.proofs.Crossing.{across-back}
-use Rattle.net.proofs.Demand3.{one-across, three-distinct, just-two, names-equal}
+use Rattle.net.proofs.Demand3.{back-again, one-across, three-distinct, just-two, names-equal}
 use Rattle.net.proofs.Stepping.{next-three, prev-three, next-not, prev-not}
 use Rattle.net.proofs.Table.{either-way, same, sound, threes, _or_}
 use Rattle.net.proofs.WayBack.{weights-mean}
@@ -30,6 +29,7 @@ use Rattle.filing.specs.Coordinates.{exact}
 use Rattle.filing.proofs.OnePoint.{same-point}
 use Rattle.filing.proofs.Weighted.{corner-twelve}
 use Rattle.corners.specs.Refusals.{refuseNumbered}
+use Rattle.corners.specs.Turns.{Turned}
 use Rattle.corners.specs.Answers.{Answer, Lent, Put, stepAnswer, nameAnswer, Named, CrossAnswer, NamingAnswer}
 use Rattle.corners.specs.Answers.{BackAnswer}
 use Rattle.corners.specs.declared.StepAnswer.{StepAnswer}
@@ -261,12 +261,15 @@ demand-2-files = record {
 -- ---- 3
 
 -- a crossing that was answered
-crossed-is : (t : TriangleCode) (k : ℕ) (r : StepAnswer) → CrossAnswer t k r → r .refusal ≡ 0
-    → IsCode (degreeOf (t .0)) t × OneToThree k × Across (degreeOf (t .0)) t k (r .code) (r .edge)
-crossed-is t k r a z =
-    let f = passed (λ r. r .refusal) refl (λ r g. g .number) a z in
-    let c = numbered t k f in
-    (c .0, c .1, a .answered f .across)
+module _ (t : TriangleCode) (k : ℕ) (r : StepAnswer) (a : CrossAnswer t k r) (z : r .refusal ≡ 0) where
+  none : refuseNumbered t k ≡ 0
+  none = passed (λ r. r .refusal) refl (λ r g. g .number) a z
+
+  pub crossed-is : IsCode (degreeOf (t .0)) t × OneToThree k × Across (degreeOf (t .0)) t k (r .code) (r .edge)
+  crossed-is = let c = numbered t k none in (c .0, c .1, a .answered none .across)
+
+  pub crossed-turned : Turned t k (r .code) (r .low) (r .high)
+  crossed-turned = a .answered none .turned
 
 -- of the numbers 1 to 3 the two that are not k
 other-two : (k : ℕ) → OneToThree k → (i : ℕ) → OneToThree i
@@ -303,12 +306,11 @@ demand-3 = record {
   back = λ t k r s a z b.
       let x = crossed-is t k r a z in
       let y = x .2 in
-      let d = y .code .degreeIs in
-      let v : Across (degreeOf (r .code .0)) (r .code) (r .edge) t k =
-      subst (λ (m : ℕ). Across m (r .code) (r .edge) t k) (sym d) (across-back (x .0) (x .1) y) in
-      corners.cross-one (r .code) (r .edge) s (stepAnswer 0 t k) b
-      (answering (numbered-passes (r .code) (r .edge) .1 (y .code .passes, y .edge))
-      (record { number = refl; across = v }));
+      let w = b .answered (numbered-passes (r .code) (r .edge) .1 (y .code .passes, y .edge)) in
+      let v : Across (degreeOf (t .0)) (r .code) (r .edge) (s .code) (s .edge) =
+      subst (λ (m : ℕ). Across m (r .code) (r .edge) (s .code) (s .edge)) (y .code .degreeIs) (w .across) in
+      let q = back-again _ t k (x .0) (x .1) (r .code) (r .edge) y (s .code) (s .edge) v in
+      λ i. stepAnswer (w .number i) (q .0 i) (q .1 i) (s .low) (s .high);
   names = λ t u i j r s a b y z d.
       let p = naming-is t i r a y .1 in
       let q = naming-is u j s b z .1 in

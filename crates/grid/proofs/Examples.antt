@@ -27,8 +27,8 @@ use Rattle.filing.specs.Means.Lists.{joined, sideWords, allWords}
 use Rattle.corners.specs.Refusals.{refuseNumbered, refuseWeights, refuseBack, refuseRing}
 use Rattle.directions.specs.Refusals.{refuseFile, refuseList}
 use Rattle.grid.specs.Writing.{decimals, written, cornerIn, minus, up, ticks, point}
-use Rattle.grid.specs.Examples.{Examples, Family, Weighed, Rings, Places, Points}
-use Rattle.grid.proofs.Showing.{files, lists, lists-refused, crosses, names, backs, weighs, weighs-name}
+use Rattle.grid.specs.Examples.{Examples, Crossings, Family, Weighed, Rings, Places, Points}
+use Rattle.grid.proofs.Showing.{files, lists, lists-refused, crosses, crosses-refused, names, backs, weighs, weighs-name}
 use Rattle.grid.proofs.Showing.{weighs-refused, rings-by, rings-refused, passes-by, placed, ticked, pointed}
 use Rattle.grid.proofs.Showing.{placed-name, ticked-name, pointed-name, not-placed, not-pointed}
 
@@ -66,9 +66,9 @@ examples = record {
   e5 = files 3 _ _ refl refl;
   e6 = files 2 _ _ refl refl;
   e7 = files 2 _ _ refl refl;
-  e8 = crosses (written 1001) 2 _ _ refl refl refl;
-  e9 = crosses (written 1002) 1 _ _ refl refl refl;
-  e10 = crosses (written 1011) 2 _ _ refl refl refl;
+  e8 = crosses (written 1001) 2 _ _ _ _ refl refl refl refl refl;
+  e9 = crosses (written 1002) 1 _ _ _ _ refl refl refl refl refl;
+  e10 = crosses (written 1011) 2 _ _ _ _ refl refl refl refl refl;
   e11 = backs 0 (unitAt (vertex 2 0)) _ (written 200) 2 refl refl refl refl refl;
   e11-corner = names (written 200) 2 _ refl refl;
   e12-name = backs 0 (unitAt (vertex 4 1)) _ (written 401) 1 refl refl refl refl refl;
@@ -77,7 +77,16 @@ examples = record {
   whole = lists 0 up _ refl refl;
 }
 
--- ---- parent and child, weights, rings
+-- ---- how the corners turn, parent and child, weights, rings
+
+pub crossings : Crossings
+unfolding refusal refuseNumbered decimals written path wordOf digits stepOf cross seamSide seamKept
+crossings = record {
+  inside = crosses (written 1000) 1 _ _ _ _ refl refl refl refl refl;
+  seam = crosses (written 100) 3 _ _ _ _ refl refl refl refl refl;
+  seam-back = crosses (written 500) 2 _ _ _ _ refl refl refl refl refl;
+  no-edge = crosses-refused (written 1001) 4 4 refl;
+}
 
 pub family : Family
 unfolding refusal refuseParent refuseChild parentOf childOf parentAnswer childAnswer decimals written path wordOf digits

@@ -158,8 +158,17 @@ unfolding refusal refuseNumbered refuseBack checkCode decimals written path word
     unitAt cornerVertex sum stepOf cross seamSide seamKept leastFrom first holds nonNeg sideDets determinants replaced
     determinant exact _+φ_ negφ _*φ_ descent leastChild refuseFile
 mistakes = record {
-  edge-kept = λ a.
+  edge-kept = λ i j a.
       let e : _≡_ {A = ℕ} 2 3 = ap (λ (r : StepAnswer). r .edge) (examples .e8 .only _ a) in
+      omega arith;
+  corners-kept = λ a.
+      let e : _≡_ {A = ℕ} 3 2 = ap (λ (r : StepAnswer). r .high) (examples .e8 .only _ a) in
+      omega arith;
+  corners-exchanged = λ a.
+      let e : _≡_ {A = ℕ} 2 1 = ap (λ (r : StepAnswer). r .low) (examples .e8 .only _ a) in
+      omega arith;
+  corners-sorted = λ a.
+      let e : _≡_ {A = ℕ} 2 3 = ap (λ (r : StepAnswer). r .low) (examples .e9 .only _ a) in
       omega arith;
   own-name = λ a.
       let e : _≡_ {A = ℕ} (written 200 .0 + 2) 0x2000000000000003 =
@@ -172,7 +181,7 @@ mistakes = record {
   close-above = is-nonneg (golden (pos 14472334024676221) (minus 8944394323791464)) tt;
   close-below = not-nonneg (golden (pos 23416728348467685) (minus 14472334024676221)) tt;
   close-filed = close-filed;
-  close-across = crosses holder 1 across-edge 1 refl refl refl;
+  close-across = crosses holder 1 across-edge 1 3 2 refl refl refl refl refl;
   close-outside = close-outside;
   close-wrong = λ a. close-outside (a .answered refl .is .holds);
   on-edge = (refl, refl);
@@ -188,8 +197,8 @@ mistakes = record {
   refusing = λ k a. let e : suc k ≡ 0 = ap (λ (r : CodeAnswer). r .refusal) (examples .e3 .only _ a) in omega arith;
   fixed-code = fixed-code;
   fixed-name = fixed-name;
-  itself = λ t k j z a. a .answered z .across .other refl;
-  nothing = λ t k j z a. let e : _≡_ {A = ℕ} 2 0 = a .answered z .across .code .passes in omega arith;
+  itself = λ t k e i j z a. a .answered z .across .other refl;
+  nothing = λ t k e i j z a. let f : _≡_ {A = ℕ} 2 0 = a .answered z .across .code .passes in omega arith;
   then-zeros = λ a.
       let e : written 10000 .0 ≡ written 10003 .0 =
       ap (λ (r : CodeAnswer). r .code .0) (examples .e3 .only _ a) in

@@ -153,9 +153,9 @@ pub record Demand3 : Type 0 where
   -- "and each shares with it just that edge's two corners"
   pub justTwo : (t : TriangleCode) (k : ℕ) (r : StepAnswer) (p : Weights) → CrossAnswer t k r → r .refusal ≡ 0
       → (HasCorner t p × HasCorner (r .code) p) ↔ ((corner t (next k) ≡ p) ⊎ (corner t (prev k) ≡ p))
-  -- "stepping back through the edge reported returns the first triangle and edge"
+  -- "stepping back through the edge reported returns the first triangle and edge" (how its corners turn: Turns.antt)
   pub back : (t : TriangleCode) (k : ℕ) (r s : StepAnswer) → CrossAnswer t k r → r .refusal ≡ 0
-      → CrossAnswer (r .code) (r .edge) s → s ≡ stepAnswer 0 t k
+      → CrossAnswer (r .code) (r .edge) s → s ≡ stepAnswer 0 t k (s .low) (s .high)
   -- "two corners of one degree have equal names exactly when their twelve weights are equal"
   pub names : (t u : TriangleCode) (i j : ℕ) (r s : NameAnswer) → NamingAnswer t i r → NamingAnswer u j s
       → r .refusal ≡ 0 → s .refusal ≡ 0

@@ -39,12 +39,12 @@ pub record Examples : Type 0 where
   pub e6 : FileAnswer 2 (towards (pos 1) (pos 0) (pos 0)) gives codeAnswer 0 (written 11102)
   -- E7: "file (0,0,-1), degree 2: 21003"
   pub e7 : FileAnswer 2 (towards (pos 0) (pos 0) (minus 1)) gives codeAnswer 0 (written 21003)
-  -- E8: "1001 across 2: 2001, edge 3"
-  pub e8 : CrossAnswer (written 1001) 2 gives stepAnswer 0 (written 2001) 3
+  -- E8: "1001 across 2: 2001, edge 3", and of document 02, 2026-06: "For E8 corners 1 and 3 become 1 and 2."
+  pub e8 : CrossAnswer (written 1001) 2 gives stepAnswer 0 (written 2001) 3 1 2
   -- E9: "1002 across 1: 1013, edge 1"
-  pub e9 : CrossAnswer (written 1002) 1 gives stepAnswer 0 (written 1013) 1
+  pub e9 : CrossAnswer (written 1002) 1 gives stepAnswer 0 (written 1013) 1 3 2
   -- E10: "1011 across 2: 5113, edge 2"
-  pub e10 : CrossAnswer (written 1011) 2 gives stepAnswer 0 (written 5113) 2
+  pub e10 : CrossAnswer (written 1011) 2 gives stepAnswer 0 (written 5113) 2 3 1
   -- E11: "name of V(20), degree 0: 0x2000000000000003", from its weights and as corner 2 of 200
   pub e11 : BackAnswer 0 (unitAt (vertex 2 0)) gives nameAnswer 0 (nameOf 0x2000000000000003)
   pub e11-corner : NamingAnswer (written 200) 2 gives nameAnswer 0 (nameOf 0x2000000000000003)
@@ -56,6 +56,16 @@ pub record Examples : Type 0 where
   pub whole : (out : List ℕ) → 6 ≤ length out
       → ListAnswer 0 (towards (pos 0) (pos 0) (pos 1)) out
       leaves (countAnswer 0 2, over (wordsFor (100 ∷ 500 ∷ [])) out)
+
+-- How the corners turn (document 02, 2026-06), beside E8 to E10.
+pub record Crossings : Type 0 where
+  -- inside a side they are exchanged
+  pub inside : CrossAnswer (written 1000) 1 gives stepAnswer 0 (written 1001) 1 3 2
+  -- on the seam from 100 to 500 and back
+  pub seam : CrossAnswer (written 100) 3 gives stepAnswer 0 (written 500) 2 1 3
+  pub seam-back : CrossAnswer (written 500) 2 gives stepAnswer 0 (written 100) 3 1 2
+  -- refused, with zeros in the new fields
+  pub no-edge : CrossAnswer (written 1001) 4 gives stepAnswer 5 (codeOf 0) 0 0 0
 
 -- Parent and child. (Their promises are equations.)
 pub record Family : Type 0 where

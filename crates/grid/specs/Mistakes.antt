@@ -41,7 +41,12 @@ StrictlyInside t d = Positive (dets t d .d1) × Positive (dets t d .d2) × Posit
 
 pub record Mistakes : Type 0 where
   -- "Carrying the edge number across a seam unchanged: E8 goes from edge 2 to edge 3."
-  pub edge-kept : CrossAnswer (written 1001) 2 (stepAnswer 0 (written 2001) 2) → ⊥
+  pub edge-kept : (i j : ℕ) → CrossAnswer (written 1001) 2 (stepAnswer 0 (written 2001) 2 i j) → ⊥
+  -- and of document 02, 2026-06, at E8: the corners' numbers kept unchanged across a seam, or exchanged
+  pub corners-kept : CrossAnswer (written 1001) 2 (stepAnswer 0 (written 2001) 3 1 3) → ⊥
+  pub corners-exchanged : CrossAnswer (written 1001) 2 (stepAnswer 0 (written 2001) 3 2 1) → ⊥
+  -- and at E9, where corners 2 and 3 become 3 and 2: in the order of the neighbour's numbers
+  pub corners-sorted : CrossAnswer (written 1002) 1 (stepAnswer 0 (written 1013) 1 2 3) → ⊥
   -- "Naming a corner by the triangle asked about, so one seam point has two names.": V(20) as corner 2 of 200
   pub own-name : NamingAnswer (written 200) 2 (nameAnswer 0 (cornerIn 200 2)) → ⊥
   -- or with one of the four zero bits set
@@ -52,7 +57,7 @@ pub record Mistakes : Type 0 where
   pub close-below : NonNeg (golden (pos 23416728348467685) (minus 14472334024676221)) → ⊥
   -- and so for a direction
   pub close-filed : FileAnswer 24 close gives codeAnswer 0 holder
-  pub close-across : CrossAnswer holder 1 gives stepAnswer 0 across-edge 1
+  pub close-across : CrossAnswer holder 1 gives stepAnswer 0 across-edge 1 3 2
   pub close-outside : Holds across-edge close → ⊥
   pub close-wrong : FileAnswer 24 close (codeAnswer 0 across-edge) → ⊥
   -- "Testing strictly inside, so E3 is in no triangle.": two of the three determinants of what E3 answers are 0
@@ -71,12 +76,12 @@ pub record Mistakes : Type 0 where
   pub fixed-name : (n : ℕ) (q : CornerName) → n ≤ 24
       → ((t : TriangleCode) (i : ℕ) → refuseNumbered t i ≡ 0 → degreeOf (t .0) ≡ n
       → NamingAnswer t i (nameAnswer 0 q)) → ⊥
-  -- "A neighbour that returns its own triangle, or does nothing, breaks demand 3's "other triangle".": with any edge
-  -- number
-  pub itself : (t : TriangleCode) (k j : ℕ) → refuseNumbered t k ≡ 0
-      → CrossAnswer t k (stepAnswer 0 t j) → ⊥
-  pub nothing : (t : TriangleCode) (k j : ℕ) → refuseNumbered t k ≡ 0
-      → CrossAnswer t k (stepAnswer 0 (codeOf 0) j) → ⊥
+  -- "A neighbour that returns its own triangle, or does nothing, breaks demand 3's "other triangle".": with any
+  -- numbers
+  pub itself : (t : TriangleCode) (k e i j : ℕ) → refuseNumbered t k ≡ 0
+      → CrossAnswer t k (stepAnswer 0 t e i j) → ⊥
+  pub nothing : (t : TriangleCode) (k e i j : ℕ) → refuseNumbered t k ≡ 0
+      → CrossAnswer t k (stepAnswer 0 (codeOf 0) e i j) → ⊥
   -- "Finding the first digit honestly and then writing zeros breaks demand 2 at E3."
   pub then-zeros : FileAnswer 2 up (codeAnswer 0 (written 10000)) → ⊥
   -- "The answer is the least code that holds it": 500 holds (0,0,1) too, and is not the least

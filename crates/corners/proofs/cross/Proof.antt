@@ -1,6 +1,6 @@
 -- The refusals in turn; the step to the neighbour (Calls). Assumes nothing.
 use borrow.Author.Needs.{needs}
-use mathlib.Core.Path.{_≡_, sym, _∙_}
+use mathlib.Core.Path.{_≡_, refl, sym, _∙_}
 use Rattle.corners.specs.Refusals.{refuseNumbered}
 use Rattle.corners.proofs.Refused.{numbered-passes}
 use Rattle.corners.proofs.Calls.{refusing, cross-answers}
@@ -20,8 +20,31 @@ none c = sym (c .before .refuse-numbered .ensures) ∙ c .if1 .left
 neighbour-requires : tie.Need-neighbour-requires
 neighbour-requires c κs = numbered-passes _ _ .0 (none c)
 
+next-of-requires : tie.Need-next-of-requires
+next-of-requires c κs = search needs
+
+of-three-requires : tie.Need-of-three-requires
+of-three-requires c κs = search needs
+
+of-three-requires-2 : tie.Need-of-three-requires-2
+of-three-requires-2 c κs = search needs
+
 returns-2 : tie.Need-returns-2
-returns-2 c = let n = c .before in cross-answers _ _ _ (none (n .before)) (n .neighbour .ensures)
+returns-2 c =
+    let low = c .before in
+    let next = low .before .before in
+    let n = next .before .before in
+    cross-answers _ _ _ (none (n .before)) (n .neighbour .ensures) (next .next-of .ensures) refl
+    (low .of-three .ensures) (c .of-three2 .ensures)
 
 pub cross-spec : {M : Type 1} → statement M
-cross-spec = tie.close (tie.spec refuse-numbered-requires returns neighbour-requires returns-2)
+cross-spec =
+    tie.close
+    (tie.spec
+    refuse-numbered-requires
+    returns
+    neighbour-requires
+    next-of-requires
+    of-three-requires
+    of-three-requires-2
+    returns-2)

@@ -89,7 +89,11 @@ pub fn step(r: StepAnswer, out: &mut [u8]) -> usize
     }
     let edge = put_code(r.code.0, out, 0);
     let number = lines::put_bytes(b" edge ", out, edge);
-    lines::put_decimal(r.edge, out, number)
+    let corners = lines::put_decimal(r.edge, out, number);
+    let low = lines::put_bytes(b" corners ", out, corners);
+    let space = lines::put_decimal(r.low, out, low);
+    let high = lines::put_byte(b' ', out, space);
+    lines::put_decimal(r.high, out, high)
 }
 
 pub fn name(r: NameAnswer, out: &mut [u8]) -> usize

@@ -1,5 +1,6 @@
 #!/usr/bin/env python3
-"""A second program for the grid of document 01, "The grid, its words and its rules", written from that paper alone.
+"""A second program for the grid of document 01, "The grid, its words and its rules", written from that paper and the requests of
+document 02 alone.
 
 It answers by literal search, in whole numbers: corners by the division rule on twelve weights; neighbours, names and rings by
 comparing corners over the triangles of the degree; holders by the three determinants. To degree 5 every triangle is compared
@@ -306,6 +307,17 @@ def neighbour(code, edge):
     return others[0], shared
 
 
+def both_numbers(code, edge):
+    """The edge's two corners in rising number, each as (number here, number in the neighbour)."""
+    # Document 02, 2026-06: "for the shared edge's two corners in rising number, their numbers in the neighbour". Document 01:
+    # "Two corners of one degree are the same point exactly when all twelve weights agree."
+    other, _ = neighbour(code, edge)
+    ours = [(here, p) for here, p in enumerate(corners(code), 1) if here != edge]
+    pairs = [(here, there) for here, p in ours for there, q in enumerate(corners(other), 1) if p == q]
+    must(len(pairs) == 2, "each corner of the edge once", code, edge, pairs)
+    return pairs
+
+
 def ends_round(p, triangle):
     """The two other corners of a triangle that has the corner p, first and last when going anticlockwise round p: the
     determinant of p, first, last is above zero."""
@@ -560,10 +572,13 @@ def call_child(code, digit):
 
 
 def call_cross(code, edge):
+    # Document 02, 2026-06: "The crossing call shall also answer" the two numbers, in the order of our corners.
     def say():
         other, shared = neighbour(code, edge)
-        return f"{code_text(other)} edge {shared}"
+        numbers = " ".join(str(there) for _, there in both_numbers(code, edge))
+        return f"{code_text(other)} edge {shared} corners {numbers}"
 
+    # Document 02, 2026-06: "The refusals are as before".
     return either(code_refusals(code) | number_refusals(edge), say)
 
 
@@ -745,6 +760,17 @@ def answer(line):
 # ==== Internal checks
 
 
+def check_crossing(code, edge):
+    other, shared = neighbour(code, edge)
+    must(neighbour(other, shared) == (code, edge), "there and back", code, edge)
+    # Document 02, 2026-06: "Tell me how the corners turned."
+    pairs = both_numbers(code, edge)
+    must(sorted((there, here) for here, there in pairs) == both_numbers(other, shared), "the pairs turned round", code, edge)
+    must({1, 2, 3} - {there for _, there in pairs} == {shared}, "the third number is the edge's", code, edge)
+    for here, there in pairs:
+        must((other, there) in having(degree_of(code), corners(code)[here - 1]), "the same corner", code, edge, here, there)
+
+
 def check_degree(n):
     # "There are 20·4^N triangles, 30·4^N edges and 10·4^N + 2 corners."
     triangles, index = whole_degree(n), whole_index(n)
@@ -761,7 +787,7 @@ def check_degree(n):
     must(len({exact(p) for p in index}) == len(index), "equal exact coordinates mean equal weights", n)
     for code in triangles:
         for edge in (1, 2, 3):
-            must(neighbour(*neighbour(code, edge)) == (code, edge), "there and back", code, edge)
+            check_crossing(code, edge)
 
 
 def search_by_determinants(n, p):
@@ -826,9 +852,11 @@ def check_examples():
     must(answer("file 3 -1 -1 -1") == code_text(word("410000")), "E5")
     must(answer("file 2 1 0 0") == code_text(word("11102")), "E6")
     must(answer("file 2 0 0 -1") == code_text(word("21003")), "E7")
-    must(answer("cross 1001 2") == code_text(word("2001")) + " edge 3", "E8")
-    must(answer("cross 1002 1") == code_text(word("1013")) + " edge 1", "E9")
-    must(answer("cross 1011 2") == code_text(word("5113")) + " edge 2", "E10")
+    # Document 02, 2026-06: "For E8 corners 1 and 3 become 1 and 2." By the division rule corners 2 and 3 of E9 are 2·V(10) and
+    # V(10) + V(20), there 3 and 2; corners 1 and 3 of E10 are 2·V(11) and V(10) + V(11), there 3 and 1.
+    must(answer("cross 1001 2") == code_text(word("2001")) + " edge 3 corners 1 2", "E8")
+    must(answer("cross 1002 1") == code_text(word("1013")) + " edge 1 corners 3 2", "E9")
+    must(answer("cross 1011 2") == code_text(word("5113")) + " edge 2 corners 3 1", "E10")
     must(canonical(0, vertex_weights("20")) == 0x2000000000000003, "E11")
     must(answer("name 100 3") == "0x2000000000000003 corner 3 of 100", "E11 again")
     must(ticks(vertex_weights("41")) == [-106040, 0, -65536], "E12")

@@ -19,8 +19,8 @@ lowThere k k′ = nth k (prev k′) (next k′) (prev k′)
 abbrev pub highThere : (k k′ : ℕ) → ℕ
 highThere k k′ = nth k (next k′) (prev k′) (next k′)
 
-pub turned-is : {n : ℕ} {t t′ : TriangleCode} {k k′ : ℕ} → IsCode n t → OneToThree k → Across n t k t′ k′
-    → Turned t k t′ (lowThere k k′) (highThere k k′)
+pub turned-is : {n : ℕ} {t t′ : TriangleCode} {k k′ : ℕ} → IsCode n t → OneToThree k
+    → Across n t k t′ k′ → Turned t k t′ (lowThere k k′) (highThere k k′)
 turned-is {t = t} {t′} {k} {k′} c l a =
     let r = across-reversed c k l a in
     three

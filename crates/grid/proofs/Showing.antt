@@ -101,7 +101,8 @@ crosses t k u e i j z f g low high =
     answering z (record { number = refl; across = x; turned = y }) in
     record { meets = is; only = λ s a. cross-one t k s _ a is }
 
-pub crosses-refused : (t : TriangleCode) (k f : ℕ) → suc f ≡ refuseNumbered t k → CrossAnswer t k gives noStep (suc f)
+pub crosses-refused : (t : TriangleCode) (k f : ℕ) → suc f ≡ refuseNumbered t k
+    → CrossAnswer t k gives noStep (suc f)
 crosses-refused t k f e =
     let is : CrossAnswer t k (noStep (suc f)) = refusing e (λ z. omega arith) in
     record { meets = is; only = λ s a. cross-one t k s _ a is }

@@ -21,7 +21,8 @@ use Rattle.grid.proofs.Demands.{crossed-is, crossed-turned, demand-3}
 -- ---- of the numbers 1 to 3
 
 two-ends : (k : ℕ) → OneToThree k
-    → (lower k < higher k) × ((i : ℕ) → OneToThree i → (i ≡ k → ⊥) ↔ ((i ≡ lower k) ⊎ (i ≡ higher k)))
+    → (lower k < higher k)
+    × ((i : ℕ) → OneToThree i → (i ≡ k → ⊥) ↔ ((i ≡ lower k) ⊎ (i ≡ higher k)))
 two-ends =
     sound
     (threes λ k. less (lower k) (higher k) and (threes λ i.
@@ -61,7 +62,8 @@ module _ (t : TriangleCode) (k : ℕ) (r : StepAnswer) (a : CrossAnswer t k r) (
     ap (corner t) p ∙ b .1 ∙ ap (corner (r .code)) (sym q),
   )
 
-  paired : {e f i j : ℕ} → Becomes t e (r .code) f → OneToThree j → corner t i ≡ corner (r .code) j → i ≡ e → j ≡ f
+  paired : {e f i j : ℕ} → Becomes t e (r .code) f → OneToThree j → corner t i ≡ corner (r .code) j
+      → i ≡ e → j ≡ f
   paired b l q p = corner-one (is .2 .code) l (b .0) (sym q ∙ ap (corner t) p ∙ b .1)
 
   pairs : (i j : ℕ) → Pairs k r i j ↔ (OneToThree i × OneToThree j × (corner t i ≡ corner (r .code) j))
@@ -93,8 +95,10 @@ turns = record {
       let here = pairs t k r a z i j in
       let there = pairs (r .code) (r .edge) s b (ap (λ (s : StepAnswer). s .refusal) e) j i in
       let code : s .code ≡ t = ap (λ (s : StepAnswer). s .code) e in (
-        λ p. let x = here .0 p in there .1 (x .1, x .0, sym (x .2) ∙ ap (λ (u : TriangleCode). corner u i) (sym code)),
-        λ p. let x = there .0 p in here .1 (x .1, x .0, ap (λ (u : TriangleCode). corner u i) (sym code) ∙ sym (x .2)),
+        λ p. let x = here .0 p in
+            there .1 (x .1, x .0, sym (x .2) ∙ ap (λ (u : TriangleCode). corner u i) (sym code)),
+        λ p. let x = there .0 p in
+            here .1 (x .1, x .0, ap (λ (u : TriangleCode). corner u i) (sym code) ∙ sym (x .2)),
       );
   third = third;
 }

@@ -1,4 +1,5 @@
--- What a reader must believe: what is promised of the calls together, document 01's examples, wrong answers, and what is counted.
+-- What a reader must believe: what is promised of the calls together, document 01's examples, wrong answers, and what
+-- is counted.
 pub mod Demands
 pub mod Turns
 pub mod Writing

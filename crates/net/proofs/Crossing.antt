@@ -14,26 +14,37 @@ use Rattle.net.specs.Division.{cornerOf}
 use Rattle.net.specs.Means.Walks.{Arrival, stepOf}
 use Rattle.net.specs.Sides.{OneToThree, next, prev}
 use Rattle.net.specs.Steps.{Across, SameTwo}
-use Rattle.net.proofs.CodePlaces.{at-has, code-for, code-is, codeFor, corner-at, digitsIn, for-code, for-corner, for-digits, for-side, has-at, in-digits, in-length}
+use Rattle.net.proofs.CodePlaces.{at-has, code-for, code-is, codeFor, corner-at, digitsIn, for-code}
+use Rattle.net.proofs.CodePlaces.{for-corner, for-digits, for-side, has-at, in-digits, in-length}
 use Rattle.net.proofs.Loads.{HasAt}
 use Rattle.net.proofs.Neighbours.{another, corners-differ, shares-ends, shares-just}
 use Rattle.net.proofs.Stepping.{Beside, next-three, prev-three, step-beside, step-only}
 use Rattle.net.proofs.Table.{_and_, _or_, _then_, same, sound, threes}
 
 -- two edges with the same ends are one
-edge-one : (k : ℕ) → OneToThree k → (e : ℕ) → OneToThree e → ((next k ≡ next e) × (prev k ≡ prev e)) ⊎ ((next k ≡ prev e) × (prev k ≡ next e)) → k ≡ e
-edge-one = sound (threes λ k. threes λ e. ((same (next k) (next e) and same (prev k) (prev e)) or (same (next k) (prev e) and same (prev k) (next e))) then same k e) refl
+edge-one : (k : ℕ) → OneToThree k → (e : ℕ) → OneToThree e
+    → ((next k ≡ next e) × (prev k ≡ prev e)) ⊎ ((next k ≡ prev e) × (prev k ≡ next e)) → k ≡ e
+edge-one =
+    sound
+    (threes λ k. threes λ e.
+    ((same (next k) (next e) and same (prev k) (prev e)) or (same (next k) (prev e) and same (prev k) (next e)))
+    then same k e) refl
 
-pub corner-one : {n : ℕ} {t : TriangleCode} → IsCode n t → {i j : ℕ} → OneToThree i → OneToThree j → corner t i ≡ corner t j → i ≡ j
-corner-one {t = t} c {i} {j} a b z = corners-differ (sideOf (t .0)) (digitsIn t) (code-side c) i a j b (sym (corner-at t i) ∙ z ∙ corner-at t j)
+pub corner-one : {n : ℕ} {t : TriangleCode} → IsCode n t → {i j : ℕ} → OneToThree i → OneToThree j
+    → corner t i ≡ corner t j → i ≡ j
+corner-one {t = t} c {i} {j} a b z =
+    corners-differ (sideOf (t .0)) (digitsIn t) (code-side c) i a j b (sym (corner-at t i) ∙ z ∙ corner-at t j)
 
 edges-same : {n : ℕ} {t : TriangleCode} (e f : ℕ) (p q : List ℕ) → IsCode n t → OneToThree e → OneToThree f
-    → SameTwo p q (corner t (next e)) (corner t (prev e)) → SameTwo p q (corner t (next f)) (corner t (prev f)) → e ≡ f
+    → SameTwo p q (corner t (next e)) (corner t (prev e))
+    → SameTwo p q (corner t (next f)) (corner t (prev f)) → e ≡ f
 edges-same {t = t} e f p q c l m x y =
     edge-one e l f m
     (⊎-elim
-    (λ x. ⊎-elim (λ y. inl (nn (sym (x .0) ∙ y .0), pp (sym (x .1) ∙ y .1))) (λ y. inr (np (sym (x .0) ∙ y .0), pn (sym (x .1) ∙ y .1))) y)
-    (λ x. ⊎-elim (λ y. inr (np (sym (x .1) ∙ y .1), pn (sym (x .0) ∙ y .0))) (λ y. inl (nn (sym (x .1) ∙ y .1), pp (sym (x .0) ∙ y .0))) y) x)
+    (λ x. ⊎-elim (λ y. inl (nn (sym (x .0) ∙ y .0), pp (sym (x .1) ∙ y .1)))
+    (λ y. inr (np (sym (x .0) ∙ y .0), pn (sym (x .1) ∙ y .1))) y)
+    (λ x. ⊎-elim (λ y. inr (np (sym (x .1) ∙ y .1), pn (sym (x .0) ∙ y .0)))
+    (λ y. inl (nn (sym (x .1) ∙ y .1), pp (sym (x .0) ∙ y .0))) y) x)
   where
     nn : corner t (next e) ≡ corner t (next f) → next e ≡ next f
     nn = corner-one c (next-three e l) (next-three f m)
@@ -71,7 +82,9 @@ module _ {n : ℕ} {t : TriangleCode} (c : IsCode n t) (k : ℕ) (l : OneToThree
   long = omega (arith, b .degree, in-length c, code-degree c)
 
   pub across-code : IsCode n (codeAcross k t)
-  across-code = subst (λ (m : ℕ). IsCode m (codeAcross k t)) (b .degree ∙ in-length c) (for-code (r .side) (r .digits) (b .a-side) (b .the-digits) long)
+  across-code =
+      subst (λ (m : ℕ). IsCode m (codeAcross k t)) (b .degree ∙ in-length c)
+      (for-code (r .side) (r .digits) (b .a-side) (b .the-digits) long)
 
   across-corner : (i : ℕ) → corner (codeAcross k t) i ≡ cornerOf (r .side) (r .digits) i
   across-corner = for-corner (r .side) (r .digits) (b .a-side) (b .the-digits) long
@@ -84,7 +97,8 @@ module _ {n : ℕ} {t : TriangleCode} (c : IsCode n t) (k : ℕ) (l : OneToThree
 
   -- what is next here is previous there, and the other way round
   abbrev Reversed : TriangleCode → ℕ → Type 0
-  Reversed t′ k′ = (corner t (next k) ≡ corner t′ (prev k′)) × (corner t (prev k) ≡ corner t′ (next k′))
+  Reversed t′ k′ =
+      (corner t (next k) ≡ corner t′ (prev k′)) × (corner t (prev k) ≡ corner t′ (next k′))
 
   reversed : Reversed (codeAcross k t) (edgeAcross k t)
   reversed = (
@@ -97,60 +111,81 @@ module _ {n : ℕ} {t : TriangleCode} (c : IsCode n t) (k : ℕ) (l : OneToThree
   across-is =
       record {
         code = across-code;
-        other = λ e. another s ds (code-side c) (in-digits c) k l (sym across-side ∙ ap (λ (u : TriangleCode). sideOf (u .0)) e) (sym across-digits ∙ ap digitsIn e);
+        other = λ e.
+            another s ds (code-side c) (in-digits c) k l
+            (sym across-side ∙ ap (λ (u : TriangleCode). sideOf (u .0)) e) (sym across-digits ∙ ap digitsIn e);
         edge = b .an-edge;
         ends = inr reversed;
       }
 
-  ends-has : (t′ : TriangleCode) (k′ : ℕ) → Across n t k t′ k′ → HasCorner t′ (corner t (next k)) × HasCorner t′ (corner t (prev k))
+  ends-has : (t′ : TriangleCode) (k′ : ℕ) → Across n t k t′ k′
+      → HasCorner t′ (corner t (next k)) × HasCorner t′ (corner t (prev k))
   ends-has t′ e a =
       ⊎-elim (λ x. ((next e, next-three e (a .edge), sym (x .0)), (prev e, prev-three e (a .edge), sym (x .1))))
       (λ x. ((prev e, prev-three e (a .edge), sym (x .0)), (next e, next-three e (a .edge), sym (x .1)))) (a .ends)
 
-  at-end : (t′ : TriangleCode) (i : ℕ) → HasCorner t′ (corner t i) → HasAt (sideOf (t′ .0)) (digitsIn t′) (cornerOf s ds i)
-  at-end t′ i h = subst (λ (p : List ℕ). HasAt (sideOf (t′ .0)) (digitsIn t′) p) (corner-at t i) (has-at t′ (corner t i) h)
+  at-end : (t′ : TriangleCode) (i : ℕ) → HasCorner t′ (corner t i)
+      → HasAt (sideOf (t′ .0)) (digitsIn t′) (cornerOf s ds i)
+  at-end t′ i h =
+      subst (λ (p : List ℕ). HasAt (sideOf (t′ .0)) (digitsIn t′) p) (corner-at t i)
+      (has-at t′ (corner t i) h)
 
   -- a triangle with both ends of the edge is the triangle itself, or the one across
-  pub ends-only : (t′ : TriangleCode) → IsCode n t′ → HasCorner t′ (corner t (next k)) → HasCorner t′ (corner t (prev k)) → (t′ ≡ t) ⊎ (t′ ≡ codeAcross k t)
+  pub ends-only : (t′ : TriangleCode) → IsCode n t′
+      → HasCorner t′ (corner t (next k)) → HasCorner t′ (corner t (prev k))
+      → (t′ ≡ t) ⊎ (t′ ≡ codeAcross k t)
   ends-only t′ c′ p q =
       ⊎-elim (λ x. inl (code-is c′ (x .0) (x .1) ∙ sym (code-for c))) (λ x. inr (code-is c′ (x .0) (x .1)))
-      (step-only k s ds l (code-side c) (in-digits c) (sideOf (t′ .0)) (digitsIn t′) (code-side c′) (in-digits c′) (in-length c′ ∙ sym (in-length c))
-      (at-end t′ (next k) p) (at-end t′ (prev k) q))
+      (step-only k s ds l (code-side c) (in-digits c) (sideOf (t′ .0)) (digitsIn t′) (code-side c′)
+      (in-digits c′) (in-length c′ ∙ sym (in-length c)) (at-end t′ (next k) p) (at-end t′ (prev k) q))
 
   only-code : (t′ : TriangleCode) (k′ : ℕ) → Across n t k t′ k′ → t′ ≡ codeAcross k t
-  only-code t′ e a = let h = ends-has t′ e a in ⊎-elim (λ x. absurd (a .other x)) (λ x. x) (ends-only t′ (a .code) (h .0) (h .1))
+  only-code t′ e a =
+      let h = ends-has t′ e a in
+      ⊎-elim (λ x. absurd (a .other x)) (λ x. x) (ends-only t′ (a .code) (h .0) (h .1))
 
   only-edge : (t′ : TriangleCode) (k′ : ℕ) → Across n t k t′ k′ → k′ ≡ edgeAcross k t
   only-edge t′ e a =
       edges-same e (edgeAcross k t) (corner t (next k)) (corner t (prev k)) across-code (a .edge) (across-is .edge)
-      (subst (λ (u : TriangleCode). SameTwo (corner t (next k)) (corner t (prev k)) (corner u (next e)) (corner u (prev e))) (only-code t′ e a) (a .ends)) (across-is .ends)
+      (subst
+      (λ (u : TriangleCode). SameTwo (corner t (next k)) (corner t (prev k)) (corner u (next e)) (corner u (prev e)))
+      (only-code t′ e a) (a .ends)) (across-is .ends)
 
-  pub across-only : (t′ : TriangleCode) (k′ : ℕ) → Across n t k t′ k′ → (t′ ≡ codeAcross k t) × (k′ ≡ edgeAcross k t)
+  pub across-only : (t′ : TriangleCode) (k′ : ℕ) → Across n t k t′ k′
+      → (t′ ≡ codeAcross k t) × (k′ ≡ edgeAcross k t)
   across-only t′ e a = (only-code t′ e a, only-edge t′ e a)
 
   pub across-reversed : {t′ : TriangleCode} {k′ : ℕ} → Across n t k t′ k′ → Reversed t′ k′
   across-reversed {t′} {k′} a =
       let o = across-only t′ k′ a in
-      subst (λ (u : TriangleCode). Reversed u k′) (sym (o .0)) (subst (Reversed (codeAcross k t)) (sym (o .1)) reversed)
+      subst (λ (u : TriangleCode). Reversed u k′) (sym (o .0))
+      (subst (Reversed (codeAcross k t)) (sym (o .1)) reversed)
 
   just : (i : ℕ) → OneToThree i → HasCorner (codeAcross k t) (corner t i) ↔ (i ≡ k → ⊥)
   just i m = (
-    λ h e. shares-just s ds (code-side c) (in-digits c) k l (over (ap (cornerOf s ds) e) (at-end (codeAcross k t) i h)),
+    λ h e. shares-just s ds (code-side c) (in-digits c) k l
+        (over (ap (cornerOf s ds) e) (at-end (codeAcross k t) i h)),
     λ f. at-has (codeAcross k t) (corner t i) (back (shares-ends s ds (code-side c) (in-digits c) k l i m f)),
   )
     where
-      over : {p q : List ℕ} → p ≡ q → HasAt (sideOf (codeAcross k t .0)) (digitsIn (codeAcross k t)) p → HasAt (r .side) (r .digits) q
+      over : {p q : List ℕ} → p ≡ q → HasAt (sideOf (codeAcross k t .0)) (digitsIn (codeAcross k t)) p
+          → HasAt (r .side) (r .digits) q
       over e h = (h .0, h .1, (λ i. cornerOf (sym across-side i) (sym across-digits i) (h .0)) ∙ h .2 ∙ e)
 
-      back : HasAt (r .side) (r .digits) (cornerOf s ds i) → HasAt (sideOf (codeAcross k t .0)) (digitsIn (codeAcross k t)) (corner t i)
+      back : HasAt (r .side) (r .digits) (cornerOf s ds i)
+          → HasAt (sideOf (codeAcross k t .0)) (digitsIn (codeAcross k t)) (corner t i)
       back h = (h .0, h .1, (λ j. cornerOf (across-side j) (across-digits j) (h .0)) ∙ h .2 ∙ sym (corner-at t i))
 
   -- a neighbour has just the two corners of its edge
-  pub across-just : {t′ : TriangleCode} {k′ : ℕ} → Across n t k t′ k′ → (i : ℕ) → OneToThree i → HasCorner t′ (corner t i) ↔ (i ≡ k → ⊥)
-  across-just {t′} {k′} a i m = subst (λ (u : TriangleCode). HasCorner u (corner t i) ↔ (i ≡ k → ⊥)) (sym (only-code t′ k′ a)) (just i m)
+  pub across-just : {t′ : TriangleCode} {k′ : ℕ} → Across n t k t′ k′
+      → (i : ℕ) → OneToThree i → HasCorner t′ (corner t i) ↔ (i ≡ k → ⊥)
+  across-just {t′} {k′} a i m =
+      subst (λ (u : TriangleCode). HasCorner u (corner t i) ↔ (i ≡ k → ⊥)) (sym (only-code t′ k′ a))
+      (just i m)
 
 -- the way back
-pub across-back : {n : ℕ} {t t′ : TriangleCode} {k k′ : ℕ} → IsCode n t → OneToThree k → Across n t k t′ k′ → Across n t′ k′ t k
+pub across-back : {n : ℕ} {t t′ : TriangleCode} {k k′ : ℕ} → IsCode n t → OneToThree k
+    → Across n t k t′ k′ → Across n t′ k′ t k
 across-back c l a =
     record {
       code = c;
@@ -160,6 +195,9 @@ across-back c l a =
     }
 
 -- neighbours across different edges are different
-pub across-differ : {n : ℕ} {t t′ t″ : TriangleCode} {k k′ m m′ : ℕ} → IsCode n t → OneToThree k → OneToThree m → (k ≡ m → ⊥) → Across n t k t′ k′ → Across n t m t″ m′ → t′ ≡ t″ → ⊥
+pub across-differ : {n : ℕ} {t t′ t″ : TriangleCode} {k k′ m m′ : ℕ} → IsCode n t → OneToThree k
+    → OneToThree m → (k ≡ m → ⊥)
+    → Across n t k t′ k′ → Across n t m t″ m′ → t′ ≡ t″ → ⊥
 across-differ {n} {t} {t′} {t″} {k} {k′} {m} c l h f a b e =
-    across-just c k l a k l .0 (subst (λ (u : TriangleCode). HasCorner u (corner t k)) (sym e) (across-just c m h b k l .1 f)) refl
+    across-just c k l a k l .0
+    (subst (λ (u : TriangleCode). HasCorner u (corner t k)) (sym e) (across-just c m h b k l .1 f)) refl

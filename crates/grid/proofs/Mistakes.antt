@@ -1,15 +1,16 @@
 -- The mistakes of document 01 (specs/Mistakes.antt) are refused: by the examples, beside which there is no other
 -- answer, and by what the promises say. Assumes nothing.
 use mathlib.Core.Path.{_≡_, _∙_, refl, sym, ap, subst}
+use mathlib.Core.Bool.{false}
 use mathlib.Core.List.{List, [], _∷_}
 use mathlib.Core.Logic.{_⊎_, inl, inr, ⊎-elim}
 use Prim.Native.Nat.{ℕ, zero, suc, _+_, _*_, _≤_, _<_}
 use native.Mathlib.Omega.{arith}
 use lib.Pow.{pow-pos}
-use lib.Dec.{lit≤}
+use lib.Dec.{eqb, lit≤}
 use lib.IntN.{pos, natAbs}
 use lib.ListN.{getD}
-use borrow.Author.Tests.{le-ltb}
+use borrow.Author.Tests.{eqb-false, le-ltb}
 use Rattle.golden.specs.Numbers.{golden, whole, _+φ_, negφ, _*φ_}
 use Rattle.golden.proofs.GoldenOrder.{is-nonneg, not-nonneg}
 use Rattle.words.specs.Words.{digits, path, wordOf, sideOf, degreeOf}
@@ -42,10 +43,8 @@ use Rattle.corners.specs.Refusals.{refuseNumbered, refuseWeights, refuseBack}
 use Rattle.corners.specs.Answers.{NamingAnswer, nameAnswer}
 use Rattle.corners.specs.declared.CountAnswer.{CountAnswer}
 use Rattle.corners.specs.declared.NameAnswer.{NameAnswer}
-use Rattle.corners.specs.declared.StepAnswer.{StepAnswer}
 use Rattle.corners.proofs.Refused.{numbered-passes}
 use Rattle.corners.proofs.Calls.{weights-nine}
-use Rattle.points.specs.declared.TicksAnswer.{TicksAnswer}
 use Rattle.directions.specs.Refusals.{refuseFile}
 use Rattle.directions.specs.Answers.{FileAnswer}
 use Rattle.directions.proofs.Refused.{refuse-by}
@@ -153,31 +152,22 @@ fixed-name n q l f =
 
 -- ---- all of them
 
+-- beside the only answer no other, told by one of its numbers
+no-other : {A : Type 0} {P : A → Type 0} {r s : A} (number : A → ℕ) → P gives r
+    → eqb (number s) (number r) ≡ false → P s → ⊥
+no-other number g differ a = eqb-false _ _ differ (ap number (g .only _ a))
+
 pub mistakes : Mistakes
 unfolding refusal refuseNumbered refuseBack checkCode decimals written path wordOf digits corner cornerOf triangleAt
     unitAt cornerVertex sum stepOf cross seamSide seamKept leastFrom first holds nonNeg sideDets determinants replaced
     determinant exact _+φ_ negφ _*φ_ descent leastChild refuseFile
 mistakes = record {
-  edge-kept = λ i j a.
-      let e : _≡_ {A = ℕ} 2 3 = ap (λ (r : StepAnswer). r .edge) (examples .e8 .only _ a) in
-      omega arith;
-  corners-kept = λ a.
-      let e : _≡_ {A = ℕ} 3 2 = ap (λ (r : StepAnswer). r .high) (examples .e8 .only _ a) in
-      omega arith;
-  corners-exchanged = λ a.
-      let e : _≡_ {A = ℕ} 2 1 = ap (λ (r : StepAnswer). r .low) (examples .e8 .only _ a) in
-      omega arith;
-  corners-sorted = λ a.
-      let e : _≡_ {A = ℕ} 2 3 = ap (λ (r : StepAnswer). r .low) (examples .e9 .only _ a) in
-      omega arith;
-  own-name = λ a.
-      let e : _≡_ {A = ℕ} (written 200 .0 + 2) 0x2000000000000003 =
-      ap (λ (r : NameAnswer). r .name .0) (examples .e11-corner .only _ a) in
-      omega arith;
-  zero-bit = λ a.
-      let e : _≡_ {A = ℕ} 0x2000000000000007 0x2000000000000003 =
-      ap (λ (r : NameAnswer). r .name .0) (examples .e11-corner .only _ a) in
-      omega arith;
+  edge-kept = λ i j. no-other (λ r. r .edge) (examples .e8) refl;
+  corners-kept = no-other (λ r. r .high) (examples .e8) refl;
+  corners-exchanged = no-other (λ r. r .low) (examples .e8) refl;
+  corners-sorted = no-other (λ r. r .low) (examples .e9) refl;
+  own-name = no-other (λ r. r .name .0) (examples .e11-corner) refl;
+  zero-bit = no-other (λ r. r .name .0) (examples .e11-corner) refl;
   close-above = is-nonneg (golden (pos 14472334024676221) (minus 8944394323791464)) tt;
   close-below = not-nonneg (golden (pos 23416728348467685) (minus 14472334024676221)) tt;
   close-filed = close-filed;
@@ -186,28 +176,16 @@ mistakes = record {
   close-wrong = λ a. close-outside (a .answered refl .is .holds);
   on-edge = (refl, refl);
   in-none = in-none;
-  truncated = λ a.
-      let e : _≡_ {A = ℕ} 106039 106040 =
-      ap (λ (r : TicksAnswer). natAbs (r .at .x)) (examples .e12-corner .only _ a) in
-      omega arith;
-  truncated-name = λ a.
-      let e : _≡_ {A = ℕ} 106039 106040 =
-      ap (λ (r : TicksAnswer). natAbs (r .at .x)) (examples .e12 .only _ a) in
-      omega arith;
+  truncated = no-other (λ r. natAbs (r .at .x)) (examples .e12-corner) refl;
+  truncated-name = no-other (λ r. natAbs (r .at .x)) (examples .e12) refl;
   refusing = λ k a. let e : suc k ≡ 0 = ap (λ (r : CodeAnswer). r .refusal) (examples .e3 .only _ a) in omega arith;
   fixed-code = fixed-code;
   fixed-name = fixed-name;
   itself = λ t k e i j z a. a .answered z .across .other refl;
   nothing = λ t k e i j z a. let f : _≡_ {A = ℕ} 2 0 = a .answered z .across .code .passes in omega arith;
-  then-zeros = λ a.
-      let e : written 10000 .0 ≡ written 10003 .0 =
-      ap (λ (r : CodeAnswer). r .code .0) (examples .e3 .only _ a) in
-      omega arith;
+  then-zeros = no-other (λ r. r .code .0) (examples .e3) refl;
   also-holds = test-holds (dets (written 500) up) refl;
-  not-least = λ a.
-      let e : written 500 .0 ≡ written 100 .0 =
-      ap (λ (r : CodeAnswer). r .code .0) (files 0 up (written 100) refl refl .only _ a) in
-      omega arith;
+  not-least = no-other (λ r. r .code .0) (files 0 up (written 100) refl refl) refl;
   holder-count = λ k out new l n a. n (ap (λ (r : CountAnswer). r .count) (examples .whole out l .only _ new a .0));
   ring-count = λ k out new l n a. n (ap (λ (r : CountAnswer). r .count) (rings .five out l .only _ new a .0));
   written-on = λ r out new l n a.

@@ -1,7 +1,7 @@
 // The calls of document 01 exported to C, for `./bench` to count. Each is thin: it hands the numbers on, and answers
 // one number that depends on all numbers of the answer, so that the compiler can leave nothing out. Where a code or a
 // name is answered, this is the code (with the edge's number in its lowest bits) or the name, or the refusal's number.
-// Crossing drops how the corners turned, as document 02 has it for an exported call.
+// One call is counted without all of its answer: crossing drops how the corners turned, as the call for a C host will.
 // A contract says that the number is made of the call's own answer; those that mix signed numbers or floats have none.
 use grid::Coordinates;
 use grid::CornerName;

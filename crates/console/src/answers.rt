@@ -90,10 +90,10 @@ pub fn step(r: StepAnswer, out: &mut [u8]) -> usize
     let edge = put_code(r.code.0, out, 0);
     let number = lines::put_bytes(b" edge ", out, edge);
     let corners = lines::put_decimal(r.edge, out, number);
-    let low = lines::put_bytes(b" corners ", out, corners);
-    let space = lines::put_decimal(r.low, out, low);
-    let high = lines::put_byte(b' ', out, space);
-    lines::put_decimal(r.high, out, high)
+    let first = lines::put_bytes(b" corners ", out, corners);
+    let space = lines::put_decimal(r.first, out, first);
+    let second = lines::put_byte(b' ', out, space);
+    lines::put_decimal(r.second, out, second)
 }
 
 pub fn name(r: NameAnswer, out: &mut [u8]) -> usize

@@ -3,7 +3,7 @@ use crate::arguments;
 ghost use Prim.Native.Nat.{_≤_};
 ghost use lib.ListN.{length};
 
-const HELP: [u8; 3472] = *b"The grid of the globe: one call to a line, and one line for its answer.
+const HELP: [u8; 3465] = *b"The grid of the globe: one call to a line, and one line for its answer.
 
   WORD     0x and 1 to 16 hexadecimal digits
   CODE     a triangle code, as 10003 for side 100 and digits 0 and 3; or a WORD
@@ -27,8 +27,8 @@ parent CODE                         the triangle of which it is a child
 child CODE DIGIT                    its child with this digit, 0 to 3
   child 1000 3                      10003 0x208C000000000000
 
-cross CODE EDGE                     the triangle across an edge, and the numbers there of the edge and of
-                                    its two corners: first of the one whose number is lower here
+cross CODE EDGE                     the triangle across an edge, and there the numbers of the edge
+                                    and of its two corners, the lower one of this triangle first
   cross 1001 2                      2001 0x4050000000000000 edge 3 corners 1 2
 
 name CODE CORNER                    the name of a corner, 1 to 3

@@ -27,7 +27,7 @@ use Rattle.net.specs.Refusals.{canonical, canonicalRows, checkName, listRows, n
 use Rattle.net.specs.Refusals.{oneToThreeRows, weightRows}
 use Rattle.corners.specs.Refusals.{refuseBack, refuseNameWeights, refuseNumbered, refuseRing, refuseWeights}
 use Rattle.net.specs.Sides.{IsSide, OneToThree, nth, prev}
-use Rattle.net.specs.Sides.{next as after}
+use Rattle.net.specs.Sides as sides
 use Rattle.net.specs.Steps.{Across}
 use Rattle.net.specs.declared.Corner.{Corner}
 use Rattle.net.specs.declared.Point.{Point}
@@ -38,8 +38,8 @@ use Rattle.net.proofs.LeastName.{least-is-name, place-in, placeIn}
 use Rattle.net.proofs.Loads.{sum-spread}
 use Rattle.net.proofs.Names.{one-name}
 use Rattle.net.proofs.Rings.{next-next}
-use Rattle.corners.proofs.Refused.{back-passes, numbered-passes}
-use Rattle.corners.proofs.Turning.{highThere, lowThere, turned-is}
+use Rattle.corners.proofs.Refused.{back-passes, numbered, numbered-passes}
+use Rattle.corners.proofs.TurnedCorners.{turned-is}
 use Rattle.net.proofs.StateCode.{on-one, spread-of}
 use Rattle.net.proofs.WordSteps.{at-made, at-place, low-degree, made, made-place, numbered-place, third}
 
@@ -78,26 +78,18 @@ module _ (t : TriangleCode) (i : ℕ) where
 
 -- ---- crossing
 
--- x and y follow the edge there and go before it
+-- x follows the edge there, and y goes before it
 pub cross-answers : (t : TriangleCode) (k : ℕ) (r : Edge) {x y i j : ℕ} → refuseNumbered t k ≡ 0
     → r ≡ edgeThere (stepFrom (record { code = t; number = k }))
-    → x ≡ after (r .number) → y ≡ bitXor (r .number) x → i ≡ nth k y x y → j ≡ nth k x y x
+    → x ≡ sides.next (r .number) → y ≡ bitXor (r .number) x → i ≡ nth k y x y → j ≡ nth k x y x
     → CrossAnswer t k (stepAnswer 0 (r .code) (r .number) i j)
 cross-answers t k r {x} {y} {i} {j} z e ex ey ei ej =
-    let p = numbered-passes t k .0 z in
-    let c = is-code t (p .0) in
-    let a : Across (degreeOf (t .0)) t k (r .code) (r .number) =
-    subst (λ (x : Edge). Across (degreeOf (t .0)) t k (x .code) (x .number)) (sym e) (across-is c k (p .1)) in
+    let c = numbered t k z in
+    let a : Across (degreeOf (t .0)) t k (r .code) (r .number) = rw e (across-is (c .0) k (c .1)) in
     let f : y ≡ prev (r .number) =
     ey ∙ ap (bitXor (r .number)) ex ∙ third (r .number) (a .edge) ∙ next-next (r .number) (a .edge) in
-    let low : i ≡ lowThere k (r .number) = ei ∙ (λ s. nth k (f s) (ex s) (f s)) in
-    let high : j ≡ highThere k (r .number) = ej ∙ (λ s. nth k (ex s) (f s) (ex s)) in
-    answering z (record {
-      number = refl;
-      across = a;
-      turned = subst (λ (i : ℕ). Turned t k (r .code) i j) (sym low)
-          (subst (Turned t k (r .code) (lowThere k (r .number))) (sym high) (turned-is c (p .1) a));
-    })
+    let there : Turned t k (r .code) i j = rw ei (rw ej (rw f (rw ex (turned-is (c .0) (c .1) a)))) in
+    answering z (record { number = refl; across = a; turned = there })
 
 -- ---- names
 

@@ -6,8 +6,7 @@ use mathlib.Core.List.{List}
 use Prim.Native.Nat.{ℕ}
 use lib.ListN.{length, take}
 use lib.Seq.{length-take-le}
-use Rattle.words.proofs.Codes.{code-degree, is-code, name-code}
-use Rattle.words.specs.Refusals.{IsCode}
+use Rattle.words.proofs.Codes.{code-degree, name-code}
 use Rattle.words.specs.Words.{cornerNumber, degreeOf}
 use Rattle.words.specs.declared.CornerName.{CornerName}
 use Rattle.words.specs.declared.TriangleCode.{TriangleCode}
@@ -19,9 +18,7 @@ use Rattle.corners.specs.Answers.{noStep, stepAnswer}
 use Rattle.net.specs.Division.{Weights}
 use Rattle.net.specs.Means.Walks.{leastName, ringWords}
 use Rattle.net.specs.Names.{IsName}
-use Rattle.corners.specs.Refusals.{refuseNumbered}
 use Rattle.corners.specs.Turns.{Turned}
-use Rattle.net.specs.Sides.{OneToThree}
 use Rattle.net.specs.Steps.{IsRing, nonZeros, ringSize}
 use Rattle.corners.specs.declared.CountAnswer.{CountAnswer}
 use Rattle.corners.specs.declared.NameAnswer.{NameAnswer}
@@ -31,8 +28,8 @@ use Rattle.net.proofs.Crossing.{across-is, across-only, codeAcross, edgeAcross}
 use Rattle.net.proofs.Demand3.{one-name-each}
 use Rattle.net.proofs.LeastName.{least-is-name, place-in, placeIn}
 use Rattle.net.proofs.Names.{one-name}
-use Rattle.corners.proofs.Refused.{back-passes, numbered-passes, ring-passes}
-use Rattle.corners.proofs.Turning.{turned-is, turned-one}
+use Rattle.corners.proofs.Refused.{back-passes, numbered, ring-passes}
+use Rattle.corners.proofs.TurnedCorners.{turned-is, turned-one}
 use Rattle.net.proofs.RingCodes.{ring-is, ring-one}
 use Rattle.net.proofs.Table.{either-way, same}
 use Rattle.net.proofs.WayBack.{weights-mean}
@@ -68,9 +65,6 @@ module _ {A : Type 0} (f : ℕ) (Good : A → List ℕ → Type 0) (zeros : ℕ 
       (λ n. (zeros f, out, record { answered = λ z. absurd (n z); refused = λ m. (refl, refl) }))
       (either-way (same f 0))
 
-numbered : (t : TriangleCode) (k : ℕ) → refuseNumbered t k ≡ 0 → IsCode (degreeOf (t .0)) t × OneToThree k
-numbered t k z = let p = numbered-passes t k .0 z in (is-code t (p .0), p .1)
-
 pub cross-one : (t : TriangleCode) (k : ℕ) (r r′ : StepAnswer) → CrossAnswer t k r → CrossAnswer t k r′
     → r ≡ r′
 cross-one t k r r′ =
@@ -79,15 +73,14 @@ cross-one t k r r′ =
     let a = across-only (c .0) k (c .1) (r .code) (r .edge) (x .across) in
     let b = across-only (c .0) k (c .1) (r′ .code) (r′ .edge) (y .across) in
     let e : r .code ≡ r′ .code = a .0 ∙ sym (b .0) in
-    let there : Turned t k (r′ .code) (r .low) (r .high) =
-    subst (λ (u : TriangleCode). Turned t k u (r .low) (r .high)) e (x .turned) in
+    let there : Turned t k (r′ .code) (r .first) (r .second) = rw (sym e) (x .turned) in
     let d = turned-one (y .across .code) there (y .turned) in
     λ i. record {
       refusal = (x .number ∙ sym (y .number)) i;
       code = e i;
       edge = (a .1 ∙ sym (b .1)) i;
-      low = d .0 i;
-      high = d .1 i;
+      first = d .0 i;
+      second = d .1 i;
     })
 
 pub cross-some : (t : TriangleCode) (k : ℕ) → (r : StepAnswer) × CrossAnswer t k r

@@ -8,8 +8,10 @@ use native.Mathlib.Nat.{pos-of-ne-zero}
 use native.Mathlib.Omega.{arith}
 use lib.ListN.{length, take}
 use borrow.Author.Tests.{ltb-false, eqb-false, eqb-true, le-ltb, ne-eqb, eq-eqb, not-false}
+use Rattle.words.proofs.Codes.{is-code}
 use Rattle.words.proofs.Refusing.{NoneSo, either-false, none-after, none-so}
-use Rattle.words.specs.Refusals.{checkCode, codeRows, degreeRows}
+use Rattle.words.specs.Refusals.{IsCode, checkCode, codeRows, degreeRows}
+use Rattle.words.specs.Words.{degreeOf}
 use Rattle.words.specs.declared.CornerName.{CornerName}
 use Rattle.words.specs.declared.TriangleCode.{TriangleCode}
 use Rattle.net.specs.Division.{sum}
@@ -29,6 +31,9 @@ numbered-passes t k = (
   λ e. let n = none-after (codeRows t) _ tt tt .0 e in (n .0, one-to-three k .0 (n .1)),
   λ p. none-after (codeRows t) _ tt tt .1 (p .0, one-to-three k .1 (p .1)),
 )
+
+pub numbered : (t : TriangleCode) (k : ℕ) → refuseNumbered t k ≡ 0 → IsCode (degreeOf (t .0)) t × OneToThree k
+numbered t k z = let p = numbered-passes t k .0 z in (is-code t (p .0), p .1)
 
 long-enough : (n : ℕ) (list : List ℕ) → NoneSo (listRows n list) ↔ (n ≤ length list)
 long-enough n list = (λ e. ltb-false (length list) n (e .0), λ h. (le-ltb (length list) n h, tt))

@@ -19,6 +19,6 @@ abbrev pub Becomes : (t : TriangleCode) (i : ℕ) (t′ : TriangleCode) (j : ℕ
 Becomes t i t′ j = OneToThree j × (corner t i ≡ corner t′ j)
 
 -- "for the shared edge's two corners in rising number, their numbers in the neighbour"
-pub record Turned (t : TriangleCode) (k : ℕ) (t′ : TriangleCode) (low high : ℕ) : Type 0 where
-  pub lowerIs : Becomes t (lower k) t′ low
-  pub higherIs : Becomes t (higher k) t′ high
+pub record Turned (t : TriangleCode) (k : ℕ) (t′ : TriangleCode) (first second : ℕ) : Type 0 where
+  pub lowerIs : Becomes t (lower k) t′ first
+  pub higherIs : Becomes t (higher k) t′ second

@@ -10,14 +10,14 @@ ghost use Rattle.corners.specs.Refusals.{refuseNumbered};
 ghost use Rattle.corners.specs.Answers.{CrossAnswer, WeightsAnswer, NameWeightsAnswer, NamingAnswer};
 ghost use Rattle.corners.specs.Answers.{BackAnswer, RingAnswer};
 
-// A neighbour's code, the number of the shared edge there, and the numbers there of the edge's two corners: of the one
-// whose number is lower here, and of the one whose number is higher. Or a refusal's number with zeros.
+// A neighbour's code, the number of the shared edge there, and the numbers there of the edge's two corners: first of the
+// one whose number is lower here, then of the one whose number is higher. Or a refusal's number with zeros.
 pub struct StepAnswer {
     pub refusal: u64,
     pub code: TriangleCode,
     pub edge: u64,
-    pub low: u64,
-    pub high: u64,
+    pub first: u64,
+    pub second: u64,
 }
 
 // A corner name, or a refusal's number with the name 0.
@@ -71,8 +71,9 @@ pub fn check_name(r: CornerName) -> u64
 
 // ---- crossing
 
-// Crossing an edge: the neighbour's code, the number of the shared edge there, and how its corners turned. What follows
-// the edge here goes before it there, and the other way round. (i xor j is k for {i, j, k} = {1, 2, 3}.)
+// Crossing an edge: the neighbour's code, the number of the shared edge there, and how its corners turned. The corner
+// that follows the edge here goes before it there, and the other way round; the lower corner follows edges 1 and 3, and
+// goes before edge 2. (i xor j is k for {i, j, k} = {1, 2, 3}.)
 pub fn cross(t: TriangleCode, edge: u64) -> StepAnswer
     ensures { λ r. ⌜ CrossAnswer t edge r ⌝ }
 {
@@ -82,8 +83,8 @@ pub fn cross(t: TriangleCode, edge: u64) -> StepAnswer
             refusal: f,
             code: TriangleCode(0),
             edge: 0,
-            low: 0,
-            high: 0,
+            first: 0,
+            second: 0,
         };
     }
     let here = Edge {
@@ -98,8 +99,8 @@ pub fn cross(t: TriangleCode, edge: u64) -> StepAnswer
         refusal: 0,
         code,
         edge: there.number,
-        low: seams::of_three(edge, previous, next, previous),
-        high: seams::of_three(edge, next, previous, next),
+        first: seams::of_three(edge, previous, next, previous),
+        second: seams::of_three(edge, next, previous, next),
     }
 }
 

@@ -12,7 +12,7 @@ use Rattle.words.specs.Family.{codeAnswer, refuseParent, refuseChild, parentOf,
 use Rattle.words.specs.Family.{noCode}
 use Rattle.words.specs.declared.TriangleCode.{TriangleCode}
 use Rattle.words.specs.declared.CodeAnswer.{CodeAnswer}
-use Rattle.words.proofs.Codes.{code-degree, is-code}
+use Rattle.words.proofs.Codes.{code-degree}
 use Rattle.words.proofs.ParentChild.{child-has, child-then-parent, parent-then-child}
 use Rattle.net.specs.Sides.{OneToThree, next, prev}
 use Rattle.net.specs.Division.{Weights, sum, triangleAt, cornerOf, divide}
@@ -30,11 +30,11 @@ use Rattle.filing.proofs.OnePoint.{same-point}
 use Rattle.filing.proofs.Weighted.{corner-twelve}
 use Rattle.corners.specs.Refusals.{refuseNumbered}
 use Rattle.corners.specs.Turns.{Turned}
-use Rattle.corners.specs.Answers.{Answer, Lent, Put, stepAnswer, nameAnswer, Named, CrossAnswer, NamingAnswer}
+use Rattle.corners.specs.Answers.{Answer, Lent, Put, nameAnswer, Named, CrossAnswer, NamingAnswer}
 use Rattle.corners.specs.Answers.{BackAnswer}
 use Rattle.corners.specs.declared.StepAnswer.{StepAnswer}
 use Rattle.corners.specs.declared.NameAnswer.{NameAnswer}
-use Rattle.corners.proofs.Refused.{numbered-passes, weights-passes, name-weights-passes, back-passes}
+use Rattle.corners.proofs.Refused.{numbered, numbered-passes, weights-passes, name-weights-passes, back-passes}
 use Rattle.corners.proofs.Calls.{answering}
 use Rattle.corners.proofs.OneAnswer as corners
 use Rattle.points.proofs.OnePlace as points
@@ -177,9 +177,6 @@ put : {f : ℕ} (p : Weights) {out new : List ℕ} → Lent f (Put p out) (λ k.
     → (f ≡ 0) × (new ≡ over p out)
 put {f} p a = ⊎-elim (λ e. (e, a .answered e .1)) (λ n. absurd (n (sym (a .refused n .0)))) (either-way (same f 0))
 
-numbered : (t : TriangleCode) (i : ℕ) → refuseNumbered t i ≡ 0 → IsCode (degreeOf (t .0)) t × OneToThree i
-numbered t i z = let p = numbered-passes t i .0 z in (is-code t (p .0), p .1)
-
 -- the name of a corner, where naming answers
 naming-is : (t : TriangleCode) (i : ℕ) (s : NameAnswer) → NamingAnswer t i s → s .refusal ≡ 0
     → (refuseNumbered t i ≡ 0) × IsName (degreeOf (t .0)) (corner t i) (s .name)
@@ -268,7 +265,7 @@ module _ (t : TriangleCode) (k : ℕ) (r : StepAnswer) (a : CrossAnswer t k r) (
   pub crossed-is : IsCode (degreeOf (t .0)) t × OneToThree k × Across (degreeOf (t .0)) t k (r .code) (r .edge)
   crossed-is = let c = numbered t k none in (c .0, c .1, a .answered none .across)
 
-  pub crossed-turned : Turned t k (r .code) (r .low) (r .high)
+  pub crossed-turned : Turned t k (r .code) (r .first) (r .second)
   crossed-turned = a .answered none .turned
 
 -- of the numbers 1 to 3 the two that are not k
@@ -308,9 +305,9 @@ demand-3 = record {
       let y = x .2 in
       let w = b .answered (numbered-passes (r .code) (r .edge) .1 (y .code .passes, y .edge)) in
       let v : Across (degreeOf (t .0)) (r .code) (r .edge) (s .code) (s .edge) =
-      subst (λ (m : ℕ). Across m (r .code) (r .edge) (s .code) (s .edge)) (y .code .degreeIs) (w .across) in
+      rw (y .code .degreeIs) at (w .across) in
       let q = back-again _ t k (x .0) (x .1) (r .code) (r .edge) y (s .code) (s .edge) v in
-      λ i. stepAnswer (w .number i) (q .0 i) (q .1 i) (s .low) (s .high);
+      (w .number, q .0, q .1);
   names = λ t u i j r s a b y z d.
       let p = naming-is t i r a y .1 in
       let q = naming-is u j s b z .1 in

@@ -67,9 +67,9 @@ examples = record {
   e5 = files 3 _ _ refl refl;
   e6 = files 2 _ _ refl refl;
   e7 = files 2 _ _ refl refl;
-  e8 = crosses (written 1001) 2 _ _ _ _ refl refl refl refl refl;
-  e9 = crosses (written 1002) 1 _ _ _ _ refl refl refl refl refl;
-  e10 = crosses (written 1011) 2 _ _ _ _ refl refl refl refl refl;
+  e8 = crosses (written 1001) 2 _ _ refl refl refl;
+  e9 = crosses (written 1002) 1 _ _ refl refl refl;
+  e10 = crosses (written 1011) 2 _ _ refl refl refl;
   e11 = backs 0 (unitAt (vertex 2 0)) _ (written 200) 2 refl refl refl refl refl;
   e11-corner = names (written 200) 2 _ refl refl;
   e12-name = backs 0 (unitAt (vertex 4 1)) _ (written 401) 1 refl refl refl refl refl;
@@ -83,9 +83,9 @@ examples = record {
 pub crossings : Crossings
 unfolding refusal refuseNumbered decimals written path wordOf digits stepOf cross seamSide seamKept
 crossings = record {
-  inside = crosses (written 1000) 1 _ _ _ _ refl refl refl refl refl;
-  seam = crosses (written 100) 3 _ _ _ _ refl refl refl refl refl;
-  seam-back = crosses (written 500) 2 _ _ _ _ refl refl refl refl refl;
+  inside = crosses (written 1000) 1 _ _ refl refl refl;
+  seam = crosses (written 100) 3 _ _ refl refl refl;
+  seam-back = crosses (written 500) 2 _ _ refl refl refl;
   no-edge = crosses-refused (written 1001) 4 4 refl;
 }
 

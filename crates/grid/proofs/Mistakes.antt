@@ -163,15 +163,15 @@ unfolding refusal refuseNumbered refuseBack checkCode decimals written path word
     determinant exact _+φ_ negφ _*φ_ descent leastChild refuseFile
 mistakes = record {
   edge-kept = λ i j. no-other (λ r. r .edge) (examples .e8) refl;
-  corners-kept = no-other (λ r. r .high) (examples .e8) refl;
-  corners-exchanged = no-other (λ r. r .low) (examples .e8) refl;
-  corners-sorted = no-other (λ r. r .low) (examples .e9) refl;
+  corners-kept = no-other (λ r. r .second) (examples .e8) refl;
+  corners-exchanged = no-other (λ r. r .first) (examples .e8) refl;
+  corners-sorted = no-other (λ r. r .first) (examples .e9) refl;
   own-name = no-other (λ r. r .name .0) (examples .e11-corner) refl;
   zero-bit = no-other (λ r. r .name .0) (examples .e11-corner) refl;
   close-above = is-nonneg (golden (pos 14472334024676221) (minus 8944394323791464)) tt;
   close-below = not-nonneg (golden (pos 23416728348467685) (minus 14472334024676221)) tt;
   close-filed = close-filed;
-  close-across = crosses holder 1 across-edge 1 3 2 refl refl refl refl refl;
+  close-across = crosses holder 1 across-edge 1 refl refl refl;
   close-outside = close-outside;
   close-wrong = λ a. close-outside (a .answered refl .is .holds);
   on-edge = (refl, refl);

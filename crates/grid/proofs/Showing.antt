@@ -9,7 +9,7 @@ use Rattle.words.specs.Refusals.{IsCode, checkNameFields}
 use Rattle.words.specs.Family.{codeOf, codeAnswer}
 use Rattle.words.specs.declared.TriangleCode.{TriangleCode}
 use Rattle.words.specs.declared.CornerName.{CornerName}
-use Rattle.words.proofs.Codes.{code-degree, is-code, name-code, name-passes}
+use Rattle.words.proofs.Codes.{code-degree, name-code, name-passes}
 use Rattle.net.specs.Sides.{OneToThree}
 use Rattle.net.specs.Division.{Weights}
 use Rattle.net.specs.Corners.{corner, named, nameOf, codeInside}
@@ -24,10 +24,9 @@ use Rattle.net.proofs.RingCodes.{ring-is}
 use Rattle.corners.specs.Refusals.{refuseNumbered, refuseWeights, refuseBack, refuseRing}
 use Rattle.corners.specs.Answers.{CrossAnswer, WeightsAnswer, NameWeightsAnswer, NamingAnswer, BackAnswer, RingAnswer}
 use Rattle.corners.specs.Answers.{stepAnswer, nameAnswer, countAnswer, noStep}
-use Rattle.corners.specs.Turns.{Turned}
-use Rattle.corners.proofs.Refused.{numbered-passes, weights-passes, name-weights-passes, ring-passes}
+use Rattle.corners.proofs.Refused.{numbered, weights-passes, name-weights-passes, ring-passes}
 use Rattle.corners.proofs.Calls.{answering, refusing, answering-lent, refusing-lent}
-use Rattle.corners.proofs.Turning.{highThere, lowThere, turned-is}
+use Rattle.corners.proofs.TurnedCorners.{secondThere, firstThere, turned-is}
 use Rattle.corners.proofs.OneAnswer.{cross-one, naming-one, back-one, weights-one, name-weights-one, ring-answer-one}
 use Rattle.filing.specs.Coordinates.{exact}
 use Rattle.filing.specs.Drawing.{AreTicks, IsPoint}
@@ -82,23 +81,15 @@ lists-refused n d out k e =
 
 -- ---- crossing, naming, the way back
 
-numbered : (t : TriangleCode) (i : ℕ) → refuseNumbered t i ≡ 0 → IsCode (degreeOf (t .0)) t × OneToThree i
-numbered t i z = let p = numbered-passes t i .0 z in (is-code t (p .0), p .1)
-
 -- by the step over the edge
-pub crosses : (t : TriangleCode) (k : ℕ) (u : TriangleCode) (e i j : ℕ) → refuseNumbered t k ≡ 0
-    → codeAcross k t ≡ u → edgeAcross k t ≡ e → lowThere k e ≡ i → highThere k e ≡ j
-    → CrossAnswer t k gives stepAnswer 0 u e i j
-crosses t k u e i j z f g low high =
+pub crosses : (t : TriangleCode) (k : ℕ) (u : TriangleCode) (e : ℕ) → refuseNumbered t k ≡ 0
+    → codeAcross k t ≡ u → edgeAcross k t ≡ e
+    → CrossAnswer t k gives stepAnswer 0 u e (firstThere k e) (secondThere k e)
+crosses t k u e z f g =
     let c = numbered t k z in
-    let n = degreeOf (t .0) in
-    let x : Across n t k u e =
-    subst (Across n t k u) g
-    (subst (λ (u : TriangleCode). Across n t k u (edgeAcross k t)) f (across-is (c .0) k (c .1))) in
-    let y : Turned t k u i j =
-    subst (λ (i : ℕ). Turned t k u i j) low (subst (Turned t k u (lowThere k e)) high (turned-is (c .0) (c .1) x)) in
-    let is : CrossAnswer t k (stepAnswer 0 u e i j) =
-    answering z (record { number = refl; across = x; turned = y }) in
+    let x : Across (degreeOf (t .0)) t k u e = rw (sym f) (rw (sym g) (across-is (c .0) k (c .1))) in
+    let is : CrossAnswer t k (stepAnswer 0 u e (firstThere k e) (secondThere k e)) =
+    answering z (record { number = refl; across = x; turned = turned-is (c .0) (c .1) x }) in
     record { meets = is; only = λ s a. cross-one t k s _ a is }
 
 pub crosses-refused : (t : TriangleCode) (k f : ℕ) → suc f ≡ refuseNumbered t k

@@ -14,7 +14,7 @@ use Rattle.net.proofs.Table.{_and_, _or_, _then_, less, no, same, sound, three,
 use Rattle.corners.specs.Turns.{Becomes, Turned, higher, lower}
 use Rattle.corners.specs.Answers.{CrossAnswer}
 use Rattle.corners.specs.declared.StepAnswer.{StepAnswer}
-use Rattle.corners.proofs.Turning.{highThere, lowThere, turned-is, turned-one}
+use Rattle.corners.proofs.TurnedCorners.{secondThere, firstThere, turned-is, turned-one}
 use Rattle.grid.specs.Turns.{Pairs, Turns}
 use Rattle.grid.proofs.Demands.{crossed-is, crossed-turned, demand-3}
 
@@ -31,18 +31,15 @@ two-ends =
 
 ends-three : (k : ℕ) → OneToThree k → OneToThree (lower k) × OneToThree (higher k)
 ends-three =
-    three (λ k. OneToThree (lower k) × OneToThree (higher k))
-    ((omega arith, omega arith), (omega arith, omega arith))
-    ((omega arith, omega arith), (omega arith, omega arith))
-    ((omega arith, omega arith), (omega arith, omega arith))
+    three (λ k. OneToThree (lower k) × OneToThree (higher k)) (omega arith) (omega arith) (omega arith)
 
 third-there : (k : ℕ) → OneToThree k → (e : ℕ) → OneToThree e → (m : ℕ) → OneToThree m
-    → ((m ≡ lowThere k e → ⊥) × (m ≡ highThere k e → ⊥)) ↔ (m ≡ e)
+    → ((m ≡ firstThere k e → ⊥) × (m ≡ secondThere k e → ⊥)) ↔ (m ≡ e)
 third-there =
     sound
     (threes λ k. threes λ e. threes λ m.
-    ((no (same m (lowThere k e)) and no (same m (highThere k e))) then same m e)
-    and (same m e then (no (same m (lowThere k e)) and no (same m (highThere k e))))) refl
+    ((no (same m (firstThere k e)) and no (same m (secondThere k e))) then same m e)
+    and (same m e then (no (same m (firstThere k e)) and no (same m (secondThere k e))))) refl
 
 -- ---- what an answer pairs
 
@@ -50,7 +47,7 @@ module _ (t : TriangleCode) (k : ℕ) (r : StepAnswer) (a : CrossAnswer t k r) (
   is : IsCode (degreeOf (t .0)) t × OneToThree k × Across (degreeOf (t .0)) t k (r .code) (r .edge)
   is = crossed-is t k r a z
 
-  turned : Turned t k (r .code) (r .low) (r .high)
+  turned : Turned t k (r .code) (r .first) (r .second)
   turned = crossed-turned t k r a z
 
   -- a number that has become another, and no other
@@ -77,12 +74,10 @@ module _ (t : TriangleCode) (k : ℕ) (r : StepAnswer) (a : CrossAnswer t k r) (
             (across-just (is .0) k (is .1) (is .2) i (x .0) .0 (j, x .1, sym (x .2)))),
       )
 
-  third : (m : ℕ) → OneToThree m → ((m ≡ r .low → ⊥) × (m ≡ r .high → ⊥)) ↔ (m ≡ r .edge)
+  third : (m : ℕ) → OneToThree m → ((m ≡ r .first → ⊥) × (m ≡ r .second → ⊥)) ↔ (m ≡ r .edge)
   third m l =
       let e = turned-one (is .2 .code) (turned-is (is .0) (is .1) (is .2)) turned in
-      subst (λ (i : ℕ). ((m ≡ i → ⊥) × (m ≡ r .high → ⊥)) ↔ (m ≡ r .edge)) (e .0)
-      (subst (λ (j : ℕ). ((m ≡ lowThere k (r .edge) → ⊥) × (m ≡ j → ⊥)) ↔ (m ≡ r .edge)) (e .1)
-      (third-there k (is .1) (r .edge) (is .2 .edge) m l))
+      rw (sym (e .0)) (rw (sym (e .1)) (third-there k (is .1) (r .edge) (is .2 .edge) m l))
 
 -- the same two points, from either side
 pub turns : Turns
@@ -93,12 +88,10 @@ turns = record {
   back = λ t k r s a z b i j.
       let e = demand-3 .back t k r s a z b in
       let here = pairs t k r a z i j in
-      let there = pairs (r .code) (r .edge) s b (ap (λ (s : StepAnswer). s .refusal) e) j i in
-      let code : s .code ≡ t = ap (λ (s : StepAnswer). s .code) e in (
-        λ p. let x = here .0 p in
-            there .1 (x .1, x .0, sym (x .2) ∙ ap (λ (u : TriangleCode). corner u i) (sym code)),
-        λ p. let x = there .0 p in
-            here .1 (x .1, x .0, ap (λ (u : TriangleCode). corner u i) (sym code) ∙ sym (x .2)),
+      let there = pairs (r .code) (r .edge) s b (e .0) j i in
+      let same : corner (s .code) i ≡ corner t i = ap (λ (u : TriangleCode). corner u i) (e .1) in (
+        λ p. let x = here .0 p in there .1 (x .1, x .0, sym (x .2) ∙ sym same),
+        λ p. let x = there .0 p in here .1 (x .1, x .0, sym same ∙ sym (x .2)),
       );
   third = third;
 }

@@ -21,7 +21,7 @@ use Rattle.filing.specs.Coordinates.{exact}
 use Rattle.filing.specs.Holding.{Holds}
 use Rattle.filing.specs.declared.Direction.{Direction}
 use Rattle.corners.specs.Refusals.{refuseNumbered, refuseWeights, refuseNameWeights, refuseBack, refuseRing}
-use Rattle.corners.specs.Answers.{stepAnswer, nameAnswer, noStep, noName, noCount, CrossAnswer, WeightsAnswer}
+use Rattle.corners.specs.Answers.{nameAnswer, noStep, noName, noCount, CrossAnswer, WeightsAnswer}
 use Rattle.corners.specs.Answers.{NameWeightsAnswer, NamingAnswer, BackAnswer, RingAnswer}
 use Rattle.corners.specs.declared.StepAnswer.{StepAnswer}
 use Rattle.corners.specs.declared.NameAnswer.{NameAnswer}
@@ -155,7 +155,7 @@ pub record Demand3 : Type 0 where
       → (HasCorner t p × HasCorner (r .code) p) ↔ ((corner t (next k) ≡ p) ⊎ (corner t (prev k) ≡ p))
   -- "stepping back through the edge reported returns the first triangle and edge" (how its corners turn: Turns.antt)
   pub back : (t : TriangleCode) (k : ℕ) (r s : StepAnswer) → CrossAnswer t k r → r .refusal ≡ 0
-      → CrossAnswer (r .code) (r .edge) s → s ≡ stepAnswer 0 t k (s .low) (s .high)
+      → CrossAnswer (r .code) (r .edge) s → (s .refusal ≡ 0) × (s .code ≡ t) × (s .edge ≡ k)
   -- "two corners of one degree have equal names exactly when their twelve weights are equal"
   pub names : (t u : TriangleCode) (i j : ℕ) (r s : NameAnswer) → NamingAnswer t i r → NamingAnswer u j s
       → r .refusal ≡ 0 → s .refusal ≡ 0

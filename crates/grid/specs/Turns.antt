@@ -14,7 +14,7 @@ use Rattle.corners.specs.declared.StepAnswer.{StepAnswer}
 
 -- An answer r to crossing edge k pairs corner i with corner j of the neighbour.
 abbrev pub Pairs : (k : ℕ) → StepAnswer → (i j : ℕ) → Type 0
-Pairs k r i j = ((i ≡ lower k) × (j ≡ r .low)) ⊎ ((i ≡ higher k) × (j ≡ r .high))
+Pairs k r i j = ((i ≡ lower k) × (j ≡ r .first)) ⊎ ((i ≡ higher k) × (j ≡ r .second))
 
 pub record Turns : Type 0 where
   -- "the shared edge's two corners in rising number": the two that do not lie opposite
@@ -32,4 +32,4 @@ pub record Turns : Type 0 where
       → CrossAnswer (r .code) (r .edge) s → (i j : ℕ) → Pairs k r i j ↔ Pairs (r .edge) s j i
   -- and the third number is the edge reported
   pub third : (t : TriangleCode) (k : ℕ) (r : StepAnswer) → CrossAnswer t k r → r .refusal ≡ 0
-      → (m : ℕ) → OneToThree m → ((m ≡ r .low → ⊥) × (m ≡ r .high → ⊥)) ↔ (m ≡ r .edge)
+      → (m : ℕ) → OneToThree m → ((m ≡ r .first → ⊥) × (m ≡ r .second → ⊥)) ↔ (m ≡ r .edge)

@@ -156,10 +156,7 @@ module _ {n : ℕ} {t : TriangleCode} (c : IsCode n t) (k : ℕ) (l : OneToThree
   across-only t′ e a = (only-code t′ e a, only-edge t′ e a)
 
   pub across-reversed : {t′ : TriangleCode} {k′ : ℕ} → Across n t k t′ k′ → Reversed t′ k′
-  across-reversed {t′} {k′} a =
-      let o = across-only t′ k′ a in
-      subst (λ (u : TriangleCode). Reversed u k′) (sym (o .0))
-      (subst (Reversed (codeAcross k t)) (sym (o .1)) reversed)
+  across-reversed {t′} {k′} a = let o = across-only t′ k′ a in rw (o .0) (rw (o .1) reversed)
 
   just : (i : ℕ) → OneToThree i → HasCorner (codeAcross k t) (corner t i) ↔ (i ≡ k → ⊥)
   just i m = (

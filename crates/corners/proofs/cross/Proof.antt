@@ -31,11 +31,11 @@ of-three-requires-2 c κs = search needs
 
 returns-2 : tie.Need-returns-2
 returns-2 c =
-    let low = c .before in
-    let next = low .before .before in
+    let first = c .before in
+    let next = first .before .before in
     let n = next .before .before in
     cross-answers _ _ _ (none (n .before)) (n .neighbour .ensures) (next .next-of .ensures) refl
-    (low .of-three .ensures) (c .of-three2 .ensures)
+    (first .of-three .ensures) (c .of-three2 .ensures)
 
 pub cross-spec : {M : Type 1} → statement M
 cross-spec =

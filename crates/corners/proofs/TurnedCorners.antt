@@ -13,19 +13,19 @@ use Rattle.net.proofs.Table.{three}
 use Rattle.corners.specs.Turns.{Turned}
 
 -- the lower corner follows edges 1 and 3 and goes before edge 2; the higher one the other way round
-abbrev pub lowThere : (k k′ : ℕ) → ℕ
-lowThere k k′ = nth k (prev k′) (next k′) (prev k′)
+abbrev pub firstThere : (k k′ : ℕ) → ℕ
+firstThere k k′ = nth k (prev k′) (next k′) (prev k′)
 
-abbrev pub highThere : (k k′ : ℕ) → ℕ
-highThere k k′ = nth k (next k′) (prev k′) (next k′)
+abbrev pub secondThere : (k k′ : ℕ) → ℕ
+secondThere k k′ = nth k (next k′) (prev k′) (next k′)
 
 pub turned-is : {n : ℕ} {t t′ : TriangleCode} {k k′ : ℕ} → IsCode n t → OneToThree k
-    → Across n t k t′ k′ → Turned t k t′ (lowThere k k′) (highThere k k′)
+    → Across n t k t′ k′ → Turned t k t′ (firstThere k k′) (secondThere k k′)
 turned-is {t = t} {t′} {k} {k′} c l a =
     let r = across-reversed c k l a in
     three
     (λ m. corner t (next m) ≡ corner t′ (prev k′) → corner t (prev m) ≡ corner t′ (next k′)
-    → Turned t m t′ (lowThere m k′) (highThere m k′))
+    → Turned t m t′ (firstThere m k′) (secondThere m k′))
     (λ p q. record { lowerIs = (before, p); higherIs = (after, q) })
     (λ p q. record { lowerIs = (after, q); higherIs = (before, p) })
     (λ p q. record { lowerIs = (before, p); higherIs = (after, q) }) k l (r .0) (r .1)

@@ -26,7 +26,7 @@ use Rattle.corners.specs.Answers.{CrossAnswer, WeightsAnswer, NameWeightsAnswer
 use Rattle.corners.specs.Answers.{stepAnswer, nameAnswer, countAnswer, noStep}
 use Rattle.corners.proofs.Refused.{numbered, weights-passes, name-weights-passes, ring-passes}
 use Rattle.corners.proofs.Calls.{answering, refusing, answering-lent, refusing-lent}
-use Rattle.corners.proofs.TurnedCorners.{secondThere, firstThere, turned-is}
+use Rattle.corners.proofs.TurnedCorners.{firstThere, secondThere, turned-is}
 use Rattle.corners.proofs.OneAnswer.{cross-one, naming-one, back-one, weights-one, name-weights-one, ring-answer-one}
 use Rattle.filing.specs.Coordinates.{exact}
 use Rattle.filing.specs.Drawing.{AreTicks, IsPoint}

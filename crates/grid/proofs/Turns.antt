@@ -14,7 +14,7 @@ use Rattle.net.proofs.Table.{_and_, _or_, _then_, less, no, same, sound, three,
 use Rattle.corners.specs.Turns.{Becomes, Turned, higher, lower}
 use Rattle.corners.specs.Answers.{CrossAnswer}
 use Rattle.corners.specs.declared.StepAnswer.{StepAnswer}
-use Rattle.corners.proofs.TurnedCorners.{secondThere, firstThere, turned-is, turned-one}
+use Rattle.corners.proofs.TurnedCorners.{firstThere, secondThere, turned-is, turned-one}
 use Rattle.grid.specs.Turns.{Pairs, Turns}
 use Rattle.grid.proofs.Demands.{crossed-is, crossed-turned, demand-3}
 
@@ -50,7 +50,7 @@ module _ (t : TriangleCode) (k : ℕ) (r : StepAnswer) (a : CrossAnswer t k r) (
   turned : Turned t k (r .code) (r .first) (r .second)
   turned = crossed-turned t k r a z
 
-  -- a number that has become another, and no other
+  -- a pair is one point
   shared : {e f i j : ℕ} → OneToThree e → Becomes t e (r .code) f → i ≡ e → j ≡ f
       → OneToThree i × OneToThree j × (corner t i ≡ corner (r .code) j)
   shared {e} {f} {i} {j} l b p q = (
@@ -59,6 +59,7 @@ module _ (t : TriangleCode) (k : ℕ) (r : StepAnswer) (a : CrossAnswer t k r) (
     ap (corner t) p ∙ b .1 ∙ ap (corner (r .code)) (sym q),
   )
 
+  -- and one point is a pair
   paired : {e f i j : ℕ} → Becomes t e (r .code) f → OneToThree j → corner t i ≡ corner (r .code) j
       → i ≡ e → j ≡ f
   paired b l q p = corner-one (is .2 .code) l (b .0) (sym q ∙ ap (corner t) p ∙ b .1)
@@ -79,7 +80,6 @@ module _ (t : TriangleCode) (k : ℕ) (r : StepAnswer) (a : CrossAnswer t k r) (
       let e = turned-one (is .2 .code) (turned-is (is .0) (is .1) (is .2)) turned in
       rw (sym (e .0)) (rw (sym (e .1)) (third-there k (is .1) (r .edge) (is .2 .edge) m l))
 
--- the same two points, from either side
 pub turns : Turns
 turns = record {
   rising = two-ends;

@@ -20,7 +20,7 @@ pub use words::TriangleCode;
 
 // Checking a word as a corner name.
 pub use corners::check_name;
-// Crossing an edge.
+// Crossing an edge: the triangle there, and how the edge and its corners are numbered in it.
 pub use corners::cross;
 // The twelve weights of a corner, of a code with a corner number or of a name.
 pub use corners::weights_of;

@@ -25,7 +25,8 @@ one-to-three k = (
   λ l. (either-false _ _ .1 (ne-eqb k 0 (λ e. omega (arith, l .0)), le-ltb 3 k (l .1)), tt),
 )
 
-pub numbered-passes : (t : TriangleCode) (k : ℕ) → (refuseNumbered t k ≡ 0) ↔ ((checkCode t ≡ 0) × OneToThree k)
+pub numbered-passes : (t : TriangleCode) (k : ℕ)
+    → (refuseNumbered t k ≡ 0) ↔ ((checkCode t ≡ 0) × OneToThree k)
 unfolding refuseNumbered checkCode
 numbered-passes t k = (
   λ e. let n = none-after (codeRows t) _ tt tt .0 e in (n .0, one-to-three k .0 (n .1)),
@@ -38,34 +39,45 @@ numbered t k z = let p = numbered-passes t k .0 z in (is-code t (p .0), p .1)
 long-enough : (n : ℕ) (list : List ℕ) → NoneSo (listRows n list) ↔ (n ≤ length list)
 long-enough n list = (λ e. ltb-false (length list) n (e .0), λ h. (le-ltb (length list) n h, tt))
 
-pub weights-passes : (t : TriangleCode) (i : ℕ) (out : List ℕ) → (refuseWeights t i out ≡ 0) ↔ ((refuseNumbered t i ≡ 0) × (12 ≤ length out))
+pub weights-passes : (t : TriangleCode) (i : ℕ) (out : List ℕ)
+    → (refuseWeights t i out ≡ 0) ↔ ((refuseNumbered t i ≡ 0) × (12 ≤ length out))
 unfolding refuseWeights refuseNumbered
 weights-passes t i out = (
-  λ e. let n = none-after (codeRows t ++ oneToThreeRows i) (listRows 12 out) tt tt .0 e in (n .0, long-enough 12 out .0 (n .1)),
+  λ e. let n = none-after (codeRows t ++ oneToThreeRows i) (listRows 12 out) tt tt .0 e in
+      (n .0, long-enough 12 out .0 (n .1)),
   λ p. none-after (codeRows t ++ oneToThreeRows i) (listRows 12 out) tt tt .1 (p .0, long-enough 12 out .1 (p .1)),
 )
 
-pub name-weights-passes : (r : CornerName) (out : List ℕ) → (refuseNameWeights r out ≡ 0) ↔ ((checkName r ≡ 0) × (12 ≤ length out))
+pub name-weights-passes : (r : CornerName) (out : List ℕ)
+    → (refuseNameWeights r out ≡ 0) ↔ ((checkName r ≡ 0) × (12 ≤ length out))
 unfolding refuseNameWeights checkName
 name-weights-passes r out = (
   λ e. let n = none-after (canonicalRows r) (listRows 12 out) tt tt .0 e in (n .0, long-enough 12 out .0 (n .1)),
   λ p. none-after (canonicalRows r) (listRows 12 out) tt tt .1 (p .0, long-enough 12 out .1 (p .1)),
 )
 
-pub ring-passes : (r : CornerName) (out : List ℕ) → (refuseRing r out ≡ 0) ↔ ((checkName r ≡ 0) × (6 ≤ length out))
+pub ring-passes : (r : CornerName) (out : List ℕ)
+    → (refuseRing r out ≡ 0) ↔ ((checkName r ≡ 0) × (6 ≤ length out))
 unfolding refuseRing checkName
 ring-passes r out = (
   λ e. let n = none-after (canonicalRows r) (listRows 6 out) tt tt .0 e in (n .0, long-enough 6 out .0 (n .1)),
   λ p. none-after (canonicalRows r) (listRows 6 out) tt tt .1 (p .0, long-enough 6 out .1 (p .1)),
 )
 
-pub back-passes : (n : ℕ) (weights : List ℕ) → (refuseBack n weights ≡ 0) ↔ ((n ≤ 24) × (12 ≤ length weights) × (sum (take 12 weights) ≡ 2 ^ n) × (onOneSide (take 12 weights) ≡ true))
+pub back-passes : (n : ℕ) (weights : List ℕ)
+    → (refuseBack n weights ≡ 0)
+    ↔ ((n ≤ 24) × (12 ≤ length weights) × (sum (take 12 weights) ≡ 2 ^ n)
+    × (onOneSide (take 12 weights) ≡ true))
 unfolding refuseBack
 back-passes n weights = (
   λ e.
       let x = none-so (degreeRows n ++ listRows 12 weights ++ weightRows n weights) tt .0 e in
-      let y = either-false _ _ .0 (x .1 .1 .0) in
-      (ltb-false 24 n (x .0), ltb-false (length weights) 12 (x .1 .0), eqb-true _ _ (not-false _ (y .0)), not-false _ (y .1)),
+      let y = either-false _ _ .0 (x .1 .1 .0) in (
+        ltb-false 24 n (x .0),
+        ltb-false (length weights) 12 (x .1 .0),
+        eqb-true _ _ (not-false _ (y .0)),
+        not-false _ (y .1),
+      ),
   λ p.
       none-so (degreeRows n ++ listRows 12 weights ++ weightRows n weights) tt .1 (
         le-ltb 24 n (p .0),

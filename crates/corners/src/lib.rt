@@ -10,8 +10,8 @@ ghost use Rattle.corners.specs.Refusals.{refuseNumbered};
 ghost use Rattle.corners.specs.Answers.{CrossAnswer, WeightsAnswer, NameWeightsAnswer, NamingAnswer};
 ghost use Rattle.corners.specs.Answers.{BackAnswer, RingAnswer};
 
-// A neighbour's code, the number of the shared edge there, and the numbers there of the edge's two corners: first of the
-// one whose number is lower here, then of the one whose number is higher. Or a refusal's number with zeros.
+// A neighbour's code, the number of the shared edge there, and the numbers there of the edge's two corners: first of
+// the one whose number is lower here, then of the one whose number is higher. Or a refusal's number with zeros.
 pub struct StepAnswer {
     pub refusal: u64,
     pub code: TriangleCode,

@@ -1,8 +1,9 @@
-// The grid: every call of document 01, for any number and any lent list. None has a `requires`; each states its complete answer where it is defined.
+// The grid: every call of document 01, for any number and any lent list. None has a `requires`; each states its
+// complete answer where it is defined.
 //
-// Checking a code, parent and child are methods by value of `TriangleCode`: `check`, `parent`, `child`. (No calls of document 01 are
-// `CornerName::check_fields`, which does not look whether a name is canonical, as `check_name` does; and the methods of `Golden`, which ask that
-// their numbers are small.)
+// Checking a code, parent and child are methods by value of `TriangleCode`: `check`, `parent`, `child`. (No calls of
+// document 01 are `CornerName::check_fields`, which does not look whether a name is canonical, as `check_name` does;
+// and the methods of `Golden`, which ask that their numbers are small.)
 pub use corners::CountAnswer;
 pub use corners::NameAnswer;
 pub use corners::StepAnswer;

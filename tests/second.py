@@ -10,6 +10,7 @@ have the corner, or do not hold the direction. There are no rules for steps, sea
     second.py CALLS ANSWERS    writes the calls, one a line, and the answers that the console must give to them
     second.py --answer         answers the call lines of standard input, all but help
 """
+import bisect
 import itertools
 import math
 import operator
@@ -389,13 +390,21 @@ def holders(n, d):
 
 
 def tick(u, v):
-    # "t, the greatest whole number not above 65,536·(u + vφ)", which is (65536(2u + v) + 65536v·√5) / 2.
+    # Document 02, 2026-02: "From now on t is the whole number nearest to 65,536·(u + vφ)." Twice that quantity is
+    # 65536(2u + v) + 65536v·√5. It lies between 2t - 1 and 2t + 1, so the greatest whole number not above it is either
+    # 2t - 1 or 2t.
     w, s = 65536 * (2 * u + v), 65536 * v
-    root = math.isqrt(5 * s * s)  # √5 times a whole number other than 0 is never whole
-    t = (w + (root if s >= 0 else -root - 1)) // 2
-    # "The same rule says what t is."
-    must(at_least_zero(65536 * u - t, 65536 * v), "t is not above", u, v)
-    must(not at_least_zero(65536 * u - t - 1, 65536 * v), "t is the greatest", u, v)
+    root = math.isqrt(5 * s * s)
+    t = (w + (root if s >= 0 else -root - 1) + 1) // 2
+    # "The same rule says what t is." Twice the distance is at most 1 on either side.
+    twice, below, above = (131072 * u, 131072 * v), (2 * t - 1, 0), (2 * t + 1, 0)
+    must(at_least_zero(*minus(twice, below)), "t is at most a half above", u, v)
+    must(at_least_zero(*minus(above, twice)), "t is at most a half below", u, v)
+    # Document 02, 2026-02: "A tie can't occur: the quantity is whole when v is 0, else irrational." Twice the
+    # distance is never just 1.
+    must(not at_least_zero(*minus(below, twice)), "t is less than a half above", u, v)
+    must(not at_least_zero(*minus(twice, above)), "t is less than a half below", u, v)
+    must(t == 65536 * u if v == 0 else root * root != 5 * s * s, "whole when v is 0, else irrational", u, v)
     must(abs(t) < 2**53, "|t| stays below 2^53", u, v)
     return t
 
@@ -424,6 +433,22 @@ def decimal(t, n):
     whole, rest = divmod(abs(t), 2**places)
     digits = str(rest * 5**places).rjust(places, "0").rstrip("0")
     return ("-" if t < 0 else "") + str(whole) + ("." + digits if digits else "")
+
+
+# ==== Document 02, 2026-02: "opposite points of the globe"
+
+
+def negated(at):
+    return tuple((-u, -v) for u, v in at)
+
+
+OPPOSITE = {x: y for x in ORDER for y in ORDER if DIRECTIONS[y] == negated(DIRECTIONS[x])}
+
+
+def opposite(p):
+    """The weights of the opposite corner: each vertex has the weight that its opposite has in p."""
+    weights = dict(zip(ORDER, p))
+    return tuple(weights[OPPOSITE[vertex]] for vertex in ORDER)
 
 
 # ==== Document 01, "Refusal numbers"
@@ -842,6 +867,39 @@ def check_signs():
     must(times((0, 1), (0, 1)) == (1, 1), "φ² = φ + 1")
 
 
+def check_opposite(n, p):
+    # Document 02, 2026-02: "t of the opposite corner is the negative, on all three axes".
+    for t, other in zip(ticks(p), ticks(opposite(p))):
+        must(other == -t, "the negative", n, p)
+        # "A zero ... is the positive zero."
+        bits, other_bits = f64_bits(t, n), f64_bits(other, n)
+        must(bits ^ other_bits == 1 << 63 if t else bits == other_bits == 0, "the same bits but for the sign", n, p)
+
+
+def check_opposites():
+    """All corners to degree 5, the opposite one found by its exact coordinates, and some below."""
+    for n in range(WHOLE + 1):
+        found = {exact(p): p for p in whole_index(n)}
+        for p in whole_index(n):
+            must(found.get(negated(exact(p))) == opposite(p), "the opposite corner", n, p)
+            check_opposite(n, p)
+    chance = random.Random(12)
+    for n in range(WHOLE + 1, DEEPEST + 1):
+        for p in corners(random_code(chance, n)):
+            must(exact(opposite(p)) == negated(exact(p)) and having(n, opposite(p)), "the opposite corner", n, p)
+            check_opposite(n, p)
+
+
+def check_closest():
+    """The search for close calls against the search over every v, and on which side of the quantity t then lies."""
+    for goal, sides in ((0, [True, True, False, False]), (HALF, [False, False, True, True])):
+        for n in (6, 12, 13, 14):
+            every = sorted(range(1, 2**n + 1), key=lambda v: beyond(v, goal))
+            must(closest(n, goal) == every[:2] + every[-2:], "the closest", n, goal)
+        for n in range(WHOLE + 1, DEEPEST + 1):
+            must([at_least_zero(-tick(0, v), 65536 * v) for v in closest(n, goal)] == sides, "the side of it", n, goal)
+
+
 def check_examples():
     # "Examples, proved together as one tabled statement (E1 to E12)"
     word = read_triangle
@@ -859,18 +917,24 @@ def check_examples():
     must(answer("cross 1011 2") == code_text(word("5113")) + " edge 2 corners 3 1", "E10")
     must(canonical(0, vertex_weights("20")) == 0x2000000000000003, "E11")
     must(answer("name 100 3") == "0x2000000000000003 corner 3 of 100", "E11 again")
-    must(ticks(vertex_weights("41")) == [-106040, 0, -65536], "E12")
-    must(corners(word("410"))[2] == vertex_weights("41") and answer("t 410 3") == "x -106040 y 0 z -65536", "E12 again")
+    # Document 02, 2026-02: "E12 becomes -106039, 0, -65536." Its opposite is V(20), which has kept its t.
+    must(ticks(vertex_weights("41")) == [-106039, 0, -65536], "E12")
+    must(corners(word("410"))[2] == vertex_weights("41") and answer("t 410 3") == "x -106039 y 0 z -65536", "E12 again")
+    must(ticks(vertex_weights("20")) == [106039, 0, 65536], "the opposite of E12")
+    must(answer("name-t 0x2000000000000003") == "x 106039 y 0 z 65536", "the opposite of E12 again")
     must(answer("list 0 0 0 1") == "2: 100 0x2000000000000000, 500 0xA000000000000000", "all holders of (0,0,1)")
 
 
 def internal_checks():
     must(sorted(DIRECTIONS) == sorted(ORDER) and sorted(REFUSALS) == sorted(REFUSAL_ORDER), "the tables")
+    must(sorted(OPPOSITE) == sorted(OPPOSITE.values()) == sorted(ORDER), "each vertex has its opposite")
     check_signs()
     for n in range(WHOLE + 1):
         check_degree(n)
     check_search()
     check_holders(all_directions())
+    check_opposites()
+    check_closest()
     check_examples()
 
 
@@ -1474,6 +1538,86 @@ def last_line():
     yield "file 24 1 2 3"
 
 
+# ==== The calls: t, the nearest whole number
+
+ONE = 2**96  # What goes beyond a whole number is counted in 2^96ths. It serves to choose calls; no answer uses it.
+HALF = ONE // 2
+FEW = 2**12
+
+
+@lru_cache(maxsize=1 << 15)
+def part(v):
+    """What goes beyond a whole number in 65,536·vφ, which is (65536v + 65536v·√5) / 2, for v at least 0."""
+    s = 65536 * v * ONE
+    return (s + math.isqrt(5 * s * s)) // 2 % ONE
+
+
+def beyond(v, goal):
+    """How far one goes up from the goal to the part of v, through the next whole number if need be."""
+    return (part(v) - goal) % ONE
+
+
+@lru_cache(maxsize=None)
+def first_parts(few):
+    return sorted((part(v), v) for v in range(1, few + 1))
+
+
+@lru_cache(maxsize=None)
+def closest(n, goal):
+    """The two v from 1 to 2^n whose part lies closest above the goal, and the two closest below it. The first few v
+    are sorted by their parts, so that among the few after any other start those round the goal are found at once."""
+    firsts = first_parts(min(2**n, FEW))
+    found = []
+    for start in range(0, 2**n, len(firsts)):
+        at = bisect.bisect(firsts, ((goal - part(start)) % ONE, 0))
+        found += [start + firsts[k % len(firsts)][1] for k in range(at - 2, at + 2)]
+    found.sort(key=lambda v: beyond(v, goal))
+    return found[:2] + found[-2:]
+
+
+def corner_with(chance, n, axis, v):
+    """A corner of degree n with u + vφ on the axis: the vertices of a side that have φ there share the weight v, the
+    others the rest. Often one of two has it all, so that the corner lies on an edge."""
+    v_of = {vertex: at[axis][1] for vertex, at in DIRECTIONS.items()}
+    threes = itertools.starmap(side_vertices, SIDES)
+    three = chance.choice([three for three in threes if any(v_of[x] == 1 for x in three)])
+    parts = dict.fromkeys(three, 0)
+    for there, weight in ((1, v), (0, 2**n - v)):
+        some = [x for x in three if v_of[x] == there]
+        share = chance.choice([0, chance.randint(0, weight), weight])
+        parts[some[0]] += share
+        parts[some[-1]] += weight - share
+    p = tuple(spread(parts))
+    must(exact(p)[axis][1] == v, "the v of the axis", n, axis, v, p)
+    return p
+
+
+def pair_calls(chance, n, p):
+    """t and the drawing of a corner and of the opposite one, by a triangle that has it or by its name."""
+    for q in (p, opposite(p)):
+        code, number = chance.choice(having(n, q))
+        for call in ("t", chance.choice(["drawn", "drawn", "bits"])):
+            by_code = f"{call} {some_form(code, chance.randrange(4))} {number}"
+            yield chance.choice([by_code, f"name-{call} {word_text(canonical(n, q))}"])
+
+
+def opposite_calls():
+    chance = random.Random(13)
+    for n in range(WHOLE + 1, DEEPEST + 1):
+        for _ in range(4):
+            yield from pair_calls(chance, n, chance.choice(corners(random_code(chance, n))))
+
+
+def close_calls():
+    """Corners with a coordinate whose 65,536·(u + vφ) lies as close as the degree allows to a half between two whole
+    numbers, or to a whole number, on either side; the opposite corner's lies on the other. u adds a whole number."""
+    chance = random.Random(14)
+    for n in range(WHOLE + 1, DEEPEST + 1):
+        for goal in (HALF, 0):
+            for v in closest(n, goal):
+                yield from pair_calls(chance, n, corner_with(chance, n, chance.randrange(3), v))
+
+
 # ==== Writing the two files
 
 SECTIONS = {
@@ -1491,6 +1635,8 @@ SECTIONS = {
     "empty lines": empty_lines,
     "spaced lines": spaced_lines,
     "long lines": long_lines,
+    "opposite corners, degrees 6 to 24": opposite_calls,
+    "t close to a half or a whole number": close_calls,
     "the last line": last_line,
 }
 

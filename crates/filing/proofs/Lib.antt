@@ -1,7 +1,6 @@
 -- The laws that the proofs of `filing` cite, and the crates above.
 pub mod Parts
 pub mod Weighted
-pub mod TickSizes
 pub mod ExactFractions
 pub mod GoldenTests
 pub mod Sums
@@ -27,5 +26,6 @@ pub mod AllHolders
 pub mod Anticlockwise
 pub mod ThroughVertices
 pub mod OnePoint
+pub mod FarCorners
 pub mod Multipliers
 pub mod MiddleSums

@@ -1,6 +1,7 @@
--- Two corners are the same point exactly when all twelve weights agree. A vertex and the one opposite have directions that cancel, so the six
--- whole numbers of an exact coordinate tell six differences of weights, one for each pair of opposite vertices. No side has two opposite
--- vertices, and a corner's weights lie on one side: of each pair one weight at least is 0, and the difference tells both. Assumes nothing.
+-- Two corners are the same point exactly when all twelve weights agree. A vertex and the one opposite have directions
+-- that cancel, so the six whole numbers of an exact coordinate tell six differences of weights, one for each pair of
+-- opposite vertices. No side has two opposite vertices, and a corner's weights lie on one side: of each pair one weight
+-- at least is 0, and the difference tells both. Assumes nothing.
 use mathlib.Core.Path.{_≡_, _∙_, refl, sym, ap, subst}
 use mathlib.Core.Logic.{_↔_, _⊎_, inl, inr, ⊎-elim}
 use mathlib.Core.Bool.{true}
@@ -26,7 +27,7 @@ use Rattle.net.proofs.Loads.{at-vertex, weight-other}
 use Rattle.net.proofs.StateCode.{one-on, spread-of}
 use Rattle.net.proofs.WayBack.{weights-mean}
 use Rattle.filing.specs.declared.Coordinates.{Coordinates}
-use Rattle.filing.specs.Coordinates.{coordinates, direction, exact}
+use Rattle.filing.specs.Coordinates.{direction, exact, negated}
 use Rattle.filing.specs.Means.Places.{balanceOf}
 use Rattle.filing.proofs.GoldenTests.{sameᵛ, ᵛ-same}
 use Rattle.filing.proofs.Weighted.{balances, exact-is, corner-twelve}
@@ -37,13 +38,12 @@ use Rattle.filing.proofs.Weighted.{balances, exact-is, corner-twelve}
 abbrev pub opposite : ℕ → ℕ
 opposite v = getD (1 ∷ 0 ∷ 9 ∷ 10 ∷ 11 ∷ 7 ∷ 8 ∷ 5 ∷ 6 ∷ 2 ∷ 3 ∷ 4 ∷ []) v 0
 
-abbrev minus : Coordinates → Coordinates
-minus a = coordinates (negφ (a .x)) (negφ (a .y)) (negφ (a .z))
-
 -- its direction is the other way
-pub opposite-direction : (v : ℕ) → v < 12 → direction (opposite v) ≡ minus (direction v)
+pub opposite-direction : (v : ℕ) → v < 12 → direction (opposite v) ≡ negated (direction v)
 unfolding negφ
-opposite-direction v h = ᵛ-same (direction (opposite v)) (minus (direction v)) (sound (below 12 λ v. sameᵛ (direction (opposite v)) (minus (direction v))) refl v h)
+opposite-direction v h =
+    ᵛ-same (direction (opposite v)) (negated (direction v))
+    (sound (below 12 λ v. sameᵛ (direction (opposite v)) (negated (direction v))) refl v h)
 
 -- no side has both
 pub not-both : (s : ℕ) → IsSide s → (v : ℕ) → v < 12 → HasVertex s v × HasVertex s (opposite v) → ⊥
@@ -51,7 +51,7 @@ unfolding cornerVertex
 not-both = sound (sides λ s. below 12 λ v. no (hasVertex s v and hasVertex s (opposite v))) refl
 
 -- it is one of the twelve
-opposite-small : (v : ℕ) → v < 12 → opposite v < 12
+pub opposite-small : (v : ℕ) → v < 12 → opposite v < 12
 opposite-small = sound (below 12 λ v. less (opposite v) 12) refl
 
 -- ---- weights that lie on one side
@@ -63,7 +63,9 @@ Lone p = (v : ℕ) → v < 12 → (getD p v 0 ≡ 0) ⊎ (getD p (opposite v) 0 
 -- so it is with a point of a side, and with any weights on one side
 spread-lone : (s : ℕ) (q : Point) → IsSide s → Lone (spread s q)
 spread-lone s q h v l = ⊎-elim
-    (λ a. inr (at-vertex s q (opposite v) (opposite-small v l) ∙ weight-other s (opposite v) q (λ b. not-both s h v l (a, b))))
+    (λ a.
+    let other = weight-other s (opposite v) q (λ b. not-both s h v l (a, b)) in
+    inr (at-vertex s q (opposite v) (opposite-small v l) ∙ other))
     (λ f. inl (at-vertex s q v l ∙ weight-other s v q f))
     (has-or-not s v)
 
@@ -75,8 +77,11 @@ side-lone p e o =
 -- ---- the weights, from the exact coordinates
 
 -- a difference of two numbers of which one is 0 tells both
-both-same : (a b c d : ℕ) → (a ≡ 0) ⊎ (b ≡ 0) → (c ≡ 0) ⊎ (d ≡ 0) → a + d ≡ c + b → (a ≡ c) × (b ≡ d)
-both-same a b c d s t e = ⊎-elim (λ x. ⊎-elim (λ y. omega arith) (λ y. omega arith) t) (λ x. ⊎-elim (λ y. omega arith) (λ y. omega arith) t) s
+both-same : (a b c d : ℕ) → (a ≡ 0) ⊎ (b ≡ 0) → (c ≡ 0) ⊎ (d ≡ 0) → a + d ≡ c + b
+    → (a ≡ c) × (b ≡ d)
+both-same a b c d s t e = ⊎-elim
+    (λ x. ⊎-elim (λ y. omega arith) (λ y. omega arith) t)
+    (λ x. ⊎-elim (λ y. omega arith) (λ y. omega arith) t) s
 
 -- the same difference of weights, the signs moved over
 balance-same : (p q : Weights) (a b c d : ℕ) → balanceOf p a b c d ≡ balanceOf q a b c d
@@ -111,28 +116,35 @@ module _ (p q : Weights) (e : balances p ≡ balances q) where
       each-below 12 Alike (omega (arith, xu, xv, yu, yv, zu, zv))
 
 -- Twelve weights on one side and twelve on another, or the same: the same point only if they agree.
-pub one-point : (p q : Weights) → length p ≡ 12 → length q ≡ 12 → onOneSide p ≡ true → onOneSide q ≡ true → exact p ≡ exact q → p ≡ q
+pub one-point : (p q : Weights) → length p ≡ 12 → length q ≡ 12
+    → onOneSide p ≡ true → onOneSide q ≡ true → exact p ≡ exact q → p ≡ q
 one-point p q l k o n e =
     let f : balances p ≡ balances q = sym (exact-is p l) ∙ e ∙ exact-is q k in
     ext-getD 0 p q (l ∙ sym k) (λ v h.
     let m : v < 12 = omega (arith, l) in
-    both-same (getD p v 0) (getD p (opposite v) 0) (getD q v 0) (getD q (opposite v) 0) (side-lone p l o v m) (side-lone q k n v m) (alike p q f v m) .0)
+    both-same (getD p v 0) (getD p (opposite v) 0) (getD q v 0) (getD q (opposite v) 0)
+    (side-lone p l o v m) (side-lone q k n v m) (alike p q f v m) .0)
 
 -- ---- corners
 
 -- a corner's weights lie on one side
-corner-one-side : {n : ℕ} {t : TriangleCode} → IsCode n t → (i : ℕ) → OneToThree i → onOneSide (corner t i) ≡ true
-corner-one-side {n} {t} c i h = weights-mean n (corner t i) (code-degree c) (corner-twelve c i .places) .1 (t, c, (i, h, refl)) .1
+corner-one-side : {n : ℕ} {t : TriangleCode} → IsCode n t → (i : ℕ) → OneToThree i
+    → onOneSide (corner t i) ≡ true
+corner-one-side {n} {t} c i h =
+    weights-mean n (corner t i) (code-degree c) (corner-twelve c i .places) .1 (t, c, (i, h, refl)) .1
 
 -- Corners of any two degrees have the same exact coordinates exactly when all twelve weights agree.
-pub same-place : {m n : ℕ} {t u : TriangleCode} → IsCode m t → IsCode n u → (i j : ℕ) → OneToThree i → OneToThree j
+pub same-place : {m n : ℕ} {t u : TriangleCode} → IsCode m t → IsCode n u
+    → (i j : ℕ) → OneToThree i → OneToThree j
     → (exact (corner t i) ≡ exact (corner u j)) ↔ (corner t i ≡ corner u j)
 same-place {t = t} {u = u} c d i j h k = (
-  one-point (corner t i) (corner u j) (corner-twelve c i .places) (corner-twelve d j .places) (corner-one-side c i h) (corner-one-side d j k),
+  one-point (corner t i) (corner u j) (corner-twelve c i .places) (corner-twelve d j .places)
+      (corner-one-side c i h) (corner-one-side d j k),
   λ e. ap exact e,
 )
 
 -- "Two corners of one degree are the same point exactly when all twelve weights agree."
-pub same-point : (n : ℕ) (t u : TriangleCode) (i j : ℕ) → IsCode n t → IsCode n u → OneToThree i → OneToThree j
+pub same-point : (n : ℕ) (t u : TriangleCode) (i j : ℕ) → IsCode n t → IsCode n u
+    → OneToThree i → OneToThree j
     → (exact (corner t i) ≡ exact (corner u j)) ↔ (corner t i ≡ corner u j)
 same-point n t u i j c d h k = same-place c d i j h k

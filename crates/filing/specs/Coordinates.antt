@@ -1,9 +1,10 @@
--- Document 01, 'Vertices and sides': the table of directions; and 'Division and weights': exact coordinates. Assumes nothing.
+-- Document 01, 'Vertices and sides': the table of directions; and 'Division and weights': exact coordinates. Assumes
+-- nothing.
 use Prim.Native.Nat.{ℕ}
 use mathlib.Core.List.{List, [], _∷_}
 use lib.ListN.{getD}
 use lib.IntN.{pos, negsuc}
-use Rattle.golden.specs.Numbers.{golden, whole, _+φ_, _*φ_}
+use Rattle.golden.specs.Numbers.{golden, whole, _+φ_, negφ, _*φ_}
 use Rattle.golden.specs.declared.Golden.{Golden}
 use Rattle.net.specs.Division.{Weights}
 use Rattle.filing.specs.declared.Coordinates.{Coordinates}
@@ -34,8 +35,10 @@ origin = coordinates O O O
 abbrev pub directions : List Coordinates
 directions =
     coordinates O I Φ ∷ coordinates O -I -Φ
-    ∷ coordinates O -I Φ ∷ coordinates Φ O I ∷ coordinates I Φ O ∷ coordinates -I Φ O ∷ coordinates -Φ O I
-    ∷ coordinates I -Φ O ∷ coordinates Φ O -I ∷ coordinates O I -Φ ∷ coordinates -Φ O -I ∷ coordinates -I -Φ O ∷ []
+    ∷ coordinates O -I Φ ∷ coordinates Φ O I ∷ coordinates I Φ O
+    ∷ coordinates -I Φ O ∷ coordinates -Φ O I
+    ∷ coordinates I -Φ O ∷ coordinates Φ O -I ∷ coordinates O I -Φ
+    ∷ coordinates -Φ O -I ∷ coordinates -I -Φ O ∷ []
 
 abbrev pub direction : (vertex : ℕ) → Coordinates
 direction v = getD directions v origin
@@ -47,7 +50,8 @@ a +ᵛ b = coordinates (a .x +φ b .x) (a .y +φ b .y) (a .z +φ b .z)
 abbrev pub times : Golden → Coordinates → Coordinates
 times c a = coordinates (c *φ a .x) (c *φ a .y) (c *φ a .z)
 
--- "The exact coordinate is the weighted sum of the vertex directions, kept on each axis as two signed whole numbers u, v for u + vφ."
+-- "The exact coordinate is the weighted sum of the vertex directions, kept on each axis as two signed whole numbers u,
+-- v for u + vφ."
 abbrev pub weighted : List Coordinates → Weights → Coordinates
 weighted [] ws = origin
 weighted (v ∷ vs) [] = origin
@@ -55,3 +59,7 @@ weighted (v ∷ vs) (w ∷ ws) = times (whole (pos w)) v +ᵛ weighted vs ws
 
 unfoldable pub exact : Weights → Coordinates
 exact p = weighted directions p
+
+-- Document 02, 2026-02: the coordinates of "the opposite corner"
+abbrev pub negated : Coordinates → Coordinates
+negated c = coordinates (negφ (c .x)) (negφ (c .y)) (negφ (c .z))

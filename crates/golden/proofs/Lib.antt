@@ -12,5 +12,6 @@ pub mod GoldenRing
 pub mod GoldenOrder
 pub mod GoldenProduct
 pub mod Quotients
-pub mod Floors
+pub mod Nearest
+pub mod Multiples
 pub mod Examples

@@ -1,19 +1,19 @@
--- Document 01, 'Coordinates for drawing': the whole number t of a coordinate u + vφ. Assumes nothing.
+-- Document 01, 'Coordinates for drawing', as document 02, 2026-02, amends it: the whole number t of a coordinate
+-- u + vφ. Assumes nothing.
 use lib.IntN.{ℤ, pos}
-use lib.Signed.{_≤ℤ_}
 use Rattle.golden.specs.declared.Golden.{Golden}
 use Rattle.golden.specs.Numbers.{whole, _+φ_, negφ, _*φ_}
 use Rattle.golden.specs.Order.{NonNeg}
 
--- The whole number s is not above x. "The same rule says what t is": the rule for the sign, of x - s.
-abbrev pub NotAbove : ℤ → Golden → Type 0
-NotAbove s x = NonNeg (x +φ negφ (whole s))
+-- Twice d is at most 1. "The same rule says what t is": the rule for the sign, of 1 - 2d.
+abbrev pub AtMostHalf : Golden → Type 0
+AtMostHalf d = NonNeg (whole (pos 1) +φ negφ (d +φ d))
 
--- "the greatest whole number not above" x
-pub record IsFloor (x : Golden) (t : ℤ) : Type 0 where
-  pub notAbove : NotAbove t x
-  pub greatest : (s : ℤ) → NotAbove s x → s ≤ℤ t
+-- "the whole number nearest to" x: x is at most a half above t, and at most a half below it.
+pub record IsNearest (x : Golden) (t : ℤ) : Type 0 where
+  pub above : AtMostHalf (x +φ negφ (whole t))
+  pub below : AtMostHalf (whole t +φ negφ x)
 
--- "On each axis take t, the greatest whole number not above 65,536·(u + vφ)."
+-- "From now on t is the whole number nearest to 65,536·(u + vφ)."
 abbrev pub IsT : Golden → ℤ → Type 0
-IsT x t = IsFloor (whole (pos 65536) *φ x) t
+IsT x t = IsNearest (whole (pos 65536) *φ x) t

@@ -4,9 +4,9 @@ ghost use mathlib.Core.Path.{_≡_};
 ghost use Prim.Native.Nat.{_+_, _*_, _/_, _%_, _<_, _≤_, _^_};
 ghost use lib.IntN.{pos, negℤ, natAbs, _+ℤ_, _*ℤ_};
 ghost use Rattle.golden.specs.Decisions.{Decides};
-ghost use Rattle.golden.specs.Numbers.{Below, _+φ_, negφ};
+ghost use Rattle.golden.specs.Numbers.{Below, golden, _+φ_, negφ};
 ghost use Rattle.golden.specs.Order.{NonNeg, wOf};
-ghost use Rattle.golden.specs.Drawing.{NotAbove, IsFloor, IsT};
+ghost use Rattle.golden.specs.Drawing.{IsNearest, IsT};
 
 // The number u + vφ.
 pub struct Golden {
@@ -76,25 +76,46 @@ fn difference(x: i64, y: i64) -> i64
     x - y
 }
 
-// The fraction TOP/BOTTOM is one of Fibonacci's next below φ.
+// The fraction TOP/BOTTOM is one of Fibonacci's next below φ; HALF is half of BOTTOM.
 const TOP: u64 = 1836311903;
 
 const BOTTOM: u64 = 1134903170;
 
-// m·TOP/BOTTOM, rounded down.
+const HALF: u64 = 567451585;
+
+// m·TOP/BOTTOM, rounded to the nearest.
 fn times_fraction(m: u64) -> u64
     requires { ⌜ m ≤ 2 ^ 42 ⌝ }
-    ensures { λ r. ⌜ r ≡ m * 1836311903 / 1134903170 ⌝ }
+    ensures { λ r. ⌜ r ≡ (m * 1836311903 + 567451585) / 1134903170 ⌝ }
 {
-    m / BOTTOM * TOP + m % BOTTOM * TOP / BOTTOM
+    m / BOTTOM * TOP + (m % BOTTOM * TOP + HALF) / BOTTOM
 }
 
-// Whether m is clear: m·TOP/BOTTOM is so far below the next whole number that mφ is below it too.
+// Whether m is clear: m·TOP/BOTTOM is so far below the next middle of two whole numbers that mφ is below it too.
 fn is_clear(m: u64) -> bool
     requires { ⌜ m ≤ 2 ^ 42 ⌝ }
-    ensures { λ r. ⌜ Decides r (m * 1836311903 % 1134903170 + 2048 ≤ 1134903170) ⌝ }
+    ensures { λ r. ⌜ Decides r ((m * 1836311903 + 567451585) % 1134903170 + 2048 ≤ 1134903170) ⌝ }
 {
-    m % BOTTOM * TOP % BOTTOM + 2048 <= BOTTOM
+    (m % BOTTOM * TOP + HALF) % BOTTOM + 2048 <= BOTTOM
+}
+
+// The whole number nearest to mφ: by the fraction where m is clear, and else by the sign of 2mφ - (2q + 1).
+fn nearest_multiple(m: u64) -> u64
+    requires { ⌜ m ≤ 2 ^ 42 ⌝ }
+    ensures { λ r. ⌜ IsNearest (golden (pos 0) (pos m)) (pos r) × (r ≤ 2 ^ 43) ⌝ }
+{
+    let q = times_fraction(m);
+    if is_clear(m) {
+        return q;
+    }
+    let over = Golden {
+        u: difference(0, signed(2 * q + 1)),
+        v: signed(2 * m),
+    };
+    if over.at_least_zero() {
+        return q + 1;
+    }
+    q
 }
 
 impl Golden {
@@ -147,41 +168,19 @@ impl Golden {
         true
     }
 
-    // A whole number that is not above u + vφ, and is less than k below it: k is 2, or 1 where |v| is clear.
-    fn close_below(self, k: u64) -> i64
-        requires { ⌜
-            Below (2 ^ 42 + 1) self × (k ≤ 2) × (natAbs (self .v) * 1836311903 % 1134903170
-            + 2048 ≤ k * 1134903170)
-            ⌝ }
-        ensures { λ r. ⌜ NotAbove r self × (NotAbove (r +ℤ pos k) self → ⊥) × (natAbs r < 2 ^ 45) ⌝ }
-    {
-        let u = self.u;
-        let v = self.v;
-        let q = times_fraction(magnitude(v));
-        if v < 0 {
-            return difference(u, signed(q + k));
-        }
-        sum(u, signed(q))
-    }
-
-    // The greatest whole number not above u + vφ.
-    fn floor(self) -> i64
+    // The whole number nearest to u + vφ. That of -x is the negative, so the size of v decides.
+    fn nearest(self) -> i64
         requires { ⌜ Below (2 ^ 42 + 1) self ⌝ }
-        ensures { λ r. ⌜ IsFloor self r ⌝ }
+        ensures { λ r. ⌜ IsNearest self r ⌝ }
     {
-        if is_clear(magnitude(self.v)) {
-            return self.close_below(1);
+        let n = signed(nearest_multiple(magnitude(self.v)));
+        if self.v < 0 {
+            return difference(self.u, n);
         }
-        let low = self.close_below(2);
-        let next = low + 1;
-        let rest = self.minus(Golden { u: next, v: 0 });
-        if rest.at_least_zero() {
-            return next;
-        }
-        low
+        sum(self.u, n)
     }
 
-    // The greatest whole number not above 65,536·(u + vφ).
+    // The whole number nearest to 65,536·(u + vφ).
     pub fn t(self) -> i64
         requires { ⌜ Below (2 ^ 26 + 1) self ⌝ }
         ensures { λ r. ⌜ IsT self r ⌝ }
@@ -190,6 +189,6 @@ impl Golden {
             u: scaled(self.u),
             v: scaled(self.v),
         };
-        big.floor()
+        big.nearest()
     }
 }

@@ -53,10 +53,10 @@ number-is {A} {f} number z g r a =
 -- an answer whose number is 0 is what was asked for
 module _ {A : Type 0} {f : ℕ} {Good : A → Type 0} {zeros : ℕ → A} (number : A → ℕ)
     (z : number (zeros f) ≡ f) (g : (r : A) → Good r → number r ≡ 0) where
-  passed : {r : A} → Answer f Good zeros r → number r ≡ 0 → f ≡ 0
+  pub passed : {r : A} → Answer f Good zeros r → number r ≡ 0 → f ≡ 0
   passed {r} a e = sym (number-is number z g r a) ∙ e
 
-  good : {r : A} → Answer f Good zeros r → number r ≡ 0 → Good r
+  pub good : {r : A} → Answer f Good zeros r → number r ≡ 0 → Good r
   good a e = a .answered (passed a e)
 
 module _ {A : Type 0} {f : ℕ} {Good : A → Type 0} {zeros : ℕ → A} {number : A → ℕ} where

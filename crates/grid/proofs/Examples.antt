@@ -6,7 +6,6 @@ use lib.IntN.{pos}
 use lib.Ieee.{fits, ofBits}
 use lib.ListN.{replicate}
 use Rattle.golden.specs.Numbers.{_+φ_, negφ, _*φ_}
-use Rattle.golden.proofs.Floors.{floor-test}
 use Rattle.words.specs.Words.{digits, path, wordOf}
 use Rattle.words.specs.Counting.{codeAt}
 use Rattle.words.specs.Refusals.{refusal, checkNameFields}
@@ -31,7 +30,7 @@ use Rattle.grid.specs.Examples.{Examples, Crossings, Family, Weighed, Ri
 use Rattle.grid.proofs.Showing.{files, lists, lists-refused, crosses, crosses-refused, names, backs}
 use Rattle.grid.proofs.Showing.{weighs, weighs-name}
 use Rattle.grid.proofs.Showing.{weighs-refused, rings-by, rings-refused, passes-by, placed, ticked, pointed}
-use Rattle.grid.proofs.Showing.{placed-name, ticked-name, pointed-name, not-placed, not-pointed}
+use Rattle.grid.proofs.Showing.{ticks-test, placed-name, ticked-name, pointed-name, not-placed, not-pointed}
 
 -- ---- the name of V(41), its t, and what is drawn
 
@@ -39,17 +38,42 @@ passes : checkName (nameOf 0x7000000000000002) ≡ 0
 unfolding checkNameFields refusal path wordOf digits stepOf cross seamSide seamKept around wordAt nameAt leastName
 passes = passes-by (nameOf 0x7000000000000002) refl refl
 
-ticks-41 : AreTicks (exact (unitAt (vertex 4 1))) (ticks (minus 106040) (pos 0) (minus 65536) .at)
+ticks-41 : AreTicks (exact (unitAt (vertex 4 1))) (ticks (minus 106039) (pos 0) (minus 65536) .at)
 unfolding exact unitAt _+φ_ negφ _*φ_
-ticks-41 = record { x = floor-test _ _ tt tt; y = floor-test _ _ tt tt; z = floor-test _ _ tt tt }
+ticks-41 = ticks-test _ _ (tt, tt) (tt, tt) (tt, tt)
 
-point-41 : IsPoint 0 (exact (unitAt (vertex 4 1))) (point 0 0xbff9e38000000000 0 0xbff0000000000000 .at)
+point-41 : IsPoint 0 (exact (unitAt (vertex 4 1))) (point 0 0xbff9e37000000000 0 0xbff0000000000000 .at)
 unfolding ofBits fits
 point-41 = record {
-  x = (minus 106040, ticks-41 .x, record { value = (refl, refl); held = tt });
+  x = (minus 106039, ticks-41 .x, record { value = (refl, refl); held = tt });
   y = (pos 0, ticks-41 .y, record { value = (refl, refl); held = tt });
   z = (minus 65536, ticks-41 .z, record { value = (refl, refl); held = tt });
 }
+
+-- V(20), which lies opposite, and both at degree 1
+ticks-20 : AreTicks (exact (unitAt (vertex 2 0))) (ticks (pos 106039) (pos 0) (pos 65536) .at)
+unfolding exact unitAt _+φ_ negφ _*φ_
+ticks-20 = ticks-test _ _ (tt, tt) (tt, tt) (tt, tt)
+
+point-20 : IsPoint 0 (exact (unitAt (vertex 2 0))) (point 0 0x3ff9e37000000000 0 0x3ff0000000000000 .at)
+unfolding ofBits fits
+point-20 = record {
+  x = (pos 106039, ticks-20 .x, record { value = (refl, refl); held = tt });
+  y = (pos 0, ticks-20 .y, record { value = (refl, refl); held = tt });
+  z = (pos 65536, ticks-20 .z, record { value = (refl, refl); held = tt });
+}
+
+passes-20 : checkName (nameOf 0x2000000000000003) ≡ 0
+unfolding checkNameFields refusal path wordOf digits stepOf cross seamSide seamKept around wordAt nameAt leastName
+passes-20 = passes-by (nameOf 0x2000000000000003) refl refl
+
+deeper-20 : AreTicks (exact (corner (written 2002) 2)) (ticks (pos 212079) (pos 0) (pos 131072) .at)
+unfolding decimals written path wordOf digits corner cornerOf triangleAt unitAt cornerVertex exact _+φ_ negφ _*φ_
+deeper-20 = ticks-test _ _ (tt, tt) (tt, tt) (tt, tt)
+
+deeper-41 : AreTicks (exact (corner (written 4011) 1)) (ticks (minus 212079) (pos 0) (minus 131072) .at)
+unfolding decimals written path wordOf digits corner cornerOf triangleAt unitAt cornerVertex exact _+φ_ negφ _*φ_
+deeper-41 = ticks-test _ _ (tt, tt) (tt, tt) (tt, tt)
 
 -- ---- E1 to E12
 
@@ -139,16 +163,16 @@ places = record {
 
 -- ---- coordinates
 
-ticks-six : AreTicks (exact (named (cornerIn 1000 3))) (ticks (pos 0) (pos 0) (pos 212078) .at)
+ticks-six : AreTicks (exact (named (cornerIn 1000 3))) (ticks (pos 0) (pos 0) (pos 212079) .at)
 unfolding decimals written path wordOf digits corner cornerOf triangleAt unitAt cornerVertex exact _+φ_ negφ _*φ_
-ticks-six = record { x = floor-test _ _ tt tt; y = floor-test _ _ tt tt; z = floor-test _ _ tt tt }
+ticks-six = ticks-test _ _ (tt, tt) (tt, tt) (tt, tt)
 
-point-six : IsPoint 1 (exact (named (cornerIn 1000 3))) (point 0 0 0 0x3ff9e37000000000 .at)
+point-six : IsPoint 1 (exact (named (cornerIn 1000 3))) (point 0 0 0 0x3ff9e37800000000 .at)
 unfolding ofBits fits
 point-six = record {
   x = (pos 0, ticks-six .x, record { value = (refl, refl); held = tt });
   y = (pos 0, ticks-six .y, record { value = (refl, refl); held = tt });
-  z = (pos 212078, ticks-six .z, record { value = (refl, refl); held = tt });
+  z = (pos 212079, ticks-six .z, record { value = (refl, refl); held = tt });
 }
 
 pub points : Points
@@ -159,8 +183,13 @@ points = record {
   v41-name = placed-name (nameOf 0x7000000000000002) passes _ refl;
   middle = placed (written 1001) 3 refl _ refl;
   no-corner = not-placed (written 1001) 4 4 refl;
+  v20-ticks = ticked (written 200) 2 refl _ refl ticks-20;
+  v20-ticks-name = ticked-name (nameOf 0x2000000000000003) passes-20 _ refl ticks-20;
+  v20-deeper = ticked (written 2002) 2 refl _ refl deeper-20;
+  v41-deeper = ticked (written 4011) 1 refl _ refl deeper-41;
   drawn = pointed (written 401) 1 refl _ refl point-41;
   drawn-name = pointed-name (nameOf 0x7000000000000002) passes _ refl point-41;
+  v20-drawn = pointed (written 200) 2 refl _ refl point-20;
   drawn-middle = pointed-name (cornerIn 1000 3) passes-six _ refl point-six;
   not-drawn = not-pointed (nameOf 0) 1 refl;
 }

@@ -13,6 +13,7 @@ use lib.ListN.{getD}
 use borrow.Author.Tests.{eqb-false, le-ltb}
 use Rattle.golden.specs.Numbers.{golden, whole, _+φ_, negφ, _*φ_}
 use Rattle.golden.proofs.GoldenOrder.{is-nonneg, not-nonneg}
+use Rattle.golden.proofs.IntegerOrder.{pp}
 use Rattle.words.specs.Words.{digits, path, wordOf, sideOf, degreeOf}
 use Rattle.words.specs.Refusals.{refusal, checkCode, IsCode}
 use Rattle.words.specs.Family.{codeOf, codeAnswer}
@@ -51,7 +52,7 @@ use Rattle.directions.proofs.Refused.{refuse-by}
 use Rattle.grid.specs.Writing.{_gives_, decimals, written, zeroDigits, minus, towards, up}
 use Rattle.grid.specs.Mistakes.{Mistakes, close, holder, across-edge, StrictlyInside}
 use Rattle.grid.proofs.Showing.{files, crosses}
-use Rattle.grid.proofs.Examples.{examples, rings}
+use Rattle.grid.proofs.Examples.{examples, points, rings}
 
 -- ---- close to an edge
 
@@ -176,8 +177,12 @@ mistakes = record {
   close-wrong = λ a. close-outside (a .answered refl .is .holds);
   on-edge = (refl, refl);
   in-none = in-none;
-  truncated = no-other (λ r. natAbs (r .at .x)) (examples .e12-corner) refl;
-  truncated-name = no-other (λ r. natAbs (r .at .x)) (examples .e12) refl;
+  truncated = no-other (λ r. natAbs (r .at .x)) (points .v41-deeper) refl;
+  floored = no-other (λ r. natAbs (r .at .x)) (examples .e12-corner) refl;
+  floored-name = no-other (λ r. natAbs (r .at .x)) (examples .e12) refl;
+  floored-above = no-other (λ r. natAbs (r .at .x)) (points .v20-deeper) refl;
+  raised = no-other (λ r. natAbs (r .at .x)) (points .v20-ticks) refl;
+  unsigned = no-other (λ r. pp (r .at .x)) (examples .e12-corner) refl;
   refusing = λ k a. let e : suc k ≡ 0 = ap (λ (r : CodeAnswer). r .refusal) (examples .e3 .only _ a) in omega arith;
   fixed-code = fixed-code;
   fixed-name = fixed-name;

@@ -4,6 +4,7 @@ use mathlib.Core.List.{List}
 use Prim.Native.Nat.{ℕ, suc, _≤_}
 use native.Mathlib.Omega.{arith}
 use lib.ListN.{length, take}
+use Rattle.golden.proofs.Nearest.{Tested, scaled, t-test}
 use Rattle.words.specs.Words.{degreeOf, wordOf, cornerNumber}
 use Rattle.words.specs.Refusals.{IsCode, checkNameFields}
 use Rattle.words.specs.Family.{codeOf, codeAnswer}
@@ -36,6 +37,7 @@ use Rattle.filing.specs.Means.Sides.{sideDets, leastFrom}
 use Rattle.filing.specs.Means.Lists.{allWords}
 use Rattle.filing.specs.declared.Coordinates.{Coordinates}
 use Rattle.filing.specs.declared.Direction.{Direction}
+use Rattle.filing.specs.declared.Ticks.{Ticks}
 use Rattle.filing.proofs.AllHolders.{all-holders}
 use Rattle.filing.proofs.LeastSide.{found-code}
 use Rattle.points.specs.Answers.{PlaceAnswer, NamePlaceAnswer, TickAnswer, NameTickAnswer, DrawAnswer, NameDrawAnswer}
@@ -172,6 +174,15 @@ rings-refused q out k e =
     record { meets = is; only = λ s new a. ring-answer-one q out s _ new _ a is }
 
 -- ---- places: of a corner of a code, and of a name
+
+-- t on each axis, as a test that antt computes
+pub ticks-test : (c : Coordinates) (r : Ticks) → Tested (scaled (c .x)) (r .x) → Tested (scaled (c .y)) (r .y)
+    → Tested (scaled (c .z)) (r .z) → AreTicks c r
+ticks-test c r x y z = record {
+  x = t-test (c .x) (r .x) x;
+  y = t-test (c .y) (r .y) y;
+  z = t-test (c .z) (r .z) z;
+}
 
 module _ (t : TriangleCode) (i : ℕ) (z : refuseNumbered t i ≡ 0) where
   pub placed : (c : Coordinates) → exact (corner t i) ≡ c → PlaceAnswer t i gives record { refusal = 0; at = c }

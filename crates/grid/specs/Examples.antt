@@ -48,10 +48,11 @@ pub record Examples : Type 0 where
   -- E11: "name of V(20), degree 0: 0x2000000000000003", from its weights and as corner 2 of 200
   pub e11 : BackAnswer 0 (unitAt (vertex 2 0)) gives nameAnswer 0 (nameOf 0x2000000000000003)
   pub e11-corner : NamingAnswer (written 200) 2 gives nameAnswer 0 (nameOf 0x2000000000000003)
-  -- E12: "t of V(41), degree 0: -106040, 0, -65536", by its name and as corner 1 of 401
+  -- E12, t of V(41), degree 0, and of document 02, 2026-02: "E12 becomes -106039, 0, -65536.", by its name and as
+  -- corner 1 of 401
   pub e12-name : BackAnswer 0 (unitAt (vertex 4 1)) gives nameAnswer 0 (nameOf 0x7000000000000002)
-  pub e12 : NameTickAnswer (nameOf 0x7000000000000002) gives ticks (minus 106040) (pos 0) (minus 65536)
-  pub e12-corner : TickAnswer (written 401) 1 gives ticks (minus 106040) (pos 0) (minus 65536)
+  pub e12 : NameTickAnswer (nameOf 0x7000000000000002) gives ticks (minus 106039) (pos 0) (minus 65536)
+  pub e12-corner : TickAnswer (written 401) 1 gives ticks (minus 106039) (pos 0) (minus 65536)
   -- "All holders of (0,0,1) at degree 0, whole: 100, 500; count 2.", in any list of six places or more
   pub whole : (out : List ℕ) → 6 ≤ length out
       → ListAnswer 0 (towards (pos 0) (pos 0) (pos 1)) out
@@ -112,7 +113,7 @@ pub record Places : Type 0 where
   pub short-holders : ListAnswer 0 up (replicate 5 7) leaves (countAnswer 9 0, replicate 5 7)
   pub short-weights : WeightsAnswer (written 100) 3 (replicate 11 7) leaves (9, replicate 11 7)
 
--- Exact coordinates, and drawn coordinates to the bit.
+-- Exact coordinates, t, and drawn coordinates to the bit.
 pub record Points : Type 0 where
   -- V(41): (-φ, 0, -1)
   pub v41 : PlaceAnswer (written 401) 1
@@ -123,11 +124,19 @@ pub record Points : Type 0 where
   pub middle : PlaceAnswer (written 1001) 3
       gives place (golden (pos 0) (pos 1)) (golden (pos 1) (pos 0)) (golden (pos 1) (pos 1))
   pub no-corner : PlaceAnswer (written 1001) 4 gives noCoordinates 5
-  -- V(41) drawn: -106040/65536, 0, -65536/65536
-  pub drawn : DrawAnswer (written 401) 1 gives point 0 0xbff9e38000000000 0 0xbff0000000000000
-  pub drawn-name : NameDrawAnswer (nameOf 0x7000000000000002) gives point 0 0xbff9e38000000000 0 0xbff0000000000000
-  -- the middle of the edge from V(00) to V(10) at degree 1: 0, 0, 212078/131072
-  pub drawn-middle : NameDrawAnswer (cornerIn 1000 3) gives point 0 0 0 0x3ff9e37000000000
+  -- document 02, 2026-02: "V(20) has t 106039", and V(41), which lies opposite, the negative
+  pub v20-ticks : TickAnswer (written 200) 2 gives ticks (pos 106039) (pos 0) (pos 65536)
+  pub v20-ticks-name : NameTickAnswer (nameOf 0x2000000000000003) gives ticks (pos 106039) (pos 0) (pos 65536)
+  -- both at degree 1, where 65,536·2φ is about 212078.95
+  pub v20-deeper : TickAnswer (written 2002) 2 gives ticks (pos 212079) (pos 0) (pos 131072)
+  pub v41-deeper : TickAnswer (written 4011) 1 gives ticks (minus 212079) (pos 0) (minus 131072)
+  -- V(41) drawn: -106039/65536, 0, -65536/65536
+  pub drawn : DrawAnswer (written 401) 1 gives point 0 0xbff9e37000000000 0 0xbff0000000000000
+  pub drawn-name : NameDrawAnswer (nameOf 0x7000000000000002) gives point 0 0xbff9e37000000000 0 0xbff0000000000000
+  -- V(20) drawn: the same bits but for the sign's, and the same zero
+  pub v20-drawn : DrawAnswer (written 200) 2 gives point 0 0x3ff9e37000000000 0 0x3ff0000000000000
+  -- the middle of the edge from V(00) to V(10) at degree 1: 0, 0, 212079/131072
+  pub drawn-middle : NameDrawAnswer (cornerIn 1000 3) gives point 0 0 0 0x3ff9e37800000000
   -- "A zero, also in a refusal, is the positive zero."
   pub not-drawn : NameDrawAnswer (nameOf 0) gives point 2 0 0 0
 

@@ -2,6 +2,7 @@
 -- is counted.
 pub mod Demands
 pub mod Turns
+pub mod Nearest
 pub mod Writing
 pub mod Examples
 pub mod Mistakes

@@ -63,9 +63,16 @@ pub record Mistakes : Type 0 where
   -- "Testing strictly inside, so E3 is in no triangle.": two of the three determinants of what E3 answers are 0
   pub on-edge : (dets (written 10003) up .d1 ≡ whole (pos 0)) × (dets (written 10003) up .d2 ≡ whole (pos 0))
   pub in-none : (t : TriangleCode) → IsCode 2 t → StrictlyInside t up → ⊥
-  -- "Truncating toward zero for t on negative coordinates.": E12
-  pub truncated : TickAnswer (written 401) 1 (ticks (minus 106039) (pos 0) (minus 65536)) → ⊥
-  pub truncated-name : NameTickAnswer (nameOf 0x7000000000000002) (ticks (minus 106039) (pos 0) (minus 65536)) → ⊥
+  -- "Truncating toward zero for t on negative coordinates.": V(41) at degree 1, where 65,536·(-2φ) is about
+  -- -212078.95
+  pub truncated : TickAnswer (written 4011) 1 (ticks (minus 212078) (pos 0) (minus 131072)) → ⊥
+  -- and of document 02, 2026-02, "Nearest, not floor": the floor at E12, as it was before, and at V(20) of degree 1
+  pub floored : TickAnswer (written 401) 1 (ticks (minus 106040) (pos 0) (minus 65536)) → ⊥
+  pub floored-name : NameTickAnswer (nameOf 0x7000000000000002) (ticks (minus 106040) (pos 0) (minus 65536)) → ⊥
+  pub floored-above : TickAnswer (written 2002) 2 (ticks (pos 212078) (pos 0) (pos 131072)) → ⊥
+  -- the next whole number above, at V(20); and the nearest with its sign lost, at E12
+  pub raised : TickAnswer (written 200) 2 (ticks (pos 106040) (pos 0) (pos 65536)) → ⊥
+  pub unsigned : TickAnswer (written 401) 1 (ticks (pos 106039) (pos 0) (pos 65536)) → ⊥
   -- "A program that refuses everything breaks demand 1, since refusals are given only when the table says.": any
   -- refusal at E3
   pub refusing : (k : ℕ) → FileAnswer 2 up (noCode (suc k)) → ⊥

@@ -1,9 +1,11 @@
--- The bits of a drawn point, for every input: the float that is exactly t / (65,536·2^n) has the fields of specs/Bits.antt. Assumes nothing.
+-- The bits of a drawn point, for every input: the float that is exactly t / (65,536·2^n) has the fields of
+-- specs/Bits.antt. Assumes nothing.
 use mathlib.Core.Path.{_≡_, refl, sym, ap, _∙_, subst}
 use mathlib.Core.Bool.{Bool, cond}
 use mathlib.Core.Logic.{⊎-elim}
 use Prim.Native.Nat.{ℕ, zero, suc, _+_, _-_, _*_, _/_, _^_, _≤_, _<_}
-use native.Mathlib.Nat.{add-assoc, zero-mul, mul-assoc, mul-right-comm, mul-div-cancel, mul-le-mul-right, lt-of-lt-of-le, lt-irrefl}
+use native.Mathlib.Nat.{add-assoc, zero-mul, mul-assoc, mul-right-comm, mul-div-cancel, mul-le-mul-right}
+use native.Mathlib.Nat.{lt-of-lt-of-le, lt-irrefl}
 use native.Mathlib.Omega.{arith}
 use lib.IntN.{ℤ, pos, negsuc, natAbs}
 use lib.Pow.{pow-add, pow-mono, shl-lt, shl-shr}
@@ -15,7 +17,7 @@ use Rattle.golden.specs.declared.Golden.{Golden}
 use Rattle.golden.specs.Numbers.{Below}
 use Rattle.golden.specs.Drawing.{IsT}
 use Rattle.golden.proofs.IntegerOrder.{le-or-lt}
-use Rattle.golden.proofs.Floors.{floor-one}
+use Rattle.golden.proofs.Nearest.{t-one, t-small}
 use Rattle.words.specs.Words.{degreeOf}
 use Rattle.words.specs.declared.TriangleCode.{TriangleCode}
 use Rattle.words.specs.declared.CornerName.{CornerName}
@@ -23,14 +25,14 @@ use Rattle.corners.specs.Answers.{Answer}
 use Rattle.net.proofs.Table.{either-way, same}
 use Rattle.filing.specs.Fractions.{isNeg, IsFraction}
 use Rattle.filing.specs.Drawing.{AreTicks, IsDrawn, IsPoint}
-use Rattle.points.specs.Answers.{Ticked, Pointed, noTicks, noPoint, TickAnswer, NameTickAnswer, DrawAnswer, NameDrawAnswer}
+use Rattle.points.specs.Answers.{Ticked, Pointed, noTicks, noPoint, TickAnswer, NameTickAnswer, DrawAnswer}
+use Rattle.points.specs.Answers.{NameDrawAnswer}
 use Rattle.filing.specs.Means.Places.{Small}
 use Rattle.filing.specs.declared.Coordinates.{Coordinates}
 use Rattle.filing.specs.declared.Ticks.{Ticks}
 use Rattle.points.specs.declared.TicksAnswer.{TicksAnswer}
 use Rattle.filing.specs.declared.Point.{Point}
 use Rattle.points.specs.declared.PointAnswer.{PointAnswer}
-use Rattle.filing.proofs.TickSizes.{tick-small}
 use Rattle.points.proofs.PlaceCalls.{numbered-small, numbered-degree, name-small, name-degree}
 use Rattle.points.specs.Bits.{exponent, fraction, magnitude, bitsOf, HasBits}
 
@@ -40,7 +42,9 @@ use Rattle.points.specs.Bits.{exponent, fraction, magnitude, bitsOf, Has
 size-is : (a s : ℕ) → 2 ^ s ≤ a → a < 2 ^ suc s → size a ≡ suc s
 size-is a s lo hi = ⊎-elim
     (λ l. omega (arith, size-le a (suc s) hi, l))
-    (λ l. absurd (lt-irrefl a (lt-of-lt-of-le (size-lt a) (omega (arith, pow-mono {i = size a} {j = s} (omega arith), lo)))))
+    (λ l.
+    let more = pow-mono {i = size a} {j = s} (omega arith) in
+    absurd (lt-irrefl a (lt-of-lt-of-le (size-lt a) (omega (arith, more, lo)))))
     (le-or-lt (suc s) (size a))
 
 -- and j more of a·2^j
@@ -79,13 +83,15 @@ module _ (k : ℕ) (l : k ≤ 1074) where
       ∙ ap (λ (z : ℕ). z * 2 ^ rest) e
       ∙ mul-right-comm a d (2 ^ rest)
 
-  bits-at : (x : Float) (s : Bool) (a : ℕ) → HasValue x s a (2 ^ k) → toBits binary64 x ≡ cond s (2 ^ 63) 0 + encoded (a * 2 ^ rest)
+  bits-at : (x : Float) (s : Bool) (a : ℕ) → HasValue x s a (2 ^ k)
+      → toBits binary64 x ≡ cond s (2 ^ 63) 0 + encoded (a * 2 ^ rest)
   unfolding toBits
   bits-at nan s a v = absurd v
   bits-at (inf t) s a v = absurd v
   bits-at (fin t m e) s a v =
       let n : m * up e * 2 ^ 1074 / down e ≡ a * 2 ^ rest =
-      ap (λ (z : ℕ). z / down e) (whole-units (m * up e) a (down e) (v .1)) ∙ mul-div-cancel (a * 2 ^ rest) (down-pos e) in
+      ap (λ (z : ℕ). z / down e) (whole-units (m * up e) a (down e) (v .1))
+      ∙ mul-div-cancel (a * 2 ^ rest) (down-pos e) in
       add-assoc (cond t (2 ^ 63) 0) _ _ ∙ (λ i. cond (v .0 i) (2 ^ 63) 0 + encoded (n i))
 
 -- the fields: a, of suc s binary digits, over 2^(16 + n)
@@ -112,7 +118,8 @@ module _ (n a s : ℕ) (hn : n ≤ 24) (lo : 2 ^ s ≤ a) (hi : a < 2 ^ suc s) (
   leads : 2 ^ 52 ≤ a * 2 ^ (52 - s)
   leads =
       let e : s + (52 - s) ≡ 52 = omega arith in
-      subst (λ (z : ℕ). z ≤ a * 2 ^ (52 - s)) (sym (pow-add 2 s (52 - s)) ∙ ap (λ (z : ℕ). 2 ^ z) e) (mul-le-mul-right (2 ^ (52 - s)) lo)
+      subst (λ (z : ℕ). z ≤ a * 2 ^ (52 - s)) (sym (pow-add 2 s (52 - s)) ∙ ap (λ (z : ℕ). 2 ^ z) e)
+      (mul-le-mul-right (2 ^ (52 - s)) lo)
 
   fields : encoded (a * 2 ^ shift) ≡ exponent n (suc s) * 2 ^ 52 + fraction (suc s) a
   fields =
@@ -135,29 +142,38 @@ magnitude-is n zero hn ha = ap encoded (zero-mul (2 ^ (1074 - (16 + n)))) ∙ en
 magnitude-is n (suc a) hn ha =
     let l = leading (suc a) (omega arith) in
     let s = l .0 in
-    let h : s ≤ 52 = ⊎-elim (λ h. h) (λ h. absurd (omega (arith, pow-mono {i = 53} {j = s} (omega arith), l .1, ha))) (le-or-lt s 52) in
-    fields n (suc a) s hn (l .1) (l .2) h ∙ ap (λ (z : ℕ). exponent n z * 2 ^ 52 + fraction z (suc a)) (sym (size-is (suc a) s (l .1) (l .2)))
+    let h : s ≤ 52 =
+    ⊎-elim (λ h. h) (λ h. absurd (omega (arith, pow-mono {i = 53} {j = s} (omega arith), l .1, ha)))
+    (le-or-lt s 52) in
+    fields n (suc a) s hn (l .1) (l .2) h
+    ∙ ap (λ (z : ℕ). exponent n z * 2 ^ 52 + fraction z (suc a)) (sym (size-is (suc a) s (l .1) (l .2)))
 
 -- the float that is exactly t / (65,536·2^n) has these bits
-pub bits-are : (n : ℕ) (t : ℤ) (r : Float) → n ≤ 24 → natAbs t < 2 ^ 53 → IsFraction r t (65536 * 2 ^ n) → toBits binary64 r ≡ bitsOf n t
+pub bits-are : (n : ℕ) (t : ℤ) (r : Float) → n ≤ 24 → natAbs t < 2 ^ 53 → IsFraction r t (65536 * 2 ^ n)
+    → toBits binary64 r ≡ bitsOf n t
 unfolding bitsOf
 bits-are n t r hn ht f =
-    let v : HasValue r (isNeg t) (natAbs t) (2 ^ (16 + n)) = subst (λ (d : ℕ). HasValue r (isNeg t) (natAbs t) d) (sym (pow-add 2 16 n)) (f .value) in
-    bits-at (16 + n) (omega arith) r (isNeg t) (natAbs t) v ∙ ap (λ (z : ℕ). cond (isNeg t) (2 ^ 63) 0 + z) (magnitude-is n (natAbs t) hn ht)
+    let v : HasValue r (isNeg t) (natAbs t) (2 ^ (16 + n)) =
+    subst (λ (d : ℕ). HasValue r (isNeg t) (natAbs t) d) (sym (pow-add 2 16 n)) (f .value) in
+    bits-at (16 + n) (omega arith) r (isNeg t) (natAbs t) v
+    ∙ ap (λ (z : ℕ). cond (isNeg t) (2 ^ 63) 0 + z) (magnitude-is n (natAbs t) hn ht)
 
 -- ---- drawn points
 
 -- a point of degree n, and t on each axis
-points-bits : {n : ℕ} {c : Coordinates} {q : Ticks} {r : Point} → n ≤ 24 → Small c → AreTicks c q → IsPoint n c r → HasBits n q r
+points-bits : {n : ℕ} {c : Coordinates} {q : Ticks} {r : Point} → n ≤ 24 → Small c → AreTicks c q → IsPoint n c r
+    → HasBits n q r
 points-bits {n} hn s a b = record {
   x = axis (s .x) (a .x) (b .x);
   y = axis (s .y) (a .y) (b .y);
   z = axis (s .z) (a .z) (b .z);
 }
   where
-    axis : {g : Golden} {t : ℤ} {r : Float} → Below (2 ^ 26 + 1) g → IsT g t → IsDrawn n g r → toBits binary64 r ≡ bitsOf n t
+    axis : {g : Golden} {t : ℤ} {r : Float} → Below (2 ^ 26 + 1) g → IsT g t → IsDrawn n g r
+        → toBits binary64 r ≡ bitsOf n t
     axis {g} {t} {r} l h d =
-        bits-are n t r hn (omega (arith, tick-small l h)) (subst (λ (u : ℤ). IsFraction r u (65536 * 2 ^ n)) (floor-one (d .1) h) (d .2))
+        bits-are n t r hn (omega (arith, t-small l h))
+        (subst (λ (u : ℤ). IsFraction r u (65536 * 2 ^ n)) (t-one g (d .1) h) (d .2))
 
 -- a refusal's zeros
 zeros-bits : (n f : ℕ) → HasBits n (noTicks f .at) (noPoint f .at)
@@ -165,7 +181,8 @@ unfolding bitsOf toBits ofBits
 zeros-bits n f = record { x = refl; y = refl; z = refl }
 
 -- the same for answers: f is the refusal of both
-answers-bits : {f n : ℕ} {c : Coordinates} {r : PointAnswer} {q : TicksAnswer} → (f ≡ 0 → n ≤ 24) → (f ≡ 0 → Small c)
+answers-bits : {f n : ℕ} {c : Coordinates} {r : PointAnswer} {q : TicksAnswer}
+    → (f ≡ 0 → n ≤ 24) → (f ≡ 0 → Small c)
     → Answer f (Pointed n c) noPoint r → Answer f (Ticked c) noTicks q → HasBits n (q .at) (r .at)
 answers-bits {f} {n} hn hp a b = ⊎-elim
     (λ z. points-bits (hn z) (hp z) (b .answered z .are) (a .answered z .is))
@@ -173,13 +190,16 @@ answers-bits {f} {n} hn hp a b = ⊎-elim
     (either-way (same f 0))
 
 -- Whatever is handed in, the drawn point has the bits that t on each axis says, and a refusal's point those of zeros.
-pub drawn-bits : (t : TriangleCode) (i : ℕ) (r : PointAnswer) (q : TicksAnswer) → DrawAnswer t i r → TickAnswer t i q → HasBits (degreeOf (t .0)) (q .at) (r .at)
+pub drawn-bits : (t : TriangleCode) (i : ℕ) (r : PointAnswer) (q : TicksAnswer)
+    → DrawAnswer t i r → TickAnswer t i q → HasBits (degreeOf (t .0)) (q .at) (r .at)
 drawn-bits t i r q = answers-bits (numbered-degree t i) (numbered-small t i)
 
-pub name-drawn-bits : (c : CornerName) (r : PointAnswer) (q : TicksAnswer) → NameDrawAnswer c r → NameTickAnswer c q → HasBits (degreeOf (c .0)) (q .at) (r .at)
+pub name-drawn-bits : (c : CornerName) (r : PointAnswer) (q : TicksAnswer)
+    → NameDrawAnswer c r → NameTickAnswer c q → HasBits (degreeOf (c .0)) (q .at) (r .at)
 name-drawn-bits c r q = answers-bits (name-degree c) (name-small c)
 
--- E12 as bits: t of V(41) at degree 0 is -106040, 0, -65536, drawn as -1.6180419921875, 0, -1
-pub e12-bits : (bitsOf 0 (negsuc 106039) ≡ 0xBFF9E38000000000) × (bitsOf 0 (pos 0) ≡ 0) × (bitsOf 0 (negsuc 65535) ≡ 0xBFF0000000000000)
+-- E12 as bits: t of V(41) at degree 0 is -106039, 0, -65536, drawn as -1.6180267333984375, 0, -1
+pub e12-bits : (bitsOf 0 (negsuc 106038) ≡ 0xBFF9E37000000000) × (bitsOf 0 (pos 0) ≡ 0)
+    × (bitsOf 0 (negsuc 65535) ≡ 0xBFF0000000000000)
 unfolding bitsOf size
 e12-bits = (refl, refl, refl)

@@ -1,4 +1,5 @@
--- For every input there is a result that meets the statement of each call for coordinates, and any two that do are equal. Assumes nothing.
+-- For every input there is a result that meets the statement of each call for coordinates, and any two that do are
+-- equal. Assumes nothing.
 use mathlib.Core.Path.{_≡_, _∙_, refl, sym, subst}
 use Prim.Native.Nat.{ℕ, _+_, _*_, _≤_, _^_}
 use native.Mathlib.Omega.{arith}
@@ -6,7 +7,7 @@ use lib.IntN.{ℤ, pos}
 use lib.Ieee.{Float, binary64, div, ofInt}
 use Rattle.golden.specs.declared.Golden.{Golden}
 use Rattle.golden.specs.Numbers.{Below}
-use Rattle.golden.proofs.Floors.{floor-one}
+use Rattle.golden.proofs.Nearest.{t-one, t-small, t-some}
 use Rattle.words.specs.Words.{degreeOf}
 use Rattle.words.specs.declared.TriangleCode.{TriangleCode}
 use Rattle.words.specs.declared.CornerName.{CornerName}
@@ -18,7 +19,9 @@ use Rattle.corners.proofs.OneAnswer.{answer-one, answer-some}
 use Rattle.filing.specs.Coordinates.{exact}
 use Rattle.filing.specs.Fractions.{IsFraction}
 use Rattle.filing.specs.Drawing.{AreTicks, IsDrawn, IsPoint}
-use Rattle.points.specs.Answers.{Placed, Ticked, Pointed, noCoordinates, noTicks, noPoint, PlaceAnswer, NamePlaceAnswer, TickAnswer, NameTickAnswer, DrawAnswer, NameDrawAnswer}
+use Rattle.points.specs.Answers.{Placed, Ticked, Pointed, noCoordinates, noTicks, noPoint}
+use Rattle.points.specs.Answers.{PlaceAnswer, NamePlaceAnswer, TickAnswer, NameTickAnswer, DrawAnswer}
+use Rattle.points.specs.Answers.{NameDrawAnswer}
 use Rattle.filing.specs.Means.Places.{Twelve, Small}
 use Rattle.filing.specs.declared.Coordinates.{Coordinates}
 use Rattle.points.specs.declared.CoordinatesAnswer.{CoordinatesAnswer}
@@ -27,7 +30,6 @@ use Rattle.points.specs.declared.TicksAnswer.{TicksAnswer}
 use Rattle.filing.specs.declared.Point.{Point}
 use Rattle.points.specs.declared.PointAnswer.{PointAnswer}
 use Rattle.filing.proofs.Weighted.{exact-small}
-use Rattle.filing.proofs.TickSizes.{tick-some, tick-small}
 use Rattle.filing.proofs.ExactFractions.{one-fraction, divisor-pos, divided}
 use Rattle.points.proofs.PlaceCalls.{numbered-twelve, numbered-degree, name-twelve, name-degree}
 
@@ -39,59 +41,78 @@ placed-one x y = λ i. record { refusal = (x .number ∙ sym (y .number)) i; at 
 placed-some : (c : Coordinates) → (r : CoordinatesAnswer) × Placed c r
 placed-some c = (record { refusal = 0; at = c }, record { number = refl; is = refl })
 
-pub place-one : (t : TriangleCode) (i : ℕ) (r r′ : CoordinatesAnswer) → PlaceAnswer t i r → PlaceAnswer t i r′ → r ≡ r′
+pub place-one : (t : TriangleCode) (i : ℕ) (r r′ : CoordinatesAnswer)
+    → PlaceAnswer t i r → PlaceAnswer t i r′ → r ≡ r′
 place-one t i r r′ = answer-one (λ z x y. placed-one x y)
 
 pub place-some : (t : TriangleCode) (i : ℕ) → (r : CoordinatesAnswer) × PlaceAnswer t i r
-place-some t i = answer-some (refuseNumbered t i) (Placed (exact (corner t i))) noCoordinates (λ z. placed-some (exact (corner t i)))
+place-some t i =
+    let c = exact (corner t i) in
+    answer-some (refuseNumbered t i) (Placed c) noCoordinates (λ z. placed-some c)
 
-pub name-place-one : (q : CornerName) (r r′ : CoordinatesAnswer) → NamePlaceAnswer q r → NamePlaceAnswer q r′ → r ≡ r′
+pub name-place-one : (q : CornerName) (r r′ : CoordinatesAnswer)
+    → NamePlaceAnswer q r → NamePlaceAnswer q r′ → r ≡ r′
 name-place-one q r r′ = answer-one (λ z x y. placed-one x y)
 
 pub name-place-some : (q : CornerName) → (r : CoordinatesAnswer) × NamePlaceAnswer q r
-name-place-some q = answer-some (checkName q) (Placed (exact (named q))) noCoordinates (λ z. placed-some (exact (named q)))
+name-place-some q =
+    let c = exact (named q) in
+    answer-some (checkName q) (Placed c) noCoordinates (λ z. placed-some c)
 
 -- ---- t
 
-ticks-one : {c : Coordinates} {r r′ : Ticks} → AreTicks c r → AreTicks c r′ → r ≡ r′
-ticks-one a b = λ i. record { x = floor-one (a .x) (b .x) i; y = floor-one (a .y) (b .y) i; z = floor-one (a .z) (b .z) i }
+pub ticks-one : {c : Coordinates} {r r′ : Ticks} → AreTicks c r → AreTicks c r′ → r ≡ r′
+ticks-one {c} a b = λ i. record {
+  x = t-one (c .x) (a .x) (b .x) i;
+  y = t-one (c .y) (a .y) (b .y) i;
+  z = t-one (c .z) (a .z) (b .z) i;
+}
 
-ticks-some : (c : Coordinates) → Small c → (r : Ticks) × AreTicks c r
-ticks-some c s =
-    let a = tick-some (c .x) (s .x) in
-    let b = tick-some (c .y) (s .y) in
-    let d = tick-some (c .z) (s .z) in
+ticks-some : (c : Coordinates) → (r : Ticks) × AreTicks c r
+ticks-some c =
+    let a = t-some (c .x) in
+    let b = t-some (c .y) in
+    let d = t-some (c .z) in
     (record { x = a .0; y = b .0; z = d .0 }, record { x = a .1; y = b .1; z = d .1 })
 
 ticked-one : {c : Coordinates} {r r′ : TicksAnswer} → Ticked c r → Ticked c r′ → r ≡ r′
 ticked-one x y = λ i. record { refusal = (x .number ∙ sym (y .number)) i; at = ticks-one (x .are) (y .are) i }
 
-ticked-some : (p : Weights) → Twelve p → (r : TicksAnswer) × Ticked (exact p) r
-ticked-some p t = let a = ticks-some (exact p) (exact-small t) in (record { refusal = 0; at = a .0 }, record { number = refl; are = a .1 })
+ticked-some : (c : Coordinates) → (r : TicksAnswer) × Ticked c r
+ticked-some c =
+    let a = ticks-some c in
+    (record { refusal = 0; at = a .0 }, record { number = refl; are = a .1 })
 
-pub tick-answer-one : (t : TriangleCode) (i : ℕ) (r r′ : TicksAnswer) → TickAnswer t i r → TickAnswer t i r′ → r ≡ r′
+pub tick-answer-one : (t : TriangleCode) (i : ℕ) (r r′ : TicksAnswer)
+    → TickAnswer t i r → TickAnswer t i r′ → r ≡ r′
 tick-answer-one t i r r′ = answer-one (λ z x y. ticked-one x y)
 
 pub tick-answer-some : (t : TriangleCode) (i : ℕ) → (r : TicksAnswer) × TickAnswer t i r
-tick-answer-some t i = answer-some (refuseNumbered t i) (Ticked (exact (corner t i))) noTicks (λ z. ticked-some (corner t i) (numbered-twelve t i z))
+tick-answer-some t i =
+    let c = exact (corner t i) in
+    answer-some (refuseNumbered t i) (Ticked c) noTicks (λ z. ticked-some c)
 
-pub name-tick-one : (q : CornerName) (r r′ : TicksAnswer) → NameTickAnswer q r → NameTickAnswer q r′ → r ≡ r′
+pub name-tick-one : (q : CornerName) (r r′ : TicksAnswer)
+    → NameTickAnswer q r → NameTickAnswer q r′ → r ≡ r′
 name-tick-one q r r′ = answer-one (λ z x y. ticked-one x y)
 
 pub name-tick-some : (q : CornerName) → (r : TicksAnswer) × NameTickAnswer q r
-name-tick-some q = answer-some (checkName q) (Ticked (exact (named q))) noTicks (λ z. ticked-some (named q) (name-twelve q z))
+name-tick-some q =
+    let c = exact (named q) in
+    answer-some (checkName q) (Ticked c) noTicks (λ z. ticked-some c)
 
 -- ---- drawn points
 
 drawn-one : (n : ℕ) (a : Golden) {r r′ : Float} → IsDrawn n a r → IsDrawn n a r′ → r ≡ r′
 drawn-one n a {r} x y =
-    let e : x .0 ≡ y .0 = floor-one (x .1) (y .1) in
+    let e : x .0 ≡ y .0 = t-one a (x .1) (y .1) in
     one-fraction (divisor-pos n) (subst (λ (t : ℤ). IsFraction r t (65536 * 2 ^ n)) e (x .2)) (y .2)
 
 drawn-some : (n : ℕ) (a : Golden) → n ≤ 24 → Below (2 ^ 26 + 1) a → (r : Float) × IsDrawn n a r
 drawn-some n a l b =
-    let t = tick-some a b in
-    (div binary64 (ofInt binary64 (t .0)) (ofInt binary64 (pos (65536 * 2 ^ n))), (t .0, t .1, divided (t .0) n (omega (arith, tick-small b (t .1))) l))
+    let t = t-some a in
+    let r = div binary64 (ofInt binary64 (t .0)) (ofInt binary64 (pos (65536 * 2 ^ n))) in
+    (r, (t .0, t .1, divided (t .0) n (omega (arith, t-small b (t .1))) l))
 
 point-one : {n : ℕ} {c : Coordinates} {r r′ : Point} → IsPoint n c r → IsPoint n c r′ → r ≡ r′
 point-one {n} {c} a b = λ i. record {
@@ -111,9 +132,12 @@ pointed-one : {n : ℕ} {c : Coordinates} {r r′ : PointAnswer} → Pointed n c
 pointed-one x y = λ i. record { refusal = (x .number ∙ sym (y .number)) i; at = point-one (x .is) (y .is) i }
 
 pointed-some : (n : ℕ) (p : Weights) → n ≤ 24 → Twelve p → (r : PointAnswer) × Pointed n (exact p) r
-pointed-some n p l t = let a = point-some n (exact p) l (exact-small t) in (record { refusal = 0; at = a .0 }, record { number = refl; is = a .1 })
+pointed-some n p l t =
+    let a = point-some n (exact p) l (exact-small t) in
+    (record { refusal = 0; at = a .0 }, record { number = refl; is = a .1 })
 
-pub draw-one : (t : TriangleCode) (i : ℕ) (r r′ : PointAnswer) → DrawAnswer t i r → DrawAnswer t i r′ → r ≡ r′
+pub draw-one : (t : TriangleCode) (i : ℕ) (r r′ : PointAnswer)
+    → DrawAnswer t i r → DrawAnswer t i r′ → r ≡ r′
 draw-one t i r r′ = answer-one (λ z x y. pointed-one x y)
 
 pub draw-some : (t : TriangleCode) (i : ℕ) → (r : PointAnswer) × DrawAnswer t i r
@@ -121,7 +145,8 @@ draw-some t i =
     answer-some (refuseNumbered t i) (Pointed (degreeOf (t .0)) (exact (corner t i))) noPoint
     (λ z. pointed-some (degreeOf (t .0)) (corner t i) (numbered-degree t i z) (numbered-twelve t i z))
 
-pub name-draw-one : (q : CornerName) (r r′ : PointAnswer) → NameDrawAnswer q r → NameDrawAnswer q r′ → r ≡ r′
+pub name-draw-one : (q : CornerName) (r r′ : PointAnswer)
+    → NameDrawAnswer q r → NameDrawAnswer q r′ → r ≡ r′
 name-draw-one q r r′ = answer-one (λ z x y. pointed-one x y)
 
 pub name-draw-some : (q : CornerName) → (r : PointAnswer) × NameDrawAnswer q r

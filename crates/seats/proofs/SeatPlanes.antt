@@ -12,7 +12,7 @@ use Rattle.golden.proofs.RingSolver.{solve}
 use Rattle.golden.proofs.GoldenRing.{φ-ring, of-mulφ}
 use Rattle.net.specs.Sides.{nth, OneToThree, IsSide, cornerVertex}
 use Rattle.net.proofs.Table.{sound, below, threes, less, most, no, same, _and_}
-use Rattle.filing.specs.Coordinates.{coordinates}
+use Rattle.filing.specs.Coordinates.{coordinates, negated}
 use Rattle.filing.specs.Holding.{along, dot, three}
 use Rattle.filing.specs.declared.Coordinates.{Coordinates}
 use Rattle.filing.specs.declared.Direction.{Direction}
@@ -29,9 +29,6 @@ use Rattle.seats.specs.Means.Octants.{thirdAt, seat, seatOf}
 abbrev dot3 : (a b c : ℕ) → Coordinates → Golden
 dot3 a b c v = w a *φ v .x +φ w b *φ v .y +φ w c *φ v .z
 
-abbrev opposite : Coordinates → Coordinates
-opposite v = coordinates (negφ (v .x)) (negφ (v .y)) (negφ (v .z))
-
 -- the axes one further round
 abbrev turned : Coordinates → Coordinates
 turned v = coordinates (v .z) (v .x) (v .y)
@@ -40,7 +37,7 @@ abbrev leanPlane : Coordinates
 leanPlane = coordinates (negφ phi) (w 1) (w 1 +φ phi)
 
 abbrev beyondPlane : (role : ℕ) → Coordinates
-beyondPlane i = nth i (coordinates phi (negφ (w 1)) (w 1 +φ phi)) (opposite leanPlane) (coordinates (w 0) (phi +φ
+beyondPlane i = nth i (coordinates phi (negφ (w 1)) (w 1 +φ phi)) (negated leanPlane) (coordinates (w 0) (phi +φ
     phi) (w 0))
 
 abbrev planeOf : (kind role : ℕ) → Coordinates
@@ -56,8 +53,8 @@ module _ (a b c : ℕ) where
       (var 1 ⊗ var 3 ⊕ var 2 ⊗ var 4 ⊕ var 0 ⊗ var 5)
       (var 0 ⊗ var 5 ⊕ var 1 ⊗ var 3 ⊕ var 2 ⊗ var 4) refl
 
-  dot-opposite : (v : Coordinates) → negφ (dot3 a b c v) ≡ dot3 a b c (opposite v)
-  dot-opposite v =
+  dot-negated : (v : Coordinates) → negφ (dot3 a b c v) ≡ dot3 a b c (negated v)
+  dot-negated v =
       solve φ-ring (w a ∷ w b ∷ w c ∷ v .x ∷ v .y ∷ v .z ∷ [])
       (⊖ (var 0 ⊗ var 3 ⊕ var 1 ⊗ var 4 ⊕ var 2 ⊗ var 5))
       (var 0 ⊗ ⊖ (var 3) ⊕ var 1 ⊗ ⊖ (var 4) ⊕ var 2 ⊗ ⊖ (var 5)) refl
@@ -81,7 +78,7 @@ module _ (a b c : ℕ) where
   dot-beyond : (i : ℕ) → nth i (outer a b c) (negφ (lean a b c)) (double b) ≡ dot3 a b c (beyondPlane i)
   dot-beyond zero = dot-double
   dot-beyond (suc zero) = dot-outer
-  dot-beyond (suc (suc zero)) = ap negφ dot-lean ∙ dot-opposite leanPlane
+  dot-beyond (suc (suc zero)) = ap negφ dot-lean ∙ dot-negated leanPlane
   dot-beyond (suc (suc (suc i))) = dot-double
 
 -- twice round
@@ -144,13 +141,15 @@ planes-are : (q : ℕ) → q < 2 → (r : ℕ) → r < 2 → (s : ℕ) → s < 2
 unfolding sideAt firstAt secondAt cornerVertex _+φ_ negφ _*φ_
 planes-are q hq r hr s hs k hk i hi =
     ᵛ-same (plane (sideAt (seat q r s k)) i) (signedBy q r s (planeOf k (roleAt (seat q r s k) i)))
-    (sound (below 2 λ q. below 2 λ r. below 2 λ s. below 4 λ k. threes λ i. sameᵛ (plane (sideAt (seat q r s k)) i)
+    (sound
+    (below 2 λ q. below 2 λ r. below 2 λ s. below 4 λ k. threes λ i.
+    sameᵛ (plane (sideAt (seat q r s k)) i)
     (signedBy q r s (planeOf k (roleAt (seat q r s k) i)))) refl q hq r hr s hs k hk i hi)
 
 abbrev IsSeat : (j : ℕ) → Type 0
 IsSeat j =
-    (4 ≤ sideAt j) × ((sideAt j < 24) × ((1 ≤ firstAt j) × ((firstAt j ≤ 3) × ((1 ≤ secondAt j) × ((secondAt j ≤ 3)
-    × ((firstAt j ≡ secondAt j → ⊥)))))))
+    (4 ≤ sideAt j) × ((sideAt j < 24) × ((1 ≤ firstAt j) × ((firstAt j ≤ 3)
+    × ((1 ≤ secondAt j) × ((secondAt j ≤ 3) × ((firstAt j ≡ secondAt j → ⊥)))))))
 
 seats-are : (q : ℕ) → q < 2 → (r : ℕ) → r < 2 → (s : ℕ) → s < 2 → (k : ℕ) → k < 4
     → IsSeat (seat q r s k)

@@ -5,14 +5,15 @@ use native.Mathlib.Nat.{mul-add-mod-self-right}
 use native.Mathlib.Omega.{arith}
 use borrow.Author.Needs.{needs}
 use borrow.Author.Tests.{leb-true, leb-false}
-use Rattle.golden.proofs.Floors.{top, bottom}
+use Rattle.golden.proofs.Multiples.{top, bottom, half}
 use Rattle.golden.proofs.is_clear.Statement.{statement}
 use Rattle.golden.proofs.is_clear.Tie as tie
 
-rest-is : (m : ℕ) → m % bottom * top % bottom ≡ m * top % bottom
+rest-is : (m : ℕ) → (m % bottom * top + half) % bottom ≡ (m * top + half) % bottom
 rest-is m =
-    let parts : m * top ≡ m / bottom * top * bottom + m % bottom * top = omega arith in
-    sym (ap (λ (x : ℕ). x % bottom) parts ∙ mul-add-mod-self-right (m / bottom * top) bottom (m % bottom * top))
+    let rest = m % bottom * top + half in
+    let parts : m * top + half ≡ m / bottom * top * bottom + rest = omega arith in
+    sym (ap (λ (x : ℕ). x % bottom) parts ∙ mul-add-mod-self-right (m / bottom * top) bottom rest)
 
 mul-result : tie.Need-mul-result
 mul-result c = search needs
@@ -20,9 +21,12 @@ mul-result c = search needs
 add-result : tie.Need-add-result
 add-result c = search needs
 
+add-result-2 : tie.Need-add-result-2
+add-result-2 c = search needs
+
 returns : tie.Need-returns
 returns c =
-    let rest = c .args .m % bottom * top % bottom in
+    let rest = (c .args .m % bottom * top + half) % bottom in
     let same = rest-is (c .args .m) in
     record {
       holds = λ e. omega (arith, same, leb-true (rest + 2048) bottom e);
@@ -30,4 +34,4 @@ returns c =
     }
 
 pub is-clear-spec : {M : Type 1} → statement M
-is-clear-spec = tie.close (tie.spec mul-result add-result returns)
+is-clear-spec = tie.close (tie.spec mul-result add-result add-result-2 returns)

@@ -1,4 +1,4 @@
--- Each coordinate is t over 65,536·2^n; t has at most 53 bits (TickSizes). Assumes nothing.
+-- Each coordinate is t over 65,536·2^n; t has at most 53 bits. Assumes nothing.
 use borrow.Author.Needs.{needs}
 use Prim.Native.Nat.{_+_, _<_, _^_}
 use native.Mathlib.Omega.{arith}
@@ -7,13 +7,13 @@ use Rattle.golden.specs.declared.Golden.{Golden}
 use Rattle.golden.specs.Numbers.{Below}
 use Rattle.golden.specs.Drawing.{IsT}
 use Rattle.golden.proofs.Machine.{again, again-is}
-use Rattle.filing.proofs.TickSizes.{tick-small}
+use Rattle.golden.proofs.Nearest.{t-small}
 use Rattle.filing.proofs.drawn.point_at.Statement.{statement}
 use Rattle.filing.proofs.drawn.point_at.Tie as tie
 
 -- t as the machine reads it back
 again-small : {x : Golden} {t : ℤ} → Below (2 ^ 26 + 1) x → IsT x t → natAbs (again t) < 2 ^ 53
-again-small {x} {t} b h = let s = tick-small b h in rw (again-is t (omega (arith, s))) (omega (arith, s))
+again-small {x} {t} b h = let s = t-small b h in rw (again-is t (omega (arith, s))) (omega (arith, s))
 
 ticks-at-requires : tie.Need-ticks-at-requires
 ticks-at-requires c κs = search needs

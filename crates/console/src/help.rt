@@ -3,7 +3,7 @@ use crate::arguments;
 ghost use Prim.Native.Nat.{_≤_};
 ghost use lib.ListN.{length};
 
-const HELP: [u8; 3465] = *b"The grid of the globe: one call to a line, and one line for its answer.
+const HELP: [u8; 3496] = *b"The grid of the globe: one call to a line, and one line for its answer.
 
   WORD     0x and 1 to 16 hexadecimal digits
   CODE     a triangle code, as 10003 for side 100 and digits 0 and 3; or a WORD
@@ -49,23 +49,23 @@ exact CODE CORNER                   u and v of its exact coordinates u + v phi o
 name-exact NAME                     the same
   name-exact 0x2000000000000003     x 0 1 y 0 0 z 1 0
 
-t CODE CORNER                       the whole number t on each axis
-  t 1001 2                          x 0 y 0 z 212078
+t CODE CORNER                       the whole number nearest to 65536 (u + v phi) on each axis
+  t 1001 2                          x 0 y 0 z 212079
 
 name-t NAME                         the same
-  name-t 0x7000000000000002         x -106040 y 0 z -65536
+  name-t 0x7000000000000002         x -106039 y 0 z -65536
 
 drawn CODE CORNER                   the drawn coordinates, exactly
-  drawn 1001 2                      x 0 y 0 z 1.6180267333984375
+  drawn 1001 2                      x 0 y 0 z 1.61803436279296875
 
 name-drawn NAME                     the same
-  name-drawn 0x7000000000000002     x -1.6180419921875 y 0 z -1
+  name-drawn 0x7000000000000002     x -1.6180267333984375 y 0 z -1
 
 bits CODE CORNER                    the bits of the drawn coordinates, each an f64
-  bits 1001 2                       x 0x0000000000000000 y 0x0000000000000000 z 0x3FF9E37000000000
+  bits 1001 2                       x 0x0000000000000000 y 0x0000000000000000 z 0x3FF9E37800000000
 
 name-bits NAME                      the same
-  name-bits 0x7000000000000002      x 0xBFF9E38000000000 y 0x0000000000000000 z 0xBFF0000000000000
+  name-bits 0x7000000000000002      x 0xBFF9E37000000000 y 0x0000000000000000 z 0xBFF0000000000000
 
 ring NAME [PLACES]                  the triangles round a corner, anticlockwise
   ring 0x2000000000000003           5: 100 0x2000000000000000, 101 0x2800000000000000, 111 ..

@@ -75,9 +75,12 @@ module _ (s : ℕ) (h : IsSide s) (p : Point) where
   unfolding weightAt
   far-weight v l =
       let at = far-vertex s h v l in
-      omega
-      (arith, same-load (at 1 (omega arith)) (p .w1), same-load (at 2 (omega arith)) (p .w2),
-      same-load (at 3 (omega arith)) (p .w3))
+      omega (
+        arith,
+        same-load (at 1 (omega arith)) (p .w1),
+        same-load (at 2 (omega arith)) (p .w2),
+        same-load (at 3 (omega arith)) (p .w3),
+      )
 
   far-spread : Facing (spread s p) (spread (farSide s) (turnPoint 1 p))
   far-spread v l =

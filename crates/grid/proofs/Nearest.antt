@@ -1,10 +1,11 @@
 -- t and drawn coordinates are as specs/Nearest.antt says. Assumes nothing.
 use mathlib.Core.Path.{_≡_, _∙_, refl, sym, ap, subst}
 use mathlib.Core.List.{[], _∷_}
+use mathlib.Core.Logic.{⊎-elim}
 use Prim.Native.Nat.{ℕ, zero, suc, _+_, _-_, _*_, _^_, _≤_, _<_}
 use native.Mathlib.Omega.{arith}
 use lib.IntN.{ℤ, pos, negsuc, negℤ, natAbs, _+ℤ_, _*ℤ_, *ℤ-zero}
-use lib.Pow.{shl-lt}
+use lib.Pow.{pow-lt, shl-lt}
 use lib.Ieee.{Float, binary64, size, toBits}
 use lib.Ieee.Digits.{size-le, size-lt}
 use Rattle.golden.specs.declared.Golden.{Golden}
@@ -13,17 +14,22 @@ use Rattle.golden.specs.Order.{NonNeg}
 use Rattle.golden.proofs.Polynomials.{_⊕_, lit, var}
 use Rattle.golden.proofs.RingSolver.{solve}
 use Rattle.golden.proofs.IntegerSolver.{ℤ-ring}
+use Rattle.golden.proofs.IntegerOrder.{le-or-lt}
 use Rattle.golden.proofs.Magnitudes.{abs-neg, cancelℤ}
 use Rattle.golden.proofs.GoldenRing.{φ-path, scale}
 use Rattle.golden.proofs.GoldenOrder.{antisym}
 use Rattle.golden.proofs.Nearest.{no-half, t-neg, t-one, t-small, t-some}
 use Rattle.words.specs.Words.{cornerNumber, degreeOf}
+use Rattle.words.specs.Refusals.{IsCode}
+use Rattle.words.specs.declared.TriangleCode.{TriangleCode}
 use Rattle.words.specs.declared.CornerName.{CornerName}
+use Rattle.net.specs.Sides.{OneToThree}
+use Rattle.net.specs.Division.{sum}
 use Rattle.net.specs.Corners.{codeInside, corner, named}
 use Rattle.net.specs.Refusals.{checkName}
 use Rattle.net.specs.Means.Seams.{flip}
 use Rattle.net.proofs.Canonical.{name-means, name-passes-all}
-use Rattle.net.proofs.Demand3.{one-name-each}
+use Rattle.net.proofs.Demand3.{add-up, one-name-each}
 use Rattle.net.proofs.Flips.{flip-three}
 use Rattle.filing.specs.Coordinates.{exact, negated}
 use Rattle.filing.specs.Drawing.{AreTicks, IsDrawn, IsPoint}
@@ -33,7 +39,9 @@ use Rattle.filing.specs.declared.Coordinates.{Coordinates}
 use Rattle.filing.specs.declared.Point.{Point}
 use Rattle.filing.specs.declared.Ticks.{Ticks}
 use Rattle.filing.proofs.FarCorners.{opposite-code, opposite-exact, oppositeOf}
+use Rattle.filing.proofs.OnePoint.{same-place}
 use Rattle.corners.specs.Answers.{Answer}
+use Rattle.corners.proofs.Refused.{numbered}
 use Rattle.points.specs.Answers.{Pointed, Ticked, noPoint, noTicks}
 use Rattle.points.specs.Bits.{bitsOf, exponent, fraction, magnitude}
 use Rattle.points.specs.declared.PointAnswer.{PointAnswer}
@@ -79,17 +87,30 @@ name-some p z =
     let w = name-passes-all (y .1) in
     (y .0, w .0, w .1, ap exact (y .1 .there) ∙ opposite-exact (x .code) i (x .number))
 
+-- a corner whose coordinates are the negated ones is of the same degree: the weights add to 2^n
+same-degree : {m n : ℕ} {t u : TriangleCode} → IsCode m t → IsCode n u → (i j : ℕ) → OneToThree i → OneToThree j
+    → exact (corner u j) ≡ negated (exact (corner t i)) → n ≡ m
+same-degree {m} {n} {t} {u} c d i j h k e =
+    let o = oppositeOf t in
+    let l = flip-three 1 (omega arith) i h in
+    let p = same-place d (opposite-code c) j (flip 1 i) k l .0 (e ∙ sym (opposite-exact c i h)) in
+    let q : 2 ^ n ≡ 2 ^ m = sym (add-up n u j d) ∙ ap sum p ∙ add-up m o (flip 1 i) (opposite-code c) in
+    ⊎-elim (λ a. ⊎-elim (λ b. omega arith) (λ b. absurd (omega (arith, q, pow-lt b))) (le-or-lt m n))
+    (λ a. absurd (omega (arith, q, pow-lt a))) (le-or-lt n m)
+
 ticks-turned : (c : Coordinates) {r : Ticks} → AreTicks c r → AreTicks (negated c) (negative r)
 ticks-turned c a = record { x = t-neg (c .x) (a .x); y = t-neg (c .y) (a .y); z = t-neg (c .z) (a .z) }
+
+ticked : {f : ℕ} {c : Coordinates} {r : TicksAnswer} → Answer f (Ticked c) noTicks r → r .refusal ≡ 0
+    → AreTicks c (r .at)
+ticked a y = good (λ (r : TicksAnswer). r .refusal) refl (λ r g. g .number) a y .are
 
 -- two answers at c and d, which are opposite
 ticks-opposite : {f g : ℕ} {c d : Coordinates} {r s : TicksAnswer} → d ≡ negated c
     → Answer f (Ticked c) noTicks r → r .refusal ≡ 0 → Answer g (Ticked d) noTicks s → s .refusal ≡ 0
     → s .at ≡ negative (r .at)
 ticks-opposite {c = c} {s = s} e a y b z =
-    let here = good (λ (r : TicksAnswer). r .refusal) refl (λ r g. g .number) a y .are in
-    let there = good (λ (r : TicksAnswer). r .refusal) refl (λ r g. g .number) b z .are in
-    ticks-one (subst (λ (d : Coordinates). AreTicks d (s .at)) e there) (ticks-turned c here)
+    ticks-one (subst (λ (d : Coordinates). AreTicks d (s .at)) e (ticked b z)) (ticks-turned c (ticked a y))
 
 -- ---- their bits
 
@@ -129,15 +150,22 @@ axis {n} g {a} {b} l w d f =
     (bits-are n (negℤ t) b l (omega (arith, small, abs-neg t))
     (subst (λ (u : ℤ). IsFraction b u (65536 * 2 ^ n)) e (f .2)))
 
+-- an answer whose number is 0
+module _ {f n : ℕ} {c : Coordinates} {r : PointAnswer} (a : Answer f (Pointed n c) noPoint r) (y : r .refusal ≡ 0) where
+  passed-point : f ≡ 0
+  passed-point = passed (λ (r : PointAnswer). r .refusal) refl (λ r g. g .number) a y
+
+  pointed : IsPoint n c (r .at)
+  pointed = good (λ (r : PointAnswer). r .refusal) refl (λ r g. g .number) a y .is
+
 points-opposite : {f g n m : ℕ} {c d : Coordinates} {r s : PointAnswer}
     → (f ≡ 0 → n ≤ 24) → (f ≡ 0 → Small c) → m ≡ n → d ≡ negated c
     → Answer f (Pointed n c) noPoint r → r .refusal ≡ 0 → Answer g (Pointed m d) noPoint s → s .refusal ≡ 0
     → OpposedPoints (r .at) (s .at)
 points-opposite {n = n} {c = c} {s = s} l w e h a y b z =
-    let none = passed (λ (r : PointAnswer). r .refusal) refl (λ r g. g .number) a y in
-    let here = good (λ (r : PointAnswer). r .refusal) refl (λ r g. g .number) a y .is in
-    let got = good (λ (r : PointAnswer). r .refusal) refl (λ r g. g .number) b z .is in
-    let there : IsPoint n (negated c) (s .at) = rw (sym e) (rw (sym h) got) in
+    let none = passed-point a y in
+    let here = pointed a y in
+    let there : IsPoint n (negated c) (s .at) = rw (sym e) (rw (sym h) (pointed b z)) in
     record {
       x = axis (c .x) (l none) (w none .x) (here .x) (there .x);
       y = axis (c .y) (l none) (w none .y) (here .y) (there .y);
@@ -156,6 +184,14 @@ nearest = record {
   name-some = name-some;
   corners = λ t u i j r s. ticks-opposite;
   names = λ p q r s. ticks-opposite;
-  drawn = λ t u i j r s. points-opposite (numbered-degree t i) (numbered-small t i);
-  drawn-names = λ p q r s. points-opposite (name-degree p) (name-small p);
+  drawn = λ t u i j r s e a y b z.
+      let c = numbered t i (passed-point a y) in
+      let d = numbered u j (passed-point b z) in
+      let same = same-degree (c .0) (d .0) i j (c .1) (d .1) e in
+      points-opposite (numbered-degree t i) (numbered-small t i) same e a y b z;
+  drawn-names = λ p q r s e a y b z.
+      let c = name-means p .0 (passed-point a y) .1 in
+      let d = name-means q .0 (passed-point b z) .1 in
+      let same = same-degree (c .code) (d .code) _ _ (c .number) (d .number) e in
+      points-opposite (name-degree p) (name-small p) same e a y b z;
 }

@@ -79,11 +79,10 @@ pub record Nearest : Type 0 where
       → NameTickAnswer p r → r .refusal ≡ 0 → NameTickAnswer q s → s .refusal ≡ 0
       → s .at ≡ negative (r .at)
   -- and it is drawn opposite: "opposite points of the globe aren't drawn opposite" no more
-  pub drawn : (t u : TriangleCode) (i j : ℕ) (r s : PointAnswer) → degreeOf (u .0) ≡ degreeOf (t .0)
+  pub drawn : (t u : TriangleCode) (i j : ℕ) (r s : PointAnswer)
       → exact (corner u j) ≡ negated (exact (corner t i))
       → DrawAnswer t i r → r .refusal ≡ 0 → DrawAnswer u j s → s .refusal ≡ 0
       → OpposedPoints (r .at) (s .at)
-  pub drawn-names : (p q : CornerName) (r s : PointAnswer) → degreeOf (q .0) ≡ degreeOf (p .0)
-      → exact (named q) ≡ negated (exact (named p))
+  pub drawn-names : (p q : CornerName) (r s : PointAnswer) → exact (named q) ≡ negated (exact (named p))
       → NameDrawAnswer p r → r .refusal ≡ 0 → NameDrawAnswer q s → s .refusal ≡ 0
       → OpposedPoints (r .at) (s .at)

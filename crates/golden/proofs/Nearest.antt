@@ -229,7 +229,7 @@ nearest-sized x =
     (λ l. (x .u +ℤ negℤ n, nearest-down x (m .2) l, omega (arith, m .1, abs-add (x .u) (negℤ n), abs-neg n)))
     (le-or-ltℤ (pos 0) (x .v))
 
-nearest-small : {x : Golden} {t : ℤ} → IsNearest x t → Sized x t
+pub nearest-small : {x : Golden} {t : ℤ} → IsNearest x t → Sized x t
 nearest-small {x} h = let k = nearest-sized x in subst (Sized x) (nearest-one (k .1) h) (k .2)
 
 -- ---- t

@@ -102,7 +102,7 @@ fn is_clear(m: u64) -> bool
 // The whole number nearest to mφ: by the fraction where m is clear, and else by the sign of 2mφ - (2q + 1).
 fn nearest_multiple(m: u64) -> u64
     requires { ⌜ m ≤ 2 ^ 42 ⌝ }
-    ensures { λ r. ⌜ IsNearest (golden (pos 0) (pos m)) (pos r) × (r ≤ 2 ^ 43) ⌝ }
+    ensures { λ r. ⌜ IsNearest (golden (pos 0) (pos m)) (pos r) ⌝ }
 {
     let q = times_fraction(m);
     if is_clear(m) {

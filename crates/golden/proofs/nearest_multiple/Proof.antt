@@ -40,7 +40,7 @@ returns : tie.Need-returns
 returns c =
     let a = c .before .before in
     let clear = c .before .is-clear .ensures .holds (c .if1 .taken) in
-    (clear-nearest (m a) (q a) (m-small a) (a .times-fraction .ensures) clear, omega (arith, q-small a))
+    clear-nearest (m a) (q a) (m-small a) (a .times-fraction .ensures) clear
 
 mul-signed : tie.Need-mul-signed
 mul-signed c = omega (arith, q-small (c .before .before))
@@ -96,17 +96,13 @@ add-result c = omega (arith, q-small (b (c .before .before)))
 
 returns-2 : tie.Need-returns-2
 returns-2 c =
-    let a = b (c .before .before) in (
-      beyond-next (m a) (q a) (m-small a) (a .times-fraction .ensures) (decides (c .before) .holds (c .if2 .taken)),
-      omega (arith, q-small a),
-    )
+    let a = b (c .before .before) in
+    beyond-next (m a) (q a) (m-small a) (a .times-fraction .ensures) (decides (c .before) .holds (c .if2 .taken))
 
 returns-3 : tie.Need-returns-3
 returns-3 c =
-    let a = b (c .before .before) in (
-      not-beyond (m a) (q a) (m-small a) (a .times-fraction .ensures) (decides (c .before) .fails (c .if2 .left)),
-      omega (arith, q-small a),
-    )
+    let a = b (c .before .before) in
+    not-beyond (m a) (q a) (m-small a) (a .times-fraction .ensures) (decides (c .before) .fails (c .if2 .left))
 
 pub nearest-multiple-spec : {M : Type 1} → statement M
 nearest-multiple-spec =

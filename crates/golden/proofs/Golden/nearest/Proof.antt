@@ -8,7 +8,7 @@ use Rattle.golden.specs.Numbers.{golden}
 use Rattle.golden.specs.Drawing.{IsNearest}
 use Rattle.golden.proofs.Magnitudes.{abs-add, abs-neg}
 use Rattle.golden.proofs.Machine.{again, again-is, again-of, below, not-below, size-is}
-use Rattle.golden.proofs.Nearest.{nearest-up, nearest-down}
+use Rattle.golden.proofs.Nearest.{nearest-down, nearest-small, nearest-up}
 use Rattle.golden.proofs.Golden.nearest.Statement.{statement}
 use Rattle.golden.proofs.Golden.nearest.Tie as tie
 
@@ -21,8 +21,12 @@ m-is c = size-is (c .before .before .args .self .v) (omega arith) (c .magnitude 
 nearest-multiple-requires : tie.Need-nearest-multiple-requires
 nearest-multiple-requires c κs = rw (m-is c) (omega arith)
 
+-- the nearest to |v|φ
+small : (c : tie.After-nearest-multiple) → c .nearest-multiple .result ≤ 2 ^ 43
+small c = omega (arith, nearest-small (c .nearest-multiple .ensures), m-is (c .before))
+
 signed-requires : tie.Need-signed-requires
-signed-requires c κs = omega (arith, c .nearest-multiple .ensures .1)
+signed-requires c κs = omega (arith, small c)
 
 -- what the code holds in n, and x
 module _ (c : tie.After-signed) where
@@ -33,14 +37,13 @@ module _ (c : tie.After-signed) where
   n = c .before .nearest-multiple .result
 
   n-small : n ≤ 2 ^ 43
-  n-small = c .before .nearest-multiple .ensures .1
+  n-small = small (c .before)
 
   n-is : again (c .signed .result) ≡ pos n
   n-is = again-of (c .signed .ensures) (omega (arith, n-small))
 
-  -- the nearest to |v|φ
   near : IsNearest (golden (pos 0) (pos (natAbs (x .v)))) (pos n)
-  near = rw (sym (m-is (c .before .before))) (c .before .nearest-multiple .ensures .0)
+  near = rw (sym (m-is (c .before .before))) (c .before .nearest-multiple .ensures)
 
   -- both, as the machine reads them back
   both-small : (natAbs (again (x .u)) < 2 ^ 61) × (natAbs (again (c .signed .result)) < 2 ^ 61)

@@ -88,7 +88,8 @@ name-some p z =
     (y .0, w .0, w .1, ap exact (y .1 .there) ∙ opposite-exact (x .code) i (x .number))
 
 -- a corner whose coordinates are the negated ones is of the same degree: the weights add to 2^n
-same-degree : {m n : ℕ} {t u : TriangleCode} → IsCode m t → IsCode n u → (i j : ℕ) → OneToThree i → OneToThree j
+same-degree : {m n : ℕ} {t u : TriangleCode} → IsCode m t → IsCode n u
+    → (i j : ℕ) → OneToThree i → OneToThree j
     → exact (corner u j) ≡ negated (exact (corner t i)) → n ≡ m
 same-degree {m} {n} {t} {u} c d i j h k e =
     let o = oppositeOf t in
@@ -151,7 +152,8 @@ axis {n} g {a} {b} l w d f =
     (subst (λ (u : ℤ). IsFraction b u (65536 * 2 ^ n)) e (f .2)))
 
 -- an answer whose number is 0
-module _ {f n : ℕ} {c : Coordinates} {r : PointAnswer} (a : Answer f (Pointed n c) noPoint r) (y : r .refusal ≡ 0) where
+module _ {f n : ℕ} {c : Coordinates} {r : PointAnswer}
+    (a : Answer f (Pointed n c) noPoint r) (y : r .refusal ≡ 0) where
   passed-point : f ≡ 0
   passed-point = passed (λ (r : PointAnswer). r .refusal) refl (λ r g. g .number) a y
 

@@ -161,8 +161,8 @@ bits-are n t r hn ht f =
 -- ---- drawn points
 
 -- a point of degree n, and t on each axis
-points-bits : {n : ℕ} {c : Coordinates} {q : Ticks} {r : Point} → n ≤ 24 → Small c → AreTicks c q → IsPoint n c r
-    → HasBits n q r
+points-bits : {n : ℕ} {c : Coordinates} {q : Ticks} {r : Point} → n ≤ 24 → Small c
+    → AreTicks c q → IsPoint n c r → HasBits n q r
 points-bits {n} hn s a b = record {
   x = axis (s .x) (a .x) (b .x);
   y = axis (s .y) (a .y) (b .y);

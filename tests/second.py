@@ -391,7 +391,7 @@ def holders(n, d):
 
 def tick(u, v):
     # Document 02, 2026-02: "From now on t is the whole number nearest to 65,536·(u + vφ)." Twice that quantity is
-    # 65536(2u + v) + 65536v·√5. It lies between 2t - 1 and 2t + 1, so the greatest whole number not above it is either
+    # 65536(2u + v) + 65536v·√5. It lies between 2t - 1 and 2t + 1, so the greatest whole number not above it is
     # 2t - 1 or 2t.
     w, s = 65536 * (2 * u + v), 65536 * v
     root = math.isqrt(5 * s * s)

@@ -26,6 +26,6 @@ pub mod AllHolders
 pub mod Anticlockwise
 pub mod ThroughVertices
 pub mod OnePoint
-pub mod FarCorners
+pub mod OppositeCorners
 pub mod Multipliers
 pub mod MiddleSums

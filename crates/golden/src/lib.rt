@@ -168,7 +168,7 @@ impl Golden {
         true
     }
 
-    // The whole number nearest to u + vφ. That of -x is the negative, so the size of v decides.
+    // The whole number nearest to u + vφ: u and the one nearest to |v|φ, with the sign of v.
     fn nearest(self) -> i64
         requires { ⌜ Below (2 ^ 42 + 1) self ⌝ }
         ensures { λ r. ⌜ IsNearest self r ⌝ }

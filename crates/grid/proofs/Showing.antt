@@ -4,7 +4,8 @@ use mathlib.Core.List.{List}
 use Prim.Native.Nat.{ℕ, suc, _≤_}
 use native.Mathlib.Omega.{arith}
 use lib.ListN.{length, take}
-use Rattle.golden.proofs.Nearest.{Tested, scaled, t-test}
+use Rattle.golden.specs.Drawing.{quantity}
+use Rattle.golden.proofs.Nearest.{Tested, t-test}
 use Rattle.words.specs.Words.{degreeOf, wordOf, cornerNumber}
 use Rattle.words.specs.Refusals.{IsCode, checkNameFields}
 use Rattle.words.specs.Family.{codeOf, codeAnswer}
@@ -176,8 +177,8 @@ rings-refused q out k e =
 -- ---- places: of a corner of a code, and of a name
 
 -- t on each axis, as a test that antt computes
-pub ticks-test : (c : Coordinates) (r : Ticks) → Tested (scaled (c .x)) (r .x) → Tested (scaled (c .y)) (r .y)
-    → Tested (scaled (c .z)) (r .z) → AreTicks c r
+pub ticks-test : (c : Coordinates) (r : Ticks) → Tested (quantity (c .x)) (r .x) → Tested (quantity (c .y)) (r .y)
+    → Tested (quantity (c .z)) (r .z) → AreTicks c r
 ticks-test c r x y z = record {
   x = t-test (c .x) (r .x) x;
   y = t-test (c .y) (r .y) y;

@@ -1,12 +1,13 @@
 -- Document 02, 2026-02, 'Nearest, not floor': what is promised of t and of drawn coordinates. Assumes nothing.
 use mathlib.Core.Path.{_≡_}
+use mathlib.Core.Logic.{_↔_}
 use Prim.Native.Nat.{ℕ, _+_, _/_, _%_, _^_}
 use lib.IntN.{ℤ, pos, negℤ, _*ℤ_}
 use lib.Ieee.{Float, binary64, toBits}
 use Rattle.golden.specs.declared.Golden.{Golden}
 use Rattle.golden.specs.Numbers.{whole, _+φ_, negφ, _*φ_}
 use Rattle.golden.specs.Order.{NonNeg}
-use Rattle.golden.specs.Drawing.{AtMostHalf, IsT}
+use Rattle.golden.specs.Drawing.{AtMostHalf, IsT, NotNearer, quantity}
 use Rattle.words.specs.Words.{degreeOf}
 use Rattle.words.specs.Refusals.{IsCode}
 use Rattle.words.specs.declared.TriangleCode.{TriangleCode}
@@ -20,10 +21,6 @@ use Rattle.filing.specs.declared.Point.{Point}
 use Rattle.points.specs.Answers.{TickAnswer, NameTickAnswer, DrawAnswer, NameDrawAnswer}
 use Rattle.points.specs.declared.TicksAnswer.{TicksAnswer}
 use Rattle.points.specs.declared.PointAnswer.{PointAnswer}
-
--- "the quantity": 65,536·(u + vφ)
-abbrev pub quantity : Golden → Golden
-quantity x = whole (pos 65536) *φ x
 
 -- Twice d is just 1, by the rule for the sign: at that distance from a whole number, another is as near.
 abbrev pub IsHalf : Golden → Type 0
@@ -52,17 +49,19 @@ pub record OpposedPoints (a b : Point) : Type 0 where
   pub z : Opposed (a .z) (b .z)
 
 pub record Nearest : Type 0 where
-  -- "From now on t is the whole number nearest to 65,536·(u + vφ).": there is just one, whatever u and v are
+  -- "From now on t is the whole number nearest to 65,536·(u + vφ).": just the one than which none is nearer;
+  -- and there is one, and no other, whatever u and v are
+  pub none-nearer : (x : Golden) (t : ℤ) → IsT x t ↔ ((s : ℤ) → NotNearer (quantity x) t s)
   pub one : (x : Golden) → (t : ℤ) × IsT x t × ((s : ℤ) → IsT x s → s ≡ t)
   -- "A tie can't occur"
   pub no-tie : (x : Golden) (t : ℤ)
       → (IsHalf (quantity x +φ negφ (whole t)) → ⊥) × (IsHalf (whole t +φ negφ (quantity x)) → ⊥)
   -- "the quantity is whole when v is 0"
   pub whole-there : (x : Golden) → x .v ≡ pos 0 → quantity x ≡ whole (pos 65536 *ℤ x .u)
-  -- "else irrational": b times it is a for no whole numbers a and b, but where b is 0
+  -- "else irrational": for no whole numbers a and b, b not 0, is b times it a
   pub irrational : (x : Golden) → (x .v ≡ pos 0 → ⊥) → (a b : ℤ) → (b ≡ pos 0 → ⊥)
       → let d = whole b *φ quantity x +φ negφ (whole a) in NonNeg d → NonNeg (negφ d) → ⊥
-  -- so t of -x is the negative
+  -- t of -x is the negative
   pub turned : (x : Golden) (s t : ℤ) → IsT x t → IsT (negφ x) s → s ≡ negℤ t
   -- "the opposite corner": each corner has one of its degree, whose coordinates are the negated ones, and each name
   pub corner-some : (n : ℕ) (t : TriangleCode) (i : ℕ) → IsCode n t → OneToThree i

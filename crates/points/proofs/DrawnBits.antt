@@ -148,6 +148,17 @@ magnitude-is n (suc a) hn ha =
     fields n (suc a) s hn (l .1) (l .2) h
     ∙ ap (λ (z : ℕ). exponent n z * 2 ^ 52 + fraction z (suc a)) (sym (size-is (suc a) s (l .1) (l .2)))
 
+-- all but the sign's are 63 bits, and tell a number other than 0
+pub magnitude-small : (n a : ℕ) → n ≤ 24 → suc a < 2 ^ 53
+    → (0 < magnitude n (suc a)) × (magnitude n (suc a) < 2 ^ 63)
+magnitude-small n a l h =
+    let s = size (suc a) in
+    let most : s ≤ 53 = size-le (suc a) 53 h in
+    let e : s + (53 - s) ≡ 53 = omega arith in
+    let digits : suc a * 2 ^ (53 - s) < 2 ^ 53 =
+    subst (λ (k : ℕ). suc a * 2 ^ (53 - s) < 2 ^ k) e (shl-lt s (53 - s) (size-lt (suc a))) in
+    (omega arith, omega arith)
+
 -- the float that is exactly t / (65,536·2^n) has these bits
 pub bits-are : (n : ℕ) (t : ℤ) (r : Float) → n ≤ 24 → natAbs t < 2 ^ 53 → IsFraction r t (65536 * 2 ^ n)
     → toBits binary64 r ≡ bitsOf n t
@@ -161,8 +172,8 @@ bits-are n t r hn ht f =
 -- ---- drawn points
 
 -- a point of degree n, and t on each axis
-points-bits : {n : ℕ} {c : Coordinates} {q : Ticks} {r : Point} → n ≤ 24 → Small c
-    → AreTicks c q → IsPoint n c r → HasBits n q r
+pub points-bits : {n : ℕ} {c : Coordinates} {q : Ticks} {r : Point}
+    → n ≤ 24 → Small c → AreTicks c q → IsPoint n c r → HasBits n q r
 points-bits {n} hn s a b = record {
   x = axis (s .x) (a .x) (b .x);
   y = axis (s .y) (a .y) (b .y);

@@ -10,7 +10,7 @@ use Rattle.golden.specs.declared.Golden.{Golden}
 use Rattle.golden.specs.Numbers.{Below, golden}
 use Rattle.golden.specs.Order.{NonNeg}
 use Rattle.golden.proofs.Magnitudes.{abs-neg}
-use Rattle.golden.proofs.Machine.{again, again-is, again-of}
+use Rattle.golden.proofs.Machine.{again, again-of}
 use Rattle.golden.proofs.GoldenRing.{φ-path}
 use Rattle.golden.proofs.Multiples.{beyond, beyond-next, clear-nearest, not-beyond}
 use Rattle.golden.proofs.nearest_multiple.Statement.{statement}

@@ -1,6 +1,6 @@
 -- `golden::Golden::nearest` meets its contract: u and the number nearest to |v|φ, with the sign of v. Assumes nothing.
-use mathlib.Core.Path.{_≡_, sym, ap, subst}
-use Prim.Native.Nat.{ℕ, _+_, _≤_, _<_, _^_}
+use mathlib.Core.Path.{_≡_, sym, subst}
+use Prim.Native.Nat.{ℕ, _≤_, _<_, _^_}
 use native.Mathlib.Omega.{arith}
 use lib.IntN.{ℤ, pos, negℤ, natAbs, _+ℤ_}
 use Rattle.golden.specs.declared.Golden.{Golden}

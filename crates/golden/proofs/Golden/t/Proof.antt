@@ -4,7 +4,7 @@ use Prim.Native.Nat.{_+_, _^_}
 use native.Mathlib.Omega.{arith}
 use lib.IntN.{ℤ, pos, _*ℤ_}
 use Rattle.golden.specs.declared.Golden.{Golden}
-use Rattle.golden.specs.Numbers.{Below, golden, whole, _*φ_}
+use Rattle.golden.specs.Numbers.{Below, golden}
 use Rattle.golden.specs.Drawing.{IsNearest}
 use Rattle.golden.proofs.Magnitudes.{abs-mul}
 use Rattle.golden.proofs.Machine.{again, again-fit, again-is, again-of}

@@ -3,14 +3,15 @@
 use mathlib.Core.Path.{_≡_, _∙_, refl, sym, ap, subst}
 use mathlib.Core.List.{List}
 use mathlib.Core.Logic.{_↔_, ⊎-elim}
-use Prim.Native.Nat.{ℕ, zero, suc, _+_, _/_, _%_, _<_, _≤_}
+use Prim.Native.Nat.{ℕ, zero, suc, _+_, _/_, _%_, _^_, _<_, _≤_}
 use native.Mathlib.Omega.{arith}
 use lib.Dec.{eqb}
 use lib.IntN.{negℤ}
 use lib.ListN.{length, getD}
+use lib.Pow.{pow-lt}
 use borrow.Author.Tests.{eq-eqb, ne-eqb}
 use Rattle.golden.specs.Numbers.{negφ}
-use Rattle.golden.proofs.IntegerOrder.{difs}
+use Rattle.golden.proofs.IntegerOrder.{difs, le-or-lt}
 use Rattle.golden.proofs.GoldenRing.{φ-path}
 use Rattle.words.specs.Words.{side, sideOf}
 use Rattle.words.specs.Refusals.{IsCode}
@@ -18,7 +19,7 @@ use Rattle.words.specs.declared.TriangleCode.{TriangleCode}
 use Rattle.words.proofs.Codes.{code-degree, code-side}
 use Rattle.net.specs.Corners.{corner}
 use Rattle.net.specs.Sides.{IsSide, OneToThree, after, before, cornerVertex}
-use Rattle.net.specs.Division.{Weights, cornerOf, each, load}
+use Rattle.net.specs.Division.{Weights, cornerOf, each, load, sum}
 use Rattle.net.specs.Means.Seams.{flip}
 use Rattle.net.specs.Means.Spreads.{spread, weightAt}
 use Rattle.net.specs.Means.States.{pointOf, stateOf}
@@ -29,40 +30,41 @@ use Rattle.net.proofs.Paths.{Digits, are-digits}
 use Rattle.net.proofs.CodePlaces.{codeFor, corner-at, digitsIn, for-code, for-corner, in-digits, in-length}
 use Rattle.net.proofs.Flips.{each-length, flip-digits, flip-three, turn-all, turn-corner, turnPoint}
 use Rattle.net.proofs.Loads.{at-vertex, corner-is}
+use Rattle.net.proofs.Demand3.{add-up}
 use Rattle.filing.specs.Coordinates.{exact, negated}
 use Rattle.filing.specs.Means.Places.{balanceOf}
-use Rattle.filing.proofs.OnePoint.{opposite, opposite-small}
+use Rattle.filing.proofs.OnePoint.{opposite, opposite-small, same-place}
 use Rattle.filing.proofs.Parts.{coordinates-path}
 use Rattle.filing.proofs.Weighted.{balances, corner-twelve, exact-is}
 
 -- ---- sides
 
 -- a00 and (a+2)10 are opposite, and a01 and (a+2)11, a cyclic
-abbrev farOf : (p q a : ℕ) → ℕ
-farOf zero q a = side (after (after a)) 1 q
-farOf (suc p) q a = side (before (before a)) 0 q
+abbrev oppositeFrom : (p q a : ℕ) → ℕ
+oppositeFrom zero q a = side (after (after a)) 1 q
+oppositeFrom (suc p) q a = side (before (before a)) 0 q
 
-abbrev pub farSide : (s : ℕ) → ℕ
-farSide s = farOf (s / 2 % 2) (s % 2) (s / 4)
+abbrev oppositeSide : (s : ℕ) → ℕ
+oppositeSide s = oppositeFrom (s / 2 % 2) (s % 2) (s / 4)
 
-pub far-side : (s : ℕ) → IsSide s → IsSide (farSide s)
-far-side = sound (sides λ s. most 4 (farSide s) and less (farSide s) 24) refl
+opposite-side : (s : ℕ) → IsSide s → IsSide (oppositeSide s)
+opposite-side = sound (sides λ s. most 4 (oppositeSide s) and less (oppositeSide s) 24) refl
 
 -- a vertex is a corner there where the opposite one is a corner here, 2 and 3 exchanged
-far-vertex : (s : ℕ) → IsSide s → (v : ℕ) → v < 12 → (i : ℕ) → OneToThree i
-    → (v ≡ cornerVertex (farSide s) (flip 1 i)) ↔ (opposite v ≡ cornerVertex s i)
+opposite-vertex : (s : ℕ) → IsSide s → (v : ℕ) → v < 12 → (i : ℕ) → OneToThree i
+    → (v ≡ cornerVertex (oppositeSide s) (flip 1 i)) ↔ (opposite v ≡ cornerVertex s i)
 unfolding cornerVertex
-far-vertex =
+opposite-vertex =
     sound
     (sides λ s. below 12 λ v. threes λ i.
-    (same v (cornerVertex (farSide s) (flip 1 i)) then same (opposite v) (cornerVertex s i))
-    and (same (opposite v) (cornerVertex s i) then same v (cornerVertex (farSide s) (flip 1 i)))) refl
+    (same v (cornerVertex (oppositeSide s) (flip 1 i)) then same (opposite v) (cornerVertex s i))
+    and (same (opposite v) (cornerVertex s i) then same v (cornerVertex (oppositeSide s) (flip 1 i)))) refl
 
 -- ---- weights
 
 -- q has at each vertex what p has at the opposite one
-abbrev pub Facing : (p q : Weights) → Type 0
-Facing p q = (v : ℕ) → v < 12 → getD q v 0 ≡ getD p (opposite v) 0
+abbrev Opposites : (p q : Weights) → Type 0
+Opposites p q = (v : ℕ) → v < 12 → getD q v 0 ≡ getD p (opposite v) 0
 
 same-load : {a b c d : ℕ} → (a ≡ b) ↔ (c ≡ d) → (x : ℕ) → load (eqb a b) x ≡ load (eqb c d) x
 same-load {a} {b} {c} {d} h x = ⊎-elim
@@ -71,10 +73,10 @@ same-load {a} {b} {c} {d} h x = ⊎-elim
     (either-way (same a b))
 
 module _ (s : ℕ) (h : IsSide s) (p : Point) where
-  far-weight : (v : ℕ) → v < 12 → weightAt (farSide s) (turnPoint 1 p) v ≡ weightAt s p (opposite v)
+  opposite-weight : (v : ℕ) → v < 12 → weightAt (oppositeSide s) (turnPoint 1 p) v ≡ weightAt s p (opposite v)
   unfolding weightAt
-  far-weight v l =
-      let at = far-vertex s h v l in
+  opposite-weight v l =
+      let at = opposite-vertex s h v l in
       omega (
         arith,
         same-load (at 1 (omega arith)) (p .w1),
@@ -82,34 +84,34 @@ module _ (s : ℕ) (h : IsSide s) (p : Point) where
         same-load (at 3 (omega arith)) (p .w3),
       )
 
-  far-spread : Facing (spread s p) (spread (farSide s) (turnPoint 1 p))
-  far-spread v l =
-      at-vertex (farSide s) (turnPoint 1 p) v l
-      ∙ far-weight v l
+  opposite-spread : Opposites (spread s p) (spread (oppositeSide s) (turnPoint 1 p))
+  opposite-spread v l =
+      at-vertex (oppositeSide s) (turnPoint 1 p) v l
+      ∙ opposite-weight v l
       ∙ sym (at-vertex s p (opposite v) (opposite-small v l))
 
-pub far-corner : (s : ℕ) (ds : List ℕ) → IsSide s → Digits ds → (i : ℕ) → OneToThree i
-    → Facing (cornerOf s ds i) (cornerOf (farSide s) (each (flip 1) ds) (flip 1 i))
-far-corner s ds h hd i m =
+opposite-place : (s : ℕ) (ds : List ℕ) → IsSide s → Digits ds → (i : ℕ) → OneToThree i
+    → Opposites (cornerOf s ds i) (cornerOf (oppositeSide s) (each (flip 1) ds) (flip 1 i))
+opposite-place s ds h hd i m =
     let p = pointOf i (stateOf ds) in
-    let e : cornerOf (farSide s) (each (flip 1) ds) (flip 1 i) ≡ spread (farSide s) (turnPoint 1 p) =
-    corner-is (farSide s) (each (flip 1) ds) (flip 1 i)
-    ∙ ap (λ (a : State). spread (farSide s) (pointOf (flip 1 i) a)) (turn-all 1 (omega arith) ds hd)
-    ∙ ap (spread (farSide s)) (turn-corner 1 (omega arith) i m (stateOf ds)) in
-    rw (corner-is s ds i, e) (far-spread s h p)
+    let e : cornerOf (oppositeSide s) (each (flip 1) ds) (flip 1 i) ≡ spread (oppositeSide s) (turnPoint 1 p) =
+    corner-is (oppositeSide s) (each (flip 1) ds) (flip 1 i)
+    ∙ ap (λ (a : State). spread (oppositeSide s) (pointOf (flip 1 i) a)) (turn-all 1 (omega arith) ds hd)
+    ∙ ap (spread (oppositeSide s)) (turn-corner 1 (omega arith) i m (stateOf ds)) in
+    rw (corner-is s ds i, e) (opposite-spread s h p)
 
 -- ---- coordinates
 
-module _ (p q : Weights) (f : Facing p q) where
+module _ (p q : Weights) (f : Opposites p q) where
   -- the weights at a and b less those at c and d, which are opposite to them
   turned : (a b c d : ℕ) → getD q a 0 + getD q b 0 ≡ getD p c 0 + getD p d 0
       → getD q c 0 + getD q d 0 ≡ getD p a 0 + getD p b 0 → balanceOf q a b c d ≡ negℤ (balanceOf p a b c d)
   unfolding balanceOf
   turned a b c d e g = rw (e, g) (simp difs (omega arith))
 
-  far-balances : balances q ≡ negated (balances p)
+  opposite-balances : balances q ≡ negated (balances p)
   unfolding negφ
-  far-balances =
+  opposite-balances =
       let w0 = f 0 (omega arith) in
       let w1 = f 1 (omega arith) in
       let w2 = f 2 (omega arith) in
@@ -127,13 +129,19 @@ module _ (p q : Weights) (f : Facing p q) where
       (φ-path (turned 0 9 1 2 (omega arith) (omega arith)) (turned 4 5 7 11 (omega arith) (omega arith)))
       (φ-path (turned 3 6 8 10 (omega arith) (omega arith)) (turned 0 2 1 9 (omega arith) (omega arith)))
 
-pub far-exact : (p q : Weights) → Facing p q → length p ≡ 12 → length q ≡ 12 → exact q ≡ negated (exact p)
-far-exact p q f h k = exact-is q k ∙ far-balances p q f ∙ ap negated (sym (exact-is p h))
+opposite-coordinates : (p q : Weights) → Opposites p q → length p ≡ 12 → length q ≡ 12
+    → exact q ≡ negated (exact p)
+opposite-coordinates p q f h k = exact-is q k ∙ opposite-balances p q f ∙ ap negated (sym (exact-is p h))
 
 -- ---- codes
 
 abbrev pub oppositeOf : TriangleCode → TriangleCode
-oppositeOf t = codeFor (farSide (sideOf (t .0))) (each (flip 1) (digitsIn t))
+oppositeOf t = codeFor (oppositeSide (sideOf (t .0))) (each (flip 1) (digitsIn t))
+
+one-power : (m n : ℕ) → 2 ^ m ≡ 2 ^ n → m ≡ n
+one-power m n e = ⊎-elim
+    (λ a. ⊎-elim (λ b. omega arith) (λ b. absurd (omega (arith, pow-lt b))) (le-or-lt n m))
+    (λ b. absurd (omega (arith, pow-lt b))) (le-or-lt m n)
 
 module _ {n : ℕ} {t : TriangleCode} (c : IsCode n t) where
   abbrev s : ℕ
@@ -154,15 +162,23 @@ module _ {n : ℕ} {t : TriangleCode} (c : IsCode n t) where
   pub opposite-code : IsCode n (oppositeOf t)
   opposite-code =
       subst (λ (m : ℕ). IsCode m (oppositeOf t)) size
-      (for-code (farSide s) ds (far-side s (code-side c)) there long)
+      (for-code (oppositeSide s) ds (opposite-side s (code-side c)) there long)
 
-  pub opposite-corner : (i : ℕ) → OneToThree i → Facing (corner t i) (corner (oppositeOf t) (flip 1 i))
+  opposite-corner : (i : ℕ) → OneToThree i → Opposites (corner t i) (corner (oppositeOf t) (flip 1 i))
   opposite-corner i m =
-      rw (corner-at t i, for-corner (farSide s) ds (far-side s (code-side c)) there long (flip 1 i))
-      (far-corner s (digitsIn t) (code-side c) (in-digits c) i m)
+      rw (corner-at t i, for-corner (oppositeSide s) ds (opposite-side s (code-side c)) there long (flip 1 i))
+      (opposite-place s (digitsIn t) (code-side c) (in-digits c) i m)
 
   pub opposite-exact : (i : ℕ) → OneToThree i
       → exact (corner (oppositeOf t) (flip 1 i)) ≡ negated (exact (corner t i))
   opposite-exact i m =
-      far-exact (corner t i) (corner (oppositeOf t) (flip 1 i)) (opposite-corner i m) (corner-twelve c i .places)
-      (corner-twelve opposite-code (flip 1 i) .places)
+      opposite-coordinates (corner t i) (corner (oppositeOf t) (flip 1 i)) (opposite-corner i m)
+      (corner-twelve c i .places) (corner-twelve opposite-code (flip 1 i) .places)
+
+  -- no corner of another degree has them: its weights add to another power of two
+  pub opposite-degree : {m : ℕ} {u : TriangleCode} → IsCode m u → (i j : ℕ) → OneToThree i → OneToThree j
+      → exact (corner u j) ≡ negated (exact (corner t i)) → m ≡ n
+  opposite-degree {m} {u} d i j l k e =
+      let there = e ∙ sym (opposite-exact i l) in
+      let p = same-place d opposite-code j (flip 1 i) k (flip-three 1 (omega arith) i l) .0 there in
+      one-power m n (sym (add-up m u j d) ∙ ap sum p ∙ add-up n (oppositeOf t) (flip 1 i) opposite-code)

@@ -103,27 +103,20 @@ opposite-place s ds h hd i m =
 -- ---- coordinates
 
 module _ (p q : Weights) (f : Opposites p q) where
-  -- the weights at a and b less those at c and d, which are opposite to them
-  turned : (a b c d : ℕ) → getD q a 0 + getD q b 0 ≡ getD p c 0 + getD p d 0
-      → getD q c 0 + getD q d 0 ≡ getD p a 0 + getD p b 0 → balanceOf q a b c d ≡ negℤ (balanceOf p a b c d)
+  -- the weights at a and b less those at c and d, which are opposite to them in either order
+  turned : (a b c d : ℕ) → (a < 12) × (b < 12) × (c < 12) × (d < 12)
+      → (getD p (opposite a) 0 + getD p (opposite b) 0 ≡ getD p c 0 + getD p d 0)
+      × (getD p (opposite c) 0 + getD p (opposite d) 0 ≡ getD p a 0 + getD p b 0)
+      → balanceOf q a b c d ≡ negℤ (balanceOf p a b c d)
   unfolding balanceOf
-  turned a b c d e g = rw (e, g) (simp difs (omega arith))
+  turned a b c d (la, lb, lc, ld) (e, g) =
+      let e′ : getD q a 0 + getD q b 0 ≡ getD p c 0 + getD p d 0 = omega (arith, f a la, f b lb, e) in
+      let g′ : getD q c 0 + getD q d 0 ≡ getD p a 0 + getD p b 0 = omega (arith, f c lc, f d ld, g) in
+      rw (e′, g′) (simp difs (omega arith))
 
   opposite-balances : balances q ≡ negated (balances p)
   unfolding negφ
   opposite-balances =
-      let w0 = f 0 (omega arith) in
-      let w1 = f 1 (omega arith) in
-      let w2 = f 2 (omega arith) in
-      let w3 = f 3 (omega arith) in
-      let w4 = f 4 (omega arith) in
-      let w5 = f 5 (omega arith) in
-      let w6 = f 6 (omega arith) in
-      let w7 = f 7 (omega arith) in
-      let w8 = f 8 (omega arith) in
-      let w9 = f 9 (omega arith) in
-      let w10 = f 10 (omega arith) in
-      let w11 = f 11 (omega arith) in
       coordinates-path
       (φ-path (turned 4 7 5 11 (omega arith) (omega arith)) (turned 3 8 6 10 (omega arith) (omega arith)))
       (φ-path (turned 0 9 1 2 (omega arith) (omega arith)) (turned 4 5 7 11 (omega arith) (omega arith)))

@@ -15,7 +15,7 @@ use Rattle.golden.specs.Drawing.{AtMostHalf, IsNearest, IsT, NotNearer, 
 use Rattle.golden.proofs.Polynomials.{E, var, lit, _⊕_, _⊝_, _⊗_, ⊖}
 use Rattle.golden.proofs.RingSolver.{solve}
 use Rattle.golden.proofs.IntegerSolver.{ℤ-ring}
-use Rattle.golden.proofs.IntegerOrder.{le-antisym, le-or-ltℤ, split, difs, pos-of}
+use Rattle.golden.proofs.IntegerOrder.{le-antisym, le-or-ltℤ, split, difs, pos-of, zarith}
 use Rattle.golden.proofs.Magnitudes.{abs-add, abs-mul, abs-neg, cancelℤ, neg-of-abs, pos-abs}
 use Rattle.golden.proofs.GoldenRing.{φ-path, φ-ring, scale}
 use Rattle.golden.proofs.GoldenOrder.{nonneg-by, add-nonneg, antisym, total, nonNeg, is-nonneg, nonneg-or-not}
@@ -125,7 +125,8 @@ module _ (x : Golden) (t : ℤ) where
       (sq (var 0 ⊝ var 1) ⊝ sq (var 0 ⊝ (var 1 ⊕ var 2))) refl)
       (farther (whole (s +ℤ pos n) +φ negφ x) n
       (subst (λ (t : ℤ). AtMostHalf (whole t +φ negφ x)) e (h .below)))))
-      (λ l. pos-of (lt-le l) λ n e.
+      (λ l. let m : t ≤ℤ s = omega zarith in
+      pos-of m λ n e.
       subst (λ (s : ℤ). NotNearer x t s) (sym e)
       (nonneg-by
       (solve φ-ring (x ∷ whole t ∷ whole (pos n) ∷ [])
@@ -133,10 +134,6 @@ module _ (x : Golden) (t : ℤ) where
       (sq (var 0 ⊝ (var 1 ⊕ var 2)) ⊝ sq (var 0 ⊝ var 1)) refl)
       (farther (x +φ negφ (whole t)) n (h .above))))
       (le-or-ltℤ s t)
-    where
-      lt-le : {s t : ℤ} → t <ℤ s → t ≤ℤ s
-      lt-le {s} {t} l =
-          split s λ p n x. split t λ q m y. simp (x, y, difs) (omega (arith, simp (x, y, difs) at l))
 
   so-nearest : ((s : ℤ) → NotNearer x t s) → IsNearest x t
   unfolding _+φ_ negφ

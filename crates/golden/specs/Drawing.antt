@@ -14,14 +14,6 @@ pub record IsNearest (x : Golden) (t : ℤ) : Type 0 where
   pub above : AtMostHalf (x +φ negφ (whole t))
   pub below : AtMostHalf (whole t +φ negφ x)
 
-abbrev pub square : Golden → Golden
-square x = x *φ x
-
--- The whole number s is not nearer to x than t is: the square of x - s is at least that of x - t. That t is nearest
--- exactly when no s is nearer is proved (grid/specs/Nearest.antt).
-abbrev pub NotNearer : (x : Golden) (t s : ℤ) → Type 0
-NotNearer x t s = NonNeg (square (x +φ negφ (whole s)) +φ negφ (square (x +φ negφ (whole t))))
-
 -- "the quantity": 65,536·(u + vφ)
 abbrev pub quantity : Golden → Golden
 quantity x = whole (pos 65536) *φ x
@@ -29,3 +21,11 @@ quantity x = whole (pos 65536) *φ x
 -- "From now on t is the whole number nearest to 65,536·(u + vφ)."
 abbrev pub IsT : Golden → ℤ → Type 0
 IsT x t = IsNearest (quantity x) t
+
+abbrev pub square : Golden → Golden
+square x = x *φ x
+
+-- The whole number s is not nearer to x than t is: the square of x - s is at least that of x - t. No contract speaks of
+-- it: that t is nearest exactly when no s is nearer is a promise (grid/specs/Nearest.antt).
+abbrev pub NotNearer : (x : Golden) (t s : ℤ) → Type 0
+NotNearer x t s = NonNeg (square (x +φ negφ (whole s)) +φ negφ (square (x +φ negφ (whole t))))

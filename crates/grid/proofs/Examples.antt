@@ -30,7 +30,7 @@ use Rattle.grid.specs.Examples.{Examples, Crossings, Family, Weighed, Ri
 use Rattle.grid.proofs.Showing.{files, lists, lists-refused, crosses, crosses-refused, names, backs}
 use Rattle.grid.proofs.Showing.{weighs, weighs-name}
 use Rattle.grid.proofs.Showing.{weighs-refused, rings-by, rings-refused, passes-by, placed, ticked, pointed}
-use Rattle.grid.proofs.Showing.{ticks-test, placed-name, ticked-name, pointed-name, not-placed, not-pointed}
+use Rattle.grid.proofs.Showing.{point-by, ticks-test, placed-name, ticked-name, pointed-name, not-placed, not-pointed}
 
 -- ---- the name of V(41), its t, and what is drawn
 
@@ -44,11 +44,7 @@ ticks-41 = ticks-test _ _ (tt, tt) (tt, tt) (tt, tt)
 
 point-41 : IsPoint 0 (exact (unitAt (vertex 4 1))) (point 0 0xbff9e37000000000 0 0xbff0000000000000 .at)
 unfolding ofBits fits
-point-41 = record {
-  x = (minus 106039, ticks-41 .x, record { value = (refl, refl); held = tt });
-  y = (pos 0, ticks-41 .y, record { value = (refl, refl); held = tt });
-  z = (minus 65536, ticks-41 .z, record { value = (refl, refl); held = tt });
-}
+point-41 = point-by _ _ _ _ ticks-41 ((refl, refl), tt) ((refl, refl), tt) ((refl, refl), tt)
 
 -- V(20), which lies opposite, and both at degree 1
 ticks-20 : AreTicks (exact (unitAt (vertex 2 0))) (ticks (pos 106039) (pos 0) (pos 65536) .at)
@@ -57,11 +53,7 @@ ticks-20 = ticks-test _ _ (tt, tt) (tt, tt) (tt, tt)
 
 point-20 : IsPoint 0 (exact (unitAt (vertex 2 0))) (point 0 0x3ff9e37000000000 0 0x3ff0000000000000 .at)
 unfolding ofBits fits
-point-20 = record {
-  x = (pos 106039, ticks-20 .x, record { value = (refl, refl); held = tt });
-  y = (pos 0, ticks-20 .y, record { value = (refl, refl); held = tt });
-  z = (pos 65536, ticks-20 .z, record { value = (refl, refl); held = tt });
-}
+point-20 = point-by _ _ _ _ ticks-20 ((refl, refl), tt) ((refl, refl), tt) ((refl, refl), tt)
 
 passes-20 : checkName (nameOf 0x2000000000000003) ≡ 0
 unfolding checkNameFields refusal path wordOf digits stepOf cross seamSide seamKept around wordAt nameAt leastName
@@ -169,11 +161,7 @@ ticks-six = ticks-test _ _ (tt, tt) (tt, tt) (tt, tt)
 
 point-six : IsPoint 1 (exact (named (cornerIn 1000 3))) (point 0 0 0 0x3ff9e37800000000 .at)
 unfolding ofBits fits
-point-six = record {
-  x = (pos 0, ticks-six .x, record { value = (refl, refl); held = tt });
-  y = (pos 0, ticks-six .y, record { value = (refl, refl); held = tt });
-  z = (pos 212079, ticks-six .z, record { value = (refl, refl); held = tt });
-}
+point-six = point-by _ _ _ _ ticks-six ((refl, refl), tt) ((refl, refl), tt) ((refl, refl), tt)
 
 pub points : Points
 unfolding refusal refuseNumbered checkName decimals written path wordOf digits corner cornerOf triangleAt unitAt

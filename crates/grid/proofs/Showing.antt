@@ -1,10 +1,15 @@
 -- How an example is shown: the answer from what antt computes, and that no other meets the promise. Assumes nothing.
 use mathlib.Core.Path.{_≡_, refl, sym, ap, subst}
 use mathlib.Core.List.{List}
-use Prim.Native.Nat.{ℕ, suc, _≤_}
+use Prim.Native.Nat.{ℕ, suc, _*_, _^_, _≤_}
 use native.Mathlib.Omega.{arith}
+use lib.Dec.{T}
+use lib.IntN.{ℤ, natAbs}
+use lib.Ieee.{Float, binary64, fits}
+use lib.Ieee.Exact.{HasValue}
 use lib.ListN.{length, take}
-use Rattle.golden.specs.Drawing.{quantity}
+use Rattle.golden.specs.Drawing.{IsT, quantity}
+use Rattle.golden.specs.declared.Golden.{Golden}
 use Rattle.golden.proofs.Nearest.{Tested, t-test}
 use Rattle.words.specs.Words.{degreeOf, wordOf, cornerNumber}
 use Rattle.words.specs.Refusals.{IsCode, checkNameFields}
@@ -31,13 +36,15 @@ use Rattle.corners.proofs.Calls.{answering, refusing, answering-lent, refusing-
 use Rattle.corners.proofs.TurnedCorners.{firstThere, secondThere, turned-is}
 use Rattle.corners.proofs.OneAnswer.{cross-one, naming-one, back-one, weights-one, name-weights-one, ring-answer-one}
 use Rattle.filing.specs.Coordinates.{exact}
-use Rattle.filing.specs.Drawing.{AreTicks, IsPoint}
+use Rattle.filing.specs.Drawing.{AreTicks, IsDrawn, IsPoint}
+use Rattle.filing.specs.Fractions.{isNeg}
 use Rattle.filing.specs.Filing.{IsFiled, AreHolders}
 use Rattle.filing.specs.Means.Descent.{descent}
 use Rattle.filing.specs.Means.Sides.{sideDets, leastFrom}
 use Rattle.filing.specs.Means.Lists.{allWords}
 use Rattle.filing.specs.declared.Coordinates.{Coordinates}
 use Rattle.filing.specs.declared.Direction.{Direction}
+use Rattle.filing.specs.declared.Point.{Point}
 use Rattle.filing.specs.declared.Ticks.{Ticks}
 use Rattle.filing.proofs.AllHolders.{all-holders}
 use Rattle.filing.proofs.LeastSide.{found-code}
@@ -175,6 +182,22 @@ rings-refused q out k e =
     record { meets = is; only = λ s new a. ring-answer-one q out s _ new _ a is }
 
 -- ---- places: of a corner of a code, and of a name
+
+-- a float that is t / (65,536·2^n), by computation: its value, and that it is one of binary64
+abbrev Shown : (n : ℕ) → ℤ → Float → Type 0
+Shown n t r = HasValue r (isNeg t) (natAbs t) (65536 * 2 ^ n) × T (fits binary64 r)
+
+shown : (n : ℕ) (g : Golden) (t : ℤ) (r : Float) → IsT g t → Shown n t r → IsDrawn n g r
+shown n g t r h p = (t, h, record { value = p .0; held = p .1 })
+
+-- the point drawn from t on each axis
+pub point-by : (n : ℕ) (c : Coordinates) (q : Ticks) (r : Point) → AreTicks c q
+    → Shown n (q .x) (r .x) → Shown n (q .y) (r .y) → Shown n (q .z) (r .z) → IsPoint n c r
+point-by n c q r a x y z = record {
+  x = shown n (c .x) (q .x) (r .x) (a .x) x;
+  y = shown n (c .y) (q .y) (r .y) (a .y) y;
+  z = shown n (c .z) (q .z) (r .z) (a .z) z;
+}
 
 -- t on each axis, as a test that antt computes
 pub ticks-test : (c : Coordinates) (r : Ticks) → Tested (quantity (c .x)) (r .x) → Tested (quantity (c .y)) (r .y)

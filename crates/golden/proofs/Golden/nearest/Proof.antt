@@ -21,7 +21,7 @@ m-is c = size-is (c .before .before .args .self .v) (omega arith) (c .magnitude 
 nearest-multiple-requires : tie.Need-nearest-multiple-requires
 nearest-multiple-requires c κs = rw (m-is c) (omega arith)
 
--- the nearest to |v|φ
+-- the number nearest to |v|φ is not large
 small : (c : tie.After-nearest-multiple) → c .nearest-multiple .result ≤ 2 ^ 43
 small c = omega (arith, nearest-small (c .nearest-multiple .ensures), m-is (c .before))
 

@@ -30,7 +30,8 @@ use Rattle.grid.specs.Examples.{Examples, Crossings, Family, Weighed, Ri
 use Rattle.grid.proofs.Showing.{files, lists, lists-refused, crosses, crosses-refused, names, backs}
 use Rattle.grid.proofs.Showing.{weighs, weighs-name}
 use Rattle.grid.proofs.Showing.{weighs-refused, rings-by, rings-refused, passes-by, placed, ticked, pointed}
-use Rattle.grid.proofs.Showing.{point-by, ticks-test, placed-name, ticked-name, pointed-name, not-placed, not-pointed}
+use Rattle.grid.proofs.Showing.{placed-name, ticked-name, pointed-name, not-placed, not-pointed}
+use Rattle.grid.proofs.Showing.{point-by, ticks-test}
 
 -- ---- the name of V(41), its t, and what is drawn
 

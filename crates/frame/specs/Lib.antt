@@ -1,0 +1,4 @@
+-- What a reader must believe: how a call refuses, what an answer is with its lent memory, and what a promise owes.
+pub mod Refusals
+pub mod Answers
+pub mod Promises

@@ -10,20 +10,22 @@ use lib.Dec.{eqb}
 use lib.ListN.{length, take}
 use borrow.Author.Tests.{eqb-true, lt-ltb, le-ltb, eq-eqb}
 use Rattle.words.proofs.Codes.{code-degree, is-code}
-use Rattle.words.proofs.Refusing.{either-left, either-right, here, next, refuse-after, refuse-before, refuse-first}
-use Rattle.words.specs.Refusals.{Row, checkCode, checkNameFields, codeRows, degreeRows, nameRows, refusal}
+use Rattle.frame.proofs.Refusing.{either-left, either-right, here, next, refuse-after, refuse-before, refuse-first}
+use Rattle.frame.specs.Refusals.{Row, refusal, listRows, order}
+use Rattle.frame.specs.Answers.{Answer, Lent}
+use Rattle.words.specs.Refusals.{checkCode, checkNameFields, codeRows, degreeRows, nameRows}
 use Rattle.words.specs.Words.{degreeOf, wordOf}
 use Rattle.words.specs.declared.CornerName.{CornerName}
 use Rattle.words.specs.declared.TriangleCode.{TriangleCode}
 use Rattle.net.specs.Corners.{nameOf, corner, named}
-use Rattle.corners.specs.Answers.{Answer, BackAnswer, CrossAnswer, Lent, NamingAnswer, nameAnswer, stepAnswer}
+use Rattle.corners.specs.Answers.{BackAnswer, CrossAnswer, NamingAnswer, nameAnswer, stepAnswer}
 use Rattle.corners.specs.Turns.{Turned}
 use Rattle.net.specs.Division.{cornerOf, sum}
 use Rattle.net.specs.Means.Paths.{digitsOf}
 use Rattle.net.specs.Means.Spreads.{pointIn, spread}
 use Rattle.net.specs.Means.Walks.{Place, edgeThere, leastName, placeAt, stepFrom}
 use Rattle.net.specs.Names.{IsName}
-use Rattle.net.specs.Refusals.{canonical, canonicalRows, checkName, listRows, notCanonical, onOneSide, onSide}
+use Rattle.net.specs.Refusals.{canonical, canonicalRows, checkName, notCanonical, onOneSide, onSide}
 use Rattle.net.specs.Refusals.{oneToThreeRows, weightRows}
 use Rattle.corners.specs.Refusals.{refuseBack, refuseNameWeights, refuseNumbered, refuseRing, refuseWeights}
 use Rattle.net.specs.Sides.{IsSide, OneToThree, nth, prev}
@@ -65,15 +67,15 @@ module _ {A : Type 0} {f : ℕ} {Good : A → List ℕ → Type 0} {zeros : ℕ 
 module _ (t : TriangleCode) (i : ℕ) where
   pub numbered-code : {k : ℕ} → k ≡ checkCode t → (k ≡ 0 → ⊥) → k ≡ refuseNumbered t i
   unfolding refuseNumbered checkCode
-  numbered-code e n = refuse-before (codeRows t) (oneToThreeRows i) tt tt e n
+  numbered-code e n = refuse-before order order (codeRows t) (oneToThreeRows i) tt tt e n
 
   pub numbered-low : checkCode t ≡ 0 → i ≡ 0 → 5 ≡ refuseNumbered t i
   unfolding refuseNumbered checkCode
-  numbered-low z e = refuse-after (codeRows t) (oneToThreeRows i) tt tt z (here (either-left _ _ (eq-eqb i 0 e)))
+  numbered-low z e = refuse-after order order (codeRows t) (oneToThreeRows i) tt tt z (here (either-left _ _ (eq-eqb i 0 e)))
 
   pub numbered-high : checkCode t ≡ 0 → 3 < i → 5 ≡ refuseNumbered t i
   unfolding refuseNumbered checkCode
-  numbered-high z h = refuse-after (codeRows t) (oneToThreeRows i) tt tt z
+  numbered-high z h = refuse-after order order (codeRows t) (oneToThreeRows i) tt tt z
       (here (either-right (eqb i 0) _ (lt-ltb 3 i h)))
 
 -- ---- crossing
@@ -117,7 +119,7 @@ module _ (r : CornerName) (z : checkNameFields r ≡ 0) where
 
   pub name-ten : (least ≡ r .0 → ⊥) → 10 ≡ checkName r
   unfolding checkName checkNameFields
-  name-ten n = refuse-after (nameRows r) _ tt tt z (here (not-so (refusal (nameRows r)) z))
+  name-ten n = refuse-after order order (nameRows r) _ tt tt z (here (not-so (refusal (nameRows r)) z))
     where
       no-true : (b : Bool) → (b ≡ true → ⊥) → not b ≡ true
       no-true true f = absurd (f refl)
@@ -137,37 +139,37 @@ module _ (r : CornerName) (z : checkNameFields r ≡ 0) where
 
 pub name-first : (r : CornerName) {k : ℕ} → k ≡ checkNameFields r → (k ≡ 0 → ⊥) → k ≡ checkName r
 unfolding checkName checkNameFields
-name-first r e n = refuse-before (nameRows r) _ tt tt e n
+name-first r e n = refuse-before order order (nameRows r) _ tt tt e n
 
 -- ---- lists
 
 pub weights-first : (t : TriangleCode) (i : ℕ) (out : List ℕ) {k : ℕ} → k ≡ refuseNumbered t i
     → (k ≡ 0 → ⊥) → k ≡ refuseWeights t i out
 unfolding refuseNumbered refuseWeights
-weights-first t i out e n = refuse-before (codeRows t ++ oneToThreeRows i) (listRows 12 out) tt tt e n
+weights-first t i out e n = refuse-before order order (codeRows t ++ oneToThreeRows i) (listRows 12 out) tt tt e n
 
 pub weights-nine : (t : TriangleCode) (i : ℕ) (out : List ℕ) → refuseNumbered t i ≡ 0 → length out < 12
     → 9 ≡ refuseWeights t i out
 unfolding refuseNumbered refuseWeights
-weights-nine t i out z h = refuse-after (codeRows t ++ oneToThreeRows i) (listRows 12 out) tt tt z
+weights-nine t i out z h = refuse-after order order (codeRows t ++ oneToThreeRows i) (listRows 12 out) tt tt z
     (here (lt-ltb (length out) 12 h))
 
 module _ (r : CornerName) (out : List ℕ) where
   pub name-weights-first : {k : ℕ} → k ≡ checkName r → (k ≡ 0 → ⊥) → k ≡ refuseNameWeights r out
   unfolding checkName refuseNameWeights
-  name-weights-first e n = refuse-before (canonicalRows r) (listRows 12 out) tt tt e n
+  name-weights-first e n = refuse-before order order (canonicalRows r) (listRows 12 out) tt tt e n
 
   pub name-weights-nine : checkName r ≡ 0 → length out < 12 → 9 ≡ refuseNameWeights r out
   unfolding checkName refuseNameWeights
-  name-weights-nine z h = refuse-after (canonicalRows r) (listRows 12 out) tt tt z (here (lt-ltb (length out) 12 h))
+  name-weights-nine z h = refuse-after order order (canonicalRows r) (listRows 12 out) tt tt z (here (lt-ltb (length out) 12 h))
 
   pub ring-first : {k : ℕ} → k ≡ checkName r → (k ≡ 0 → ⊥) → k ≡ refuseRing r out
   unfolding checkName refuseRing
-  ring-first e n = refuse-before (canonicalRows r) (listRows 6 out) tt tt e n
+  ring-first e n = refuse-before order order (canonicalRows r) (listRows 6 out) tt tt e n
 
   pub ring-nine : checkName r ≡ 0 → length out < 6 → 9 ≡ refuseRing r out
   unfolding checkName refuseRing
-  ring-nine z h = refuse-after (canonicalRows r) (listRows 6 out) tt tt z (here (lt-ltb (length out) 6 h))
+  ring-nine z h = refuse-after order order (canonicalRows r) (listRows 6 out) tt tt z (here (lt-ltb (length out) 6 h))
 
 -- ---- the way back
 
@@ -177,21 +179,21 @@ module _ (n : ℕ) (weights : List ℕ) where
 
   pub back-one-refused : 24 < n → 1 ≡ refuseBack n weights
   unfolding refuseBack
-  back-one-refused h = refuse-first rows tt (here (lt-ltb 24 n h))
+  back-one-refused h = refuse-first order rows tt (here (lt-ltb 24 n h))
 
   pub back-nine : n ≤ 24 → length weights < 12 → 9 ≡ refuseBack n weights
   unfolding refuseBack
-  back-nine h l = refuse-first rows tt (next (le-ltb 24 n h) (here (lt-ltb (length weights) 12 l)))
+  back-nine h l = refuse-first order rows tt (next (le-ltb 24 n h) (here (lt-ltb (length weights) 12 l)))
 
   module _ (h : n ≤ 24) (l : 12 ≤ length weights) where
     pub back-sum : eqb (sum (take 12 weights)) (2 ^ n) ≡ false → 11 ≡ refuseBack n weights
     unfolding refuseBack
-    back-sum e = refuse-first rows tt (next (le-ltb 24 n h)
+    back-sum e = refuse-first order rows tt (next (le-ltb 24 n h)
         (next (le-ltb (length weights) 12 l) (here (either-left _ _ (ap not e)))))
 
     pub back-side : onOneSide (take 12 weights) ≡ false → 11 ≡ refuseBack n weights
     unfolding refuseBack
-    back-side e = refuse-first rows tt (next (le-ltb 24 n h)
+    back-side e = refuse-first order rows tt (next (le-ltb 24 n h)
         (next (le-ltb (length weights) 12 l) (here (either-right (not (eqb (sum (take 12 weights)) (2 ^ n))) _
         (ap not e)))))
 

@@ -11,8 +11,8 @@ use Rattle.words.specs.Words.{cornerNumber, degreeOf}
 use Rattle.words.specs.declared.CornerName.{CornerName}
 use Rattle.words.specs.declared.TriangleCode.{TriangleCode}
 use Rattle.net.specs.Corners.{nameOf, codeInside, corner, named}
-use Rattle.net.specs.Refusals.{over}
-use Rattle.corners.specs.Answers.{Answer, BackAnswer, CrossAnswer, Crossed, Lent, Listed, NameWeightsAnswer}
+use Rattle.frame.specs.Answers.{over, Answer, Lent, Listed}
+use Rattle.corners.specs.Answers.{BackAnswer, CrossAnswer, Crossed, NameWeightsAnswer}
 use Rattle.corners.specs.Answers.{Named, NamingAnswer, Put, RingAnswer, WeightsAnswer, countAnswer, nameAnswer}
 use Rattle.corners.specs.Answers.{noStep, stepAnswer}
 use Rattle.net.specs.Division.{Weights}

@@ -9,13 +9,14 @@ use native.Mathlib.Omega.{arith}
 use lib.ListN.{length, take}
 use borrow.Author.Tests.{ltb-false, eqb-false, eqb-true, le-ltb, ne-eqb, eq-eqb, not-false}
 use Rattle.words.proofs.Codes.{is-code}
-use Rattle.words.proofs.Refusing.{NoneSo, either-false, none-after, none-so}
+use Rattle.frame.proofs.Refusing.{NoneSo, either-false, none-after, none-so}
+use Rattle.frame.specs.Refusals.{listRows, order}
 use Rattle.words.specs.Refusals.{IsCode, checkCode, codeRows, degreeRows}
 use Rattle.words.specs.Words.{degreeOf}
 use Rattle.words.specs.declared.CornerName.{CornerName}
 use Rattle.words.specs.declared.TriangleCode.{TriangleCode}
 use Rattle.net.specs.Division.{sum}
-use Rattle.net.specs.Refusals.{canonicalRows, checkName, listRows, onOneSide, oneToThreeRows, weightRows}
+use Rattle.net.specs.Refusals.{canonicalRows, checkName, onOneSide, oneToThreeRows, weightRows}
 use Rattle.corners.specs.Refusals.{refuseBack, refuseNameWeights, refuseNumbered, refuseRing, refuseWeights}
 use Rattle.net.specs.Sides.{OneToThree}
 
@@ -29,8 +30,8 @@ pub numbered-passes : (t : TriangleCode) (k : ℕ)
     → (refuseNumbered t k ≡ 0) ↔ ((checkCode t ≡ 0) × OneToThree k)
 unfolding refuseNumbered checkCode
 numbered-passes t k = (
-  λ e. let n = none-after (codeRows t) _ tt tt .0 e in (n .0, one-to-three k .0 (n .1)),
-  λ p. none-after (codeRows t) _ tt tt .1 (p .0, one-to-three k .1 (p .1)),
+  λ e. let n = none-after order order (codeRows t) _ tt tt .0 e in (n .0, one-to-three k .0 (n .1)),
+  λ p. none-after order order (codeRows t) _ tt tt .1 (p .0, one-to-three k .1 (p .1)),
 )
 
 pub numbered : (t : TriangleCode) (k : ℕ) → refuseNumbered t k ≡ 0 → IsCode (degreeOf (t .0)) t × OneToThree k
@@ -43,25 +44,25 @@ pub weights-passes : (t : TriangleCode) (i : ℕ) (out : List ℕ)
     → (refuseWeights t i out ≡ 0) ↔ ((refuseNumbered t i ≡ 0) × (12 ≤ length out))
 unfolding refuseWeights refuseNumbered
 weights-passes t i out = (
-  λ e. let n = none-after (codeRows t ++ oneToThreeRows i) (listRows 12 out) tt tt .0 e in
+  λ e. let n = none-after order order (codeRows t ++ oneToThreeRows i) (listRows 12 out) tt tt .0 e in
       (n .0, long-enough 12 out .0 (n .1)),
-  λ p. none-after (codeRows t ++ oneToThreeRows i) (listRows 12 out) tt tt .1 (p .0, long-enough 12 out .1 (p .1)),
+  λ p. none-after order order (codeRows t ++ oneToThreeRows i) (listRows 12 out) tt tt .1 (p .0, long-enough 12 out .1 (p .1)),
 )
 
 pub name-weights-passes : (r : CornerName) (out : List ℕ)
     → (refuseNameWeights r out ≡ 0) ↔ ((checkName r ≡ 0) × (12 ≤ length out))
 unfolding refuseNameWeights checkName
 name-weights-passes r out = (
-  λ e. let n = none-after (canonicalRows r) (listRows 12 out) tt tt .0 e in (n .0, long-enough 12 out .0 (n .1)),
-  λ p. none-after (canonicalRows r) (listRows 12 out) tt tt .1 (p .0, long-enough 12 out .1 (p .1)),
+  λ e. let n = none-after order order (canonicalRows r) (listRows 12 out) tt tt .0 e in (n .0, long-enough 12 out .0 (n .1)),
+  λ p. none-after order order (canonicalRows r) (listRows 12 out) tt tt .1 (p .0, long-enough 12 out .1 (p .1)),
 )
 
 pub ring-passes : (r : CornerName) (out : List ℕ)
     → (refuseRing r out ≡ 0) ↔ ((checkName r ≡ 0) × (6 ≤ length out))
 unfolding refuseRing checkName
 ring-passes r out = (
-  λ e. let n = none-after (canonicalRows r) (listRows 6 out) tt tt .0 e in (n .0, long-enough 6 out .0 (n .1)),
-  λ p. none-after (canonicalRows r) (listRows 6 out) tt tt .1 (p .0, long-enough 6 out .1 (p .1)),
+  λ e. let n = none-after order order (canonicalRows r) (listRows 6 out) tt tt .0 e in (n .0, long-enough 6 out .0 (n .1)),
+  λ p. none-after order order (canonicalRows r) (listRows 6 out) tt tt .1 (p .0, long-enough 6 out .1 (p .1)),
 )
 
 pub back-passes : (n : ℕ) (weights : List ℕ)
@@ -71,7 +72,7 @@ pub back-passes : (n : ℕ) (weights : List ℕ)
 unfolding refuseBack
 back-passes n weights = (
   λ e.
-      let x = none-so (degreeRows n ++ listRows 12 weights ++ weightRows n weights) tt .0 e in
+      let x = none-so order (degreeRows n ++ listRows 12 weights ++ weightRows n weights) tt .0 e in
       let y = either-false _ _ .0 (x .1 .1 .0) in (
         ltb-false 24 n (x .0),
         ltb-false (length weights) 12 (x .1 .0),
@@ -79,7 +80,7 @@ back-passes n weights = (
         not-false _ (y .1),
       ),
   λ p.
-      none-so (degreeRows n ++ listRows 12 weights ++ weightRows n weights) tt .1 (
+      none-so order (degreeRows n ++ listRows 12 weights ++ weightRows n weights) tt .1 (
         le-ltb 24 n (p .0),
         (le-ltb (length weights) 12 (p .1), (either-false _ _ .1 (ap not (eq-eqb _ _ (p .2)), ap not (p .3)), tt)),
       ),

@@ -11,7 +11,9 @@ use Rattle.net.specs.Corners.{codeInside, named}
 use Rattle.net.specs.Division.{Weights}
 use Rattle.net.specs.Means.States.{pointOf, stateOf}
 use Rattle.net.specs.Means.Walks.{placeAt, ringWords}
-use Rattle.net.specs.Refusals.{over, checkName}
+use Rattle.frame.specs.Answers.{over}
+use Rattle.frame.proofs.Answering.{answering}
+use Rattle.net.specs.Refusals.{checkName}
 use Rattle.net.specs.Sides.{OneToThree}
 use Rattle.net.specs.Steps.{nonZeros, ringSize}
 use Rattle.net.specs.declared.Point.{Point}
@@ -20,7 +22,6 @@ use Rattle.net.proofs.CodePlaces.{corner-at, digitsIn}
 use Rattle.net.proofs.RingCodes.{ring-is, ring-length}
 use Rattle.net.proofs.RingLists.{countOf, count-is}
 use Rattle.corners.specs.Answers.{RingAnswer, countAnswer}
-use Rattle.corners.proofs.Calls.{answering-lent}
 use Rattle.corners.proofs.Refused.{ring-passes}
 
 module _ (r : CornerName) (z : checkName r ≡ 0) where

@@ -4,10 +4,11 @@
 -- Assumes nothing.
 use Prim.Native.Nat.{ℕ}
 use mathlib.Core.List.{List, _++_}
-use Rattle.words.specs.Refusals.{refusal, degreeRows, codeRows}
+use Rattle.frame.specs.Refusals.{refusal, listRows}
+use Rattle.words.specs.Refusals.{degreeRows, codeRows}
 use Rattle.words.specs.declared.TriangleCode.{TriangleCode}
 use Rattle.words.specs.declared.CornerName.{CornerName}
-use Rattle.net.specs.Refusals.{oneToThreeRows, listRows, canonicalRows, weightRows}
+use Rattle.net.specs.Refusals.{oneToThreeRows, canonicalRows, weightRows}
 
 -- crossing by an edge; naming, exact coordinates, t and drawn coordinates by a corner number
 unfoldable pub refuseNumbered : TriangleCode → ℕ → ℕ

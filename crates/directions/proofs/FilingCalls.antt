@@ -8,11 +8,11 @@ use borrow.Author.Tests.{lt-ltb}
 use Rattle.words.specs.Words.{wordOf}
 use Rattle.words.specs.Family.{codeOf}
 use Rattle.words.specs.Refusals.{degreeRows}
-use Rattle.words.proofs.Refusing.{here, refuse-before, refuse-after}
-use Rattle.net.specs.Refusals.{listRows}
+use Rattle.frame.proofs.Refusing.{here, refuse-before, refuse-after}
+use Rattle.frame.specs.Refusals.{listRows, order}
+use Rattle.frame.proofs.Answering.{answering}
 use Rattle.corners.specs.Answers.{countAnswer}
 use Rattle.directions.specs.Answers.{FileAnswer, ListAnswer}
-use Rattle.corners.proofs.Calls.{answering, answering-lent}
 use Rattle.net.proofs.Flips.{each-length}
 use Rattle.filing.specs.Filing.{IsFiled}
 use Rattle.filing.specs.Refusals.{directionRows}
@@ -37,11 +37,11 @@ filed-answer n d w z h = answering z (record { number = refl; is = h })
 module _ (n : ℕ) (d : Direction) (out : List ℕ) where
   pub list-first : {k : ℕ} → k ≡ refuseFile n d → (k ≡ 0 → ⊥) → k ≡ refuseList n d out
   unfolding refuseFile refuseList
-  list-first e f = refuse-before (degreeRows n ++ directionRows d) (listRows 6 out) tt tt e f
+  list-first e f = refuse-before order order (degreeRows n ++ directionRows d) (listRows 6 out) tt tt e f
 
   pub list-nine : refuseFile n d ≡ 0 → length out < 6 → 9 ≡ refuseList n d out
   unfolding refuseFile refuseList
-  list-nine z h = refuse-after (degreeRows n ++ directionRows d) (listRows 6 out) tt tt z (here (lt-ltb (length out)
+  list-nine z h = refuse-after order order (degreeRows n ++ directionRows d) (listRows 6 out) tt tt z (here (lt-ltb (length out)
       6 h))
 
 -- the lists of the sides, one after the other, are as long as they are together

@@ -8,11 +8,11 @@ use lib.ListN.{length}
 use Rattle.words.specs.Words.{wordOf}
 use Rattle.words.specs.Family.{codeOf, noCode}
 use Rattle.words.specs.declared.CodeAnswer.{CodeAnswer}
-use Rattle.net.specs.Refusals.{over}
-use Rattle.corners.specs.Answers.{Listed, countAnswer}
+use Rattle.frame.specs.Answers.{over, Listed}
+use Rattle.frame.proofs.Answering.{answer-one, answer-some}
+use Rattle.corners.specs.Answers.{countAnswer}
 use Rattle.directions.specs.Answers.{Filed, FileAnswer, ListAnswer}
 use Rattle.corners.specs.declared.CountAnswer.{CountAnswer}
-use Rattle.corners.proofs.OneAnswer.{answer-one, answer-some, lent-one, lent-some}
 use Rattle.filing.specs.Filing.{AreHolders}
 use Rattle.directions.specs.Refusals.{refuseFile}
 use Rattle.filing.specs.Means.Descent.{descent}

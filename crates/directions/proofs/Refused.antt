@@ -9,9 +9,9 @@ use lib.Dec.{ltb}
 use lib.IntN.{natAbs}
 use lib.ListN.{length}
 use borrow.Author.Tests.{ltb-false, lt-ltb, le-ltb, eqb-true, eq-eqb}
-use Rattle.words.specs.Refusals.{_either_, _when_, degreeRows}
-use Rattle.words.proofs.Refusing.{inTurn, in-turn, none-after, none-so, either-left, either-right, either-false}
-use Rattle.net.specs.Refusals.{listRows}
+use Rattle.frame.specs.Refusals.{_either_, _when_, listRows, order}
+use Rattle.frame.proofs.Refusing.{inTurn, in-turn, none-after, none-so, either-left, either-right, either-false}
+use Rattle.words.specs.Refusals.{degreeRows}
 use Rattle.net.proofs.Canonical.{and-true}
 use Rattle.filing.specs.Refusals.{outside, zero?, directionRows}
 use Rattle.directions.specs.Refusals.{refuseFile, refuseList}
@@ -28,7 +28,7 @@ none d = zero? (d .x) && (zero? (d .y) && zero? (d .z))
 
 pub refuse-by : (n : ℕ) (d : Direction) {a b c : Bool} → ltb 24 n ≡ a → far d ≡ b → none d ≡ c → inTurn (1 when a ∷ 8 when b ∷ 7 when c ∷ []) ≡ refuseFile n d
 unfolding refuseFile
-refuse-by n d p q r = sym (in-turn (degreeRows n ++ directionRows d) tt ∙ (λ i. inTurn (1 when p i ∷ 8 when q i ∷ 7 when r i ∷ [])))
+refuse-by n d p q r = sym (in-turn order (degreeRows n ++ directionRows d) tt ∙ (λ i. inTurn (1 when p i ∷ 8 when q i ∷ 7 when r i ∷ [])))
 
 module _ (d : Direction) where
   pub far-x : 1000000000 < natAbs (d .x) → far d ≡ true
@@ -66,7 +66,7 @@ pub record Allowed (n : ℕ) (d : Direction) : Type 0 where
 pub allowed : (n : ℕ) (d : Direction) → refuseFile n d ≡ 0 → Allowed n d
 unfolding refuseFile
 allowed n d e =
-    let x = none-so (degreeRows n ++ directionRows d) tt .0 e in
+    let x = none-so order (degreeRows n ++ directionRows d) tt .0 e in
     let y = either-false _ _ .0 (x .1 .0) in
     let z = either-false _ _ .0 (y .1) in
     record {
@@ -78,6 +78,6 @@ allowed n d e =
 pub list-passes : (n : ℕ) (d : Direction) (out : List ℕ) → (refuseList n d out ≡ 0) ↔ ((refuseFile n d ≡ 0) × (6 ≤ length out))
 unfolding refuseList refuseFile
 list-passes n d out = (
-  λ e. let k = none-after (degreeRows n ++ directionRows d) (listRows 6 out) tt tt .0 e in (k .0, ltb-false (length out) 6 (k .1 .0)),
-  λ p. none-after (degreeRows n ++ directionRows d) (listRows 6 out) tt tt .1 (p .0, (le-ltb (length out) 6 (p .1), tt)),
+  λ e. let k = none-after order order (degreeRows n ++ directionRows d) (listRows 6 out) tt tt .0 e in (k .0, ltb-false (length out) 6 (k .1 .0)),
+  λ p. none-after order order (degreeRows n ++ directionRows d) (listRows 6 out) tt tt .1 (p .0, (le-ltb (length out) 6 (p .1), tt)),
 )

@@ -7,7 +7,8 @@ use Rattle.words.specs.Family.{noCode}
 use Rattle.words.specs.declared.CodeAnswer.{CodeAnswer}
 use Rattle.filing.specs.Filing.{IsFiled, AreHolders}
 use Rattle.filing.specs.declared.Direction.{Direction}
-use Rattle.corners.specs.Answers.{Answer, Lent, Listed, noCount}
+use Rattle.frame.specs.Answers.{Answer, Lent, Listed}
+use Rattle.corners.specs.Answers.{noCount}
 use Rattle.corners.specs.declared.CountAnswer.{CountAnswer}
 use Rattle.directions.specs.Refusals.{refuseFile, refuseList}
 

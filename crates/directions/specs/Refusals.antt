@@ -1,8 +1,8 @@
 -- Document 01, 'Refusal numbers': the refusals of filing and listing. "filing and listing [take] a degree and a direction". Assumes nothing.
 use Prim.Native.Nat.{ℕ}
 use mathlib.Core.List.{List, _++_}
-use Rattle.words.specs.Refusals.{refusal, degreeRows}
-use Rattle.net.specs.Refusals.{listRows}
+use Rattle.frame.specs.Refusals.{refusal, listRows}
+use Rattle.words.specs.Refusals.{degreeRows}
 use Rattle.filing.specs.Refusals.{directionRows}
 use Rattle.filing.specs.declared.Direction.{Direction}
 

@@ -3,7 +3,7 @@ use mathlib.Core.Bool.{Bool, _&&_}
 use mathlib.Core.List.{List, [], _∷_}
 use lib.Dec.{ltb, eqb}
 use lib.IntN.{ℤ, natAbs}
-use Rattle.words.specs.Refusals.{_either_, Row, _when_}
+use Rattle.frame.specs.Refusals.{_either_, Row, _when_}
 use Rattle.filing.specs.declared.Direction.{Direction}
 
 -- "8: a direction coordinate lies outside -1,000,000,000 to 1,000,000,000"

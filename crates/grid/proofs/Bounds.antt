@@ -2,7 +2,8 @@
 use mathlib.Core.Path.{refl}
 use Rattle.words.specs.Words.{digits, path, wordOf}
 use Rattle.words.specs.Counting.{codeAt}
-use Rattle.words.specs.Refusals.{refusal, checkCode}
+use Rattle.frame.specs.Refusals.{firstOf}
+use Rattle.words.specs.Refusals.{checkCode}
 use Rattle.words.specs.Family.{refuseParent, refuseChild}
 use Rattle.net.specs.Sides.{cornerVertex}
 use Rattle.net.specs.Division.{unitAt, triangleAt, cornerOf, sum}
@@ -14,7 +15,7 @@ use Rattle.grid.specs.Writing.{decimals, written}
 use Rattle.grid.specs.Examples.{Bounds}
 
 pub bounds : Bounds
-unfolding refusal checkCode refuseParent refuseChild checkName canonical everyCode codeAt refuseNumbered refuseWeights refuseNameWeights refuseBack refuseRing refuseFile refuseList decimals written path wordOf digits corner cornerOf triangleAt unitAt cornerVertex sum
+unfolding firstOf checkCode refuseParent refuseChild checkName canonical everyCode codeAt refuseNumbered refuseWeights refuseNameWeights refuseBack refuseRing refuseFile refuseList decimals written path wordOf digits corner cornerOf triangleAt unitAt cornerVertex sum
 bounds = record {
   word-0 = refl;
   word-0-name = refl;

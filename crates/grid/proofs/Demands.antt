@@ -19,7 +19,10 @@ use Rattle.net.specs.Division.{Weights, sum, triangleAt, cornerOf, divide}
 use Rattle.net.specs.Corners.{codeInside, corner, triangleOf, HasCorner, named}
 use Rattle.net.specs.Names.{IsName}
 use Rattle.net.specs.Steps.{Across}
-use Rattle.net.specs.Refusals.{over, onOneSide}
+use Rattle.frame.specs.Answers.{over, Answer, Lent}
+use Rattle.frame.proofs.Answering.{answering}
+use Rattle.frame.specs.Promises.{Keeps}
+use Rattle.net.specs.Refusals.{onOneSide}
 use Rattle.net.proofs.Canonical.{name-means, name-passes-all}
 use Rattle.net.proofs.Demand3.{back-again, one-across, three-distinct, just-two, names-equal}
 use Rattle.net.proofs.Stepping.{next-three, prev-three, next-not, prev-not}
@@ -30,16 +33,15 @@ use Rattle.filing.proofs.OnePoint.{same-point}
 use Rattle.filing.proofs.Weighted.{corner-twelve}
 use Rattle.corners.specs.Refusals.{refuseNumbered}
 use Rattle.corners.specs.Turns.{Turned}
-use Rattle.corners.specs.Answers.{Answer, Lent, Put, nameAnswer, Named, CrossAnswer, NamingAnswer}
+use Rattle.corners.specs.Answers.{Put, nameAnswer, Named, CrossAnswer, NamingAnswer}
 use Rattle.corners.specs.Answers.{BackAnswer}
 use Rattle.corners.specs.declared.StepAnswer.{StepAnswer}
 use Rattle.corners.specs.declared.NameAnswer.{NameAnswer}
 use Rattle.corners.proofs.Refused.{numbered, numbered-passes, weights-passes, name-weights-passes, back-passes}
-use Rattle.corners.proofs.Calls.{answering}
 use Rattle.corners.proofs.OneAnswer as corners
 use Rattle.points.proofs.OnePlace as points
 use Rattle.directions.proofs.OneFiling as directions
-use Rattle.grid.specs.Demands.{Keeps, WithList, Demand1, Demand2Codes, Demand2Back, Demand2Files, Demand3}
+use Rattle.grid.specs.Demands.{Demand1, Demand2Codes, Demand2Back, Demand2Files, Demand3}
 
 -- ---- 1
 

@@ -8,7 +8,8 @@ use lib.ListN.{replicate}
 use Rattle.golden.specs.Numbers.{_+φ_, negφ, _*φ_}
 use Rattle.words.specs.Words.{digits, path, wordOf}
 use Rattle.words.specs.Counting.{codeAt}
-use Rattle.words.specs.Refusals.{refusal, checkNameFields}
+use Rattle.frame.specs.Refusals.{firstOf}
+use Rattle.words.specs.Refusals.{checkNameFields}
 use Rattle.words.specs.Family.{refuseParent, refuseChild, parentOf, childOf, parentAnswer, childAnswer}
 use Rattle.net.specs.Sides.{cornerVertex, vertex}
 use Rattle.net.specs.Division.{unitAt, triangleAt, cornerOf, sum}
@@ -36,7 +37,7 @@ use Rattle.grid.proofs.Showing.{point-by, ticks-test}
 -- ---- the name of V(41), its t, and what is drawn
 
 passes : checkName (nameOf 0x7000000000000002) ≡ 0
-unfolding checkNameFields refusal path wordOf digits stepOf cross seamSide seamKept around wordAt nameAt leastName
+unfolding checkNameFields firstOf path wordOf digits stepOf cross seamSide seamKept around wordAt nameAt leastName
 passes = passes-by (nameOf 0x7000000000000002) refl refl
 
 ticks-41 : AreTicks (exact (unitAt (vertex 4 1))) (ticks (minus 106039) (pos 0) (minus 65536) .at)
@@ -57,7 +58,7 @@ unfolding ofBits fits
 point-20 = point-by _ _ _ _ ticks-20 ((refl, refl), tt) ((refl, refl), tt) ((refl, refl), tt)
 
 passes-20 : checkName (nameOf 0x2000000000000003) ≡ 0
-unfolding checkNameFields refusal path wordOf digits stepOf cross seamSide seamKept around wordAt nameAt leastName
+unfolding checkNameFields firstOf path wordOf digits stepOf cross seamSide seamKept around wordAt nameAt leastName
 passes-20 = passes-by (nameOf 0x2000000000000003) refl refl
 
 deeper-20 : AreTicks (exact (corner (written 2002) 2)) (ticks (pos 212079) (pos 0) (pos 131072) .at)
@@ -71,7 +72,7 @@ deeper-41 = ticks-test _ _ (tt, tt) (tt, tt) (tt, tt)
 -- ---- E1 to E12
 
 pub examples : Examples
-unfolding refusal refuseFile refuseNumbered refuseBack decimals written path wordOf digits corner cornerOf triangleAt
+unfolding firstOf refuseFile refuseNumbered refuseBack decimals written path wordOf digits corner cornerOf triangleAt
     unitAt cornerVertex sum stepOf cross seamSide seamKept around wordAt nameAt leastName leastFrom first holds nonNeg
     sideDets determinants replaced determinant exact _+φ_ negφ _*φ_ descent leastChild allWords sideWords joined
     holders
@@ -98,7 +99,7 @@ examples = record {
 -- ---- how the corners turn, parent and child, weights, rings
 
 pub crossings : Crossings
-unfolding refusal refuseNumbered decimals written path wordOf digits stepOf cross seamSide seamKept
+unfolding firstOf refuseNumbered decimals written path wordOf digits stepOf cross seamSide seamKept
 crossings = record {
   inside = crosses (written 1000) 1 _ _ refl refl refl;
   seam = crosses (written 100) 3 _ _ refl refl refl;
@@ -107,16 +108,16 @@ crossings = record {
 }
 
 pub family : Family
-unfolding refusal refuseParent refuseChild parentOf childOf parentAnswer childAnswer decimals written path wordOf digits
+unfolding firstOf refuseParent refuseChild parentOf childOf parentAnswer childAnswer decimals written path wordOf digits
 family = record { child = refl; parent = refl; no-parent = refl; no-child = refl }
 
 passes-weighed : checkName (cornerIn 10000 1) ≡ 0
-unfolding checkNameFields refusal decimals written path wordOf digits stepOf cross seamSide seamKept around wordAt
+unfolding checkNameFields firstOf decimals written path wordOf digits stepOf cross seamSide seamKept around wordAt
     nameAt leastName
 passes-weighed = passes-by (cornerIn 10000 1) refl refl
 
 pub weighed : Weighed
-unfolding refusal refuseNumbered decimals written path wordOf digits corner cornerOf triangleAt unitAt cornerVertex
+unfolding firstOf refuseNumbered decimals written path wordOf digits corner cornerOf triangleAt unitAt cornerVertex
 weighed = record {
   w1 = weighs (written 10012) 1 _ refl refl;
   w2 = weighs (written 10012) 2 _ refl refl;
@@ -125,12 +126,12 @@ weighed = record {
 }
 
 passes-five : checkName (cornerIn 100 1) ≡ 0
-unfolding checkNameFields refusal decimals written path wordOf digits stepOf cross seamSide seamKept around wordAt
+unfolding checkNameFields firstOf decimals written path wordOf digits stepOf cross seamSide seamKept around wordAt
     nameAt leastName
 passes-five = passes-by (cornerIn 100 1) refl refl
 
 passes-six : checkName (cornerIn 1000 3) ≡ 0
-unfolding checkNameFields refusal decimals written path wordOf digits stepOf cross seamSide seamKept around wordAt
+unfolding checkNameFields firstOf decimals written path wordOf digits stepOf cross seamSide seamKept around wordAt
     nameAt leastName
 passes-six = passes-by (cornerIn 1000 3) refl refl
 
@@ -143,7 +144,7 @@ rings =
 -- ---- lent lists
 
 pub places : Places
-unfolding refusal refuseWeights refuseNumbered refuseRing refuseList checkName canonical everyCode codeAt decimals
+unfolding firstOf refuseWeights refuseNumbered refuseRing refuseList checkName canonical everyCode codeAt decimals
     written path wordOf digits corner cornerOf triangleAt unitAt cornerVertex
 places = record {
   ring = rings .five (replicate 7 7) (lit≤ tt);
@@ -165,7 +166,7 @@ unfolding ofBits fits
 point-six = point-by _ _ _ _ ticks-six ((refl, refl), tt) ((refl, refl), tt) ((refl, refl), tt)
 
 pub points : Points
-unfolding refusal refuseNumbered checkName decimals written path wordOf digits corner cornerOf triangleAt unitAt
+unfolding firstOf refuseNumbered checkName decimals written path wordOf digits corner cornerOf triangleAt unitAt
     cornerVertex exact _+φ_ _*φ_
 points = record {
   v41 = placed (written 401) 1 refl _ refl;

@@ -15,7 +15,9 @@ use Rattle.golden.specs.Numbers.{golden, whole, _+φ_, negφ, _*φ_}
 use Rattle.golden.proofs.GoldenOrder.{is-nonneg, not-nonneg}
 use Rattle.golden.proofs.IntegerOrder.{pp}
 use Rattle.words.specs.Words.{digits, path, wordOf, sideOf, degreeOf}
-use Rattle.words.specs.Refusals.{refusal, checkCode, IsCode}
+use Rattle.frame.specs.Refusals.{firstOf}
+use Rattle.frame.specs.Promises.{_gives_}
+use Rattle.words.specs.Refusals.{checkCode, IsCode}
 use Rattle.words.specs.Family.{codeOf, codeAnswer}
 use Rattle.words.specs.declared.TriangleCode.{TriangleCode}
 use Rattle.words.specs.declared.CornerName.{CornerName}
@@ -49,7 +51,7 @@ use Rattle.corners.proofs.Calls.{weights-nine}
 use Rattle.directions.specs.Refusals.{refuseFile}
 use Rattle.directions.specs.Answers.{FileAnswer}
 use Rattle.directions.proofs.Refused.{refuse-by}
-use Rattle.grid.specs.Writing.{_gives_, decimals, written, zeroDigits, minus, towards, up}
+use Rattle.grid.specs.Writing.{decimals, written, zeroDigits, minus, towards, up}
 use Rattle.grid.specs.Mistakes.{Mistakes, close, holder, across-edge, StrictlyInside}
 use Rattle.grid.proofs.Showing.{files, crosses}
 use Rattle.grid.proofs.Examples.{examples, points, rings}
@@ -57,7 +59,7 @@ use Rattle.grid.proofs.Examples.{examples, points, rings}
 -- ---- close to an edge
 
 close-filed : FileAnswer 24 close gives codeAnswer 0 holder
-unfolding refusal refuseFile decimals written path wordOf triangleAt unitAt cornerVertex leastFrom first holds nonNeg
+unfolding firstOf refuseFile decimals written path wordOf triangleAt unitAt cornerVertex leastFrom first holds nonNeg
     sideDets determinants replaced determinant exact _+φ_ negφ _*φ_ descent leastChild
 close-filed = files 24 close holder refl refl
 
@@ -159,7 +161,7 @@ no-other : {A : Type 0} {P : A → Type 0} {r s : A} (number : A → ℕ) → P 
 no-other number g differ a = eqb-false _ _ differ (ap number (g .only _ a))
 
 pub mistakes : Mistakes
-unfolding refusal refuseNumbered refuseBack checkCode decimals written path wordOf digits corner cornerOf triangleAt
+unfolding firstOf refuseNumbered refuseBack checkCode decimals written path wordOf digits corner cornerOf triangleAt
     unitAt cornerVertex sum stepOf cross seamSide seamKept leastFrom first holds nonNeg sideDets determinants replaced
     determinant exact _+φ_ negφ _*φ_ descent leastChild refuseFile
 mistakes = record {

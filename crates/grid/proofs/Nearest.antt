@@ -28,7 +28,8 @@ use Rattle.filing.specs.declared.Point.{Point}
 use Rattle.filing.specs.declared.Ticks.{Ticks}
 use Rattle.filing.proofs.OppositeCorners.{opposite-code, opposite-degree, opposite-exact, oppositeOf}
 use Rattle.filing.proofs.Weighted.{corner-twelve, exact-small}
-use Rattle.corners.specs.Answers.{Answer}
+use Rattle.frame.specs.Answers.{Answer}
+use Rattle.frame.proofs.Answering.{good, passed}
 use Rattle.corners.proofs.Refused.{numbered}
 use Rattle.points.specs.Answers.{Pointed, Ticked, noPoint, noTicks}
 use Rattle.points.specs.Bits.{bitsOf}
@@ -37,7 +38,6 @@ use Rattle.points.specs.declared.TicksAnswer.{TicksAnswer}
 use Rattle.points.proofs.DrawnBits.{magnitude-small, points-bits}
 use Rattle.points.proofs.OnePlace.{ticks-one}
 use Rattle.grid.specs.Nearest.{Nearest, Opposed, OpposedPoints, negative}
-use Rattle.grid.proofs.Demands.{good, passed}
 
 -- ---- opposite corners
 

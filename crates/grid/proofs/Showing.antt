@@ -22,7 +22,10 @@ use Rattle.net.specs.Division.{Weights}
 use Rattle.net.specs.Corners.{corner, named, nameOf, codeInside}
 use Rattle.net.specs.Names.{IsName}
 use Rattle.net.specs.Steps.{Across, IsRing, nonZeros, ringSize}
-use Rattle.net.specs.Refusals.{over, checkName}
+use Rattle.frame.specs.Answers.{over}
+use Rattle.frame.proofs.Answering.{answering, refusing}
+use Rattle.frame.specs.Promises.{_gives_, _leaves_}
+use Rattle.net.specs.Refusals.{checkName}
 use Rattle.net.specs.Means.Walks.{leastName, ringWords}
 use Rattle.net.proofs.Canonical.{name-means}
 use Rattle.net.proofs.Crossing.{across-is, codeAcross, edgeAcross}
@@ -32,7 +35,6 @@ use Rattle.corners.specs.Refusals.{refuseNumbered, refuseWeights, refuseBack, r
 use Rattle.corners.specs.Answers.{CrossAnswer, WeightsAnswer, NameWeightsAnswer, NamingAnswer, BackAnswer, RingAnswer}
 use Rattle.corners.specs.Answers.{stepAnswer, nameAnswer, countAnswer, noStep}
 use Rattle.corners.proofs.Refused.{numbered, weights-passes, name-weights-passes, ring-passes}
-use Rattle.corners.proofs.Calls.{answering, refusing, answering-lent, refusing-lent}
 use Rattle.corners.proofs.TurnedCorners.{firstThere, secondThere, turned-is}
 use Rattle.corners.proofs.OneAnswer.{cross-one, naming-one, back-one, weights-one, name-weights-one, ring-answer-one}
 use Rattle.filing.specs.Coordinates.{exact}
@@ -57,7 +59,6 @@ use Rattle.directions.specs.Refusals.{refuseFile, refuseList}
 use Rattle.directions.specs.Answers.{FileAnswer, ListAnswer}
 use Rattle.directions.proofs.Refused.{allowed, list-passes}
 use Rattle.directions.proofs.OneFiling.{file-one, list-one}
-use Rattle.grid.specs.Writing.{_gives_, _leaves_}
 
 -- ---- filing and listing
 

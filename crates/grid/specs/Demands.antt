@@ -31,7 +31,7 @@ use Rattle.points.specs.Answers.{NameTickAnswer, DrawAnswer, NameDrawAnswer}
 use Rattle.points.specs.declared.CoordinatesAnswer.{CoordinatesAnswer}
 use Rattle.directions.specs.Refusals.{refuseFile, refuseList}
 use Rattle.directions.specs.Answers.{FileAnswer, ListAnswer}
-use Rattle.grid.specs.Writing.{_gives_}
+use Rattle.frame.specs.Promises.{_gives_}
 
 -- There is one, and whatever else meets P is that one.
 abbrev pub One : {A : Type 0} → (A → Type 0) → Type 0

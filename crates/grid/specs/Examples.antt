@@ -11,7 +11,9 @@ use Rattle.words.specs.Family.{codeOf, codeAnswer, refuseParent, refuseChild, p
 use Rattle.net.specs.Sides.{vertex}
 use Rattle.net.specs.Division.{unitAt}
 use Rattle.net.specs.Corners.{nameOf}
-use Rattle.net.specs.Refusals.{over, checkName}
+use Rattle.frame.specs.Answers.{over}
+use Rattle.frame.specs.Promises.{_gives_, _leaves_}
+use Rattle.net.specs.Refusals.{checkName}
 use Rattle.corners.specs.Refusals.{refuseNumbered, refuseWeights, refuseNameWeights, refuseBack, refuseRing}
 use Rattle.corners.specs.Answers.{CrossAnswer, WeightsAnswer, NameWeightsAnswer, NamingAnswer, BackAnswer, RingAnswer}
 use Rattle.corners.specs.Answers.{stepAnswer, nameAnswer, countAnswer}
@@ -19,7 +21,7 @@ use Rattle.points.specs.Answers.{PlaceAnswer, NamePlaceAnswer, TickAnswer, Name
 use Rattle.points.specs.Answers.{noCoordinates}
 use Rattle.directions.specs.Refusals.{refuseFile, refuseList}
 use Rattle.directions.specs.Answers.{FileAnswer, ListAnswer}
-use Rattle.grid.specs.Writing.{_gives_, _leaves_, written, wordsFor, cornerIn, zeroDigits, minus, towards, up}
+use Rattle.grid.specs.Writing.{written, wordsFor, cornerIn, zeroDigits, minus, towards, up}
 use Rattle.grid.specs.Writing.{place, ticks, point}
 
 -- "Codes are written apq then digits."

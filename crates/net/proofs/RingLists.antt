@@ -5,7 +5,7 @@ use Prim.Native.Nat.{ℕ, zero, suc, _+_, _≤_, _<_}
 use native.Mathlib.Omega.{arith}
 use lib.ListN.{length, take, drop, set}
 use lib.Seq.{take-all}
-use Rattle.net.specs.Refusals.{over}
+use Rattle.frame.specs.Answers.{over}
 use Rattle.net.specs.Division.{cornerOf}
 use Rattle.net.specs.Means.Spreads.{sign}
 use Rattle.net.specs.Means.States.{pointOf, stateOf}

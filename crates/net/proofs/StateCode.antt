@@ -13,11 +13,11 @@ use lib.Pow.{pow-mono}
 use lib.Seq.{length-take-le, take-suc, getD-take, ext-getD}
 use borrow.Author.Tests.{eq-eqb, eqb-true, ne-eqb, not-true, not-false}
 use Rattle.words.specs.Words.{degreeOf, digits, path}
-use Rattle.words.specs.Refusals.{_either_}
+use Rattle.frame.specs.Refusals.{_either_}
+use Rattle.frame.proofs.Refusing.{either-left, either-right}
 use Rattle.words.specs.declared.TriangleCode.{TriangleCode}
 use Rattle.words.proofs.Digits.{AreDigits, digits-are, more, none, path-lt}
-use Rattle.words.proofs.Refusing.{either-left, either-right}
-use Rattle.net.specs.Refusals.{everyBelow, isCornerOf, onOneSide, onSide}
+use Rattle.net.specs.Refusals.{isCornerOf, onOneSide, onSide}
 use Rattle.net.specs.Division.{cornerOf, sum, vertices}
 use Rattle.net.specs.Means.Paths.{digitsOf, pathUp}
 use Rattle.net.specs.Means.Spreads.{pointIn, spread, weightAt}
@@ -27,7 +27,7 @@ use Rattle.net.specs.Steps.{ringSize}
 use Rattle.net.specs.declared.Point.{Point}
 use Rattle.net.specs.declared.State.{State}
 use Rattle.net.specs.declared.State.the-variants.{Down, Up}
-use Rattle.net.proofs.Canonical.{and-true, every-below, or-true}
+use Rattle.net.proofs.Canonical.{and-true, not-so, or-true, some-below}
 use Rattle.net.proofs.CodePlaces.{digitsIn}
 use Rattle.net.proofs.Flips.{each-length}
 use Rattle.net.proofs.Halving.{back, last-step}
@@ -326,39 +326,15 @@ point-take ws s h e f g = same-point _ _ (go 1 (omega arith) e) (go 2 (omega ari
         → getD ws k 0 ≡ getD (take 12 ws) (cornerVertex s i) 0
     go i m e = rw e (sym (getD-take 12 ws (cornerVertex s i) 0 (vertex-small s h i m)))
 
-every-false : (m : ℕ) (f : ℕ → Bool) → everyBelow m f ≡ false → (i : ℕ) × (i < m) × (f i ≡ false)
-every-false zero f e = absurd (true≢false e)
-every-false (suc m) f e = go (f m) refl (every-false m f)
-  where
-    go : (b : Bool) → f m ≡ b → (everyBelow m f ≡ false → (i : ℕ) × (i < m) × (f i ≡ false))
-        → (i : ℕ) × (i < suc m) × (f i ≡ false)
-    go false q r = (m, omega arith, q)
-    go true q r = let x = r (first (everyBelow m f) (f m) q e) in (x .0, omega arith, x .2)
-      where
-        first : (a b : Bool) → b ≡ true → (a && b) ≡ false → a ≡ false
-        first true b q e = absurd (true≢false (sym q ∙ e))
-        first false b q e = refl
-
 pub on-one : (P : List ℕ) (s : ℕ) → IsSide s → onSide s 0 P ≡ true → onOneSide P ≡ true
-on-one P s h o = go (everyBelow 20 (λ i. not (onSide (4 + i) 0 P))) refl
-  where
-    go : (b : Bool) → everyBelow 20 (λ i. not (onSide (4 + i) 0 P)) ≡ b → not b ≡ true
-    go false e = refl
-    go true e =
-        let z : 4 + (s - 4) ≡ s = omega arith in
-        let n : not (onSide s 0 P) ≡ true = ap (λ (t : ℕ). not (onSide t 0 P)) (sym z)
-        ∙ every-below 20 (λ i. not (onSide (4 + i) 0 P)) .0 e (s - 4) (omega arith) in
-        absurd (true≢false (sym o ∙ not-true (onSide s 0 P) n))
+on-one P s h o =
+    let z : 4 + (s - 4) ≡ s = omega arith in
+    some-below 20 (λ i. onSide (4 + i) 0 P) .1 (s - 4, omega arith, ap (λ (t : ℕ). onSide t 0 P) z ∙ o)
 
 pub one-on : (P : List ℕ) → onOneSide P ≡ true → (s : ℕ) × IsSide s × (onSide s 0 P ≡ true)
 one-on P e =
-    let x = every-false 20 (λ i. not (onSide (4 + i) 0 P))
-    (not-true (everyBelow 20 (λ i. not (onSide (4 + i) 0 P))) e) in
-    (4 + x .0, (omega arith, omega arith), not-false (onSide (4 + x .0) 0 P) (x .2))
+    let x = some-below 20 (λ i. onSide (4 + i) 0 P) .0 e in
+    (4 + x .0, (omega arith, omega (arith, x .1)), x .2)
 
 pub none-on : (P : List ℕ) → ((s : ℕ) → IsSide s → onSide s 0 P ≡ true → ⊥) → onOneSide P ≡ false
-none-on P f = go (onOneSide P) refl
-  where
-    go : (b : Bool) → onOneSide P ≡ b → b ≡ false
-    go true e = let x = one-on P e in absurd (f (x .0) (x .1) (x .2))
-    go false e = refl
+none-on P f = not-so (onOneSide P) (λ e. let x = one-on P e in f (x .0) (x .1) (x .2))

@@ -10,7 +10,7 @@ use native.Mathlib.Omega.{arith}
 use lib.ListN.{length, getD, take, drop, set, length-set}
 use lib.Seq.{drop-cons, set-at, length-take-le, append-snoc, take-suc}
 use lib.Seq.{ext-getD, getD-set-same, getD-set-other, set-append-left}
-use Rattle.net.specs.Refusals.{over}
+use Rattle.frame.specs.Answers.{over}
 use Rattle.net.specs.Division.{vertices}
 use Rattle.net.specs.Means.Spreads.{noWeights, spread, weightAt}
 use Rattle.net.specs.Means.States.{point}

@@ -14,7 +14,7 @@ ghost use Rattle.words.specs.Words.{degreeOf, digits};
 ghost use Rattle.words.specs.Refusals.{checkCode, checkNameFields};
 ghost use Rattle.net.specs.Sides.{OneToThree};
 ghost use Rattle.net.specs.Corners.{corner, codeInside};
-ghost use Rattle.net.specs.Refusals.{over};
+ghost use Rattle.frame.specs.Answers.{over};
 ghost use Rattle.net.specs.Means.States.{stateOf, pointOf};
 
 // A triangle inside one side: which way it points, and the least of its corners' weights on each of the side's corners.

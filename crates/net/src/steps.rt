@@ -10,7 +10,7 @@ ghost use Rattle.words.specs.Words.{degreeOf};
 ghost use Rattle.words.specs.Refusals.{checkCode, checkNameFields};
 ghost use Rattle.net.specs.Sides.{OneToThree};
 ghost use Rattle.net.specs.Corners.{nameOf};
-ghost use Rattle.net.specs.Refusals.{over};
+ghost use Rattle.frame.specs.Answers.{over};
 ghost use Rattle.net.specs.Means.Spreads.{sign};
 ghost use Rattle.net.specs.Means.Flags.{other, flags, spanOf};
 ghost use Rattle.net.specs.Means.Walks.{stepFrom, edgeThere, placeAt, overSeam, around, lesser, nameAt};

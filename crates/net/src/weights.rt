@@ -6,7 +6,7 @@ ghost use Prim.Native.Nat.{_+_, _≤_};
 ghost use lib.ListN.{length};
 ghost use Rattle.net.specs.Sides.{IsSide};
 ghost use Rattle.net.specs.Steps.{ringSize};
-ghost use Rattle.net.specs.Refusals.{over};
+ghost use Rattle.frame.specs.Answers.{over};
 ghost use Rattle.net.specs.Means.Spreads.{noWeights, spread, sign};
 
 // Twelve zeros over the front of a list; later places are unchanged.

@@ -21,7 +21,7 @@ use Rattle.golden.proofs.Nearest.{t-one, t-small}
 use Rattle.words.specs.Words.{degreeOf}
 use Rattle.words.specs.declared.TriangleCode.{TriangleCode}
 use Rattle.words.specs.declared.CornerName.{CornerName}
-use Rattle.corners.specs.Answers.{Answer}
+use Rattle.frame.specs.Answers.{Answer}
 use Rattle.net.proofs.Table.{either-way, same}
 use Rattle.filing.specs.Fractions.{isNeg, IsFraction}
 use Rattle.filing.specs.Drawing.{AreTicks, IsDrawn, IsPoint}

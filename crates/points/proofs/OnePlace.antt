@@ -15,7 +15,7 @@ use Rattle.net.specs.Division.{Weights}
 use Rattle.net.specs.Corners.{corner, named}
 use Rattle.net.specs.Refusals.{checkName}
 use Rattle.corners.specs.Refusals.{refuseNumbered}
-use Rattle.corners.proofs.OneAnswer.{answer-one, answer-some}
+use Rattle.frame.proofs.Answering.{answer-one, answer-some}
 use Rattle.filing.specs.Coordinates.{exact}
 use Rattle.filing.specs.Fractions.{IsFraction}
 use Rattle.filing.specs.Drawing.{AreTicks, IsDrawn, IsPoint}

@@ -12,9 +12,10 @@ use Rattle.words.specs.declared.CornerName.{CornerName}
 use Rattle.words.proofs.Codes.{code-degree, is-code, name-code}
 use Rattle.net.specs.Division.{Weights}
 use Rattle.net.specs.Corners.{corner, named}
-use Rattle.net.specs.Refusals.{checkName, over}
+use Rattle.frame.specs.Answers.{over, Answer, Lent}
+use Rattle.net.specs.Refusals.{checkName}
 use Rattle.corners.specs.Refusals.{refuseNumbered, refuseWeights, refuseNameWeights}
-use Rattle.corners.specs.Answers.{Answer, Lent, Put}
+use Rattle.corners.specs.Answers.{Put}
 use Rattle.points.specs.Answers.{Placed, Ticked, Pointed, noCoordinates, noTicks, noPoint}
 use Rattle.net.proofs.Canonical.{name-means}
 use Rattle.corners.proofs.Refused.{numbered-passes, weights-passes, name-weights-passes}

@@ -12,7 +12,7 @@ use Rattle.filing.specs.Fractions.{plusZero}
 use Rattle.filing.specs.Drawing.{AreTicks, IsPoint}
 use Rattle.filing.specs.declared.Coordinates.{Coordinates}
 use Rattle.corners.specs.Refusals.{refuseNumbered}
-use Rattle.corners.specs.Answers.{Answer}
+use Rattle.frame.specs.Answers.{Answer}
 use Rattle.points.specs.declared.CoordinatesAnswer.{CoordinatesAnswer}
 use Rattle.points.specs.declared.TicksAnswer.{TicksAnswer}
 use Rattle.points.specs.declared.PointAnswer.{PointAnswer}

@@ -10,7 +10,7 @@ ghost use mathlib.Core.Path.{_≡_};
 ghost use Prim.Native.Nat.{_≤_};
 ghost use Rattle.filing.specs.Coordinates.{exact};
 ghost use Rattle.filing.specs.Means.Places.{Twelve, Small};
-ghost use Rattle.corners.specs.Answers.{Answer};
+ghost use Rattle.frame.specs.Answers.{Answer};
 ghost use Rattle.points.specs.Answers.{Placed, Ticked, Pointed, noCoordinates, noTicks, noPoint};
 
 // The exact coordinates where nothing was refused, or the refusal's number with zeros.

@@ -13,11 +13,12 @@ use lib.Pow.{shr-shr}
 use borrow.Author.Tests.{ltb-false, eqb-true, eqb-false, not-false, le-ltb, eq-eqb, ne-eqb}
 use Rattle.words.specs.Words.{aOf, degreeOf, digits, beyond, zeroBits, cornerNumber, sideOf, path, wordOf}
 use Rattle.words.specs.Words.{inside}
-use Rattle.words.specs.Refusals.{_either_, refusal, wordRows, checkCode, checkNameFields, IsCode}
+use Rattle.frame.specs.Refusals.{_either_, refusal, order}
+use Rattle.frame.proofs.Refusing.{none-so, none-after, either-false}
+use Rattle.words.specs.Refusals.{wordRows, checkCode, checkNameFields, IsCode}
 use Rattle.words.specs.Family.{codeOf}
 use Rattle.words.specs.declared.TriangleCode.{TriangleCode}
 use Rattle.words.specs.declared.CornerName.{CornerName}
-use Rattle.words.proofs.Refusing.{none-so, none-after, either-false}
 use Rattle.words.proofs.WordLayout.{word-is, beyond-is, low-is, below-zero as layout-below-zero}
 use Rattle.words.proofs.Digits.{side-top, path-digits, AreDigits, path-lt, side-word, degree-word, digits-word}
 
@@ -31,7 +32,7 @@ pub record Fields (w : ℕ) : Type 0 where
 pub word-passes : (w : ℕ) → (refusal (wordRows w) ≡ 0) ↔ Fields w
 word-passes w = (
   λ e.
-      let n = none-so (wordRows w) tt .0 e in
+      let n = none-so order (wordRows w) tt .0 e in
       let a = either-false _ _ .0 (n .1 .0) in
       record {
         degree = ltb-false 24 _ (n .0);
@@ -40,7 +41,7 @@ word-passes w = (
         clear = eqb-true _ _ (not-false _ (n .1 .1 .0));
       },
   λ f.
-      none-so (wordRows w) tt .1 (
+      none-so order (wordRows w) tt .1 (
         le-ltb 24 _ (f .degree),
         (
           either-false _ _ .1 (ne-eqb (aOf w) 0 (λ e. omega arith), le-ltb 5 _ (f .aHigh)),
@@ -51,7 +52,7 @@ word-passes w = (
 
 -- where refusals 1 and 2 are not given, the degree is at most 24
 pub side-degree : (w : ℕ) → refusal (take 2 (wordRows w)) ≡ 0 → degreeOf w ≤ 24
-side-degree w e = ltb-false 24 _ (none-so (take 2 (wordRows w)) tt .0 e .0)
+side-degree w e = ltb-false 24 _ (none-so order (take 2 (wordRows w)) tt .0 e .0)
 
 -- all below n digits is 0: the digits beyond, and the low bits
 pub below-zero : (w n : ℕ) → n ≤ 24 → (w % 2 ^ (54 - 2 * n) ≡ 0) ↔ ((beyond w n ≡ 0) × (w % 64 ≡ 0))
@@ -76,8 +77,8 @@ pub code-passes : (t : TriangleCode) → (checkCode t ≡ 0) ↔ (Fields (t .0) 
 unfolding checkCode
 code-passes t =
     let w = t .0 in (
-      λ e. let n = none-after (wordRows w) _ tt tt .0 e in (word-passes w .0 (n .0), low-zero w .0 (n .1 .0)),
-      λ p. none-after (wordRows w) _ tt tt .1 (word-passes w .1 (p .0), (low-zero w .1 (p .1), tt)),
+      λ e. let n = none-after order order (wordRows w) _ tt tt .0 e in (word-passes w .0 (n .0), low-zero w .0 (n .1 .0)),
+      λ p. none-after order order (wordRows w) _ tt tt .1 (word-passes w .1 (p .0), (low-zero w .1 (p .1), tt)),
     )
 
 pub name-passes :
@@ -88,7 +89,7 @@ unfolding checkNameFields
 name-passes r =
     let w = r .0 in (
       λ e.
-          let n = none-after (wordRows w) _ tt tt .0 e in
+          let n = none-after order order (wordRows w) _ tt tt .0 e in
           let b = either-false _ _ .0 (n .1 .0) in (
             word-passes w .0 (n .0),
             eqb-true _ _ (not-false _ (b .0)),
@@ -96,7 +97,7 @@ name-passes r =
             omega arith,
           ),
       λ p.
-          none-after (wordRows w) _ tt tt .1 (
+          none-after order order (wordRows w) _ tt tt .1 (
             word-passes w .1 (p .0),
             (
               either-false _ _ .1 (

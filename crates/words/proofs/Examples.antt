@@ -5,10 +5,11 @@ use mathlib.Core.Bool.{true, false}
 use mathlib.Core.List.{[], _∷_}
 use Prim.Native.Nat.{ℕ, _+_}
 use Rattle.words.specs.Words.{digits, wordOf}
-use Rattle.words.specs.Refusals.{order, refusal, checkCode, checkNameFields}
+use Rattle.frame.specs.Refusals.{firstOf, order, refusal}
+use Rattle.frame.proofs.Refusing.{inOrder}
+use Rattle.words.specs.Refusals.{checkCode, checkNameFields}
 use Rattle.words.specs.Family.{codeOf}
 use Rattle.words.specs.declared.CornerName.{CornerName}
-use Rattle.words.proofs.Refusing.{inOrder}
 
 abbrev nameOf : ℕ → CornerName
 nameOf w = record { 0 = w }
@@ -25,5 +26,5 @@ pub table :
     × (inOrder order (1 ∷ 1 ∷ 4 ∷ 10 ∷ 5 ∷ 6 ∷ 8 ∷ 7 ∷ 9 ∷ 11 ∷ []) ≡ true)
     × (inOrder order (4 ∷ 5 ∷ 10 ∷ []) ≡ false)
     × (inOrder order (1 ∷ 2 ∷ 1 ∷ []) ≡ false)
-unfolding wordOf digits refusal checkCode checkNameFields
+unfolding wordOf digits firstOf checkCode checkNameFields
 table = (refl, refl, refl, refl, refl, refl, refl, refl)

@@ -9,26 +9,27 @@ use lib.Arith.{lt-of-le-ne}
 use borrow.Author.Tests.{ltb-false, eqb-false, le-ltb, ne-eqb}
 use Rattle.words.specs.Words.{degreeOf, digitOf, digits, sideOf}
 use Rattle.words.specs.Refusals.{codeRows, checkCode}
-use Rattle.words.specs.Family.{codeAnswer, refuseParent, refuseChild, parentOf, childOf, parentAnswer, childAnswer}
+use Rattle.words.specs.Family.{refuseParent, refuseChild, parentOf, childOf}
 use Rattle.words.specs.declared.TriangleCode.{TriangleCode}
-use Rattle.words.proofs.Refusing.{none-after}
+use Rattle.frame.proofs.Refusing.{none-after}
+use Rattle.frame.specs.Refusals.{order}
 use Rattle.words.proofs.Digits.{more, digits-are}
 use Rattle.words.proofs.Codes.{code-passes, is-code, code-degree, code-side, same-code, Has, made}
 
 pub parent-passes : (t : TriangleCode) → (refuseParent t ≡ 0) ↔ ((checkCode t ≡ 0) × (1 ≤ degreeOf (t .0)))
 unfolding refuseParent checkCode
 parent-passes t = (
-  λ e. let n = none-after (codeRows t) _ tt tt .0 e in (n .0, pos-of-ne-zero (eqb-false _ _ (n .1 .0))),
-  λ p. none-after (codeRows t) _ tt tt .1 (p .0, (ne-eqb (degreeOf (t .0)) 0 (λ e. omega (arith, p .1)), tt)),
+  λ e. let n = none-after order order (codeRows t) _ tt tt .0 e in (n .0, pos-of-ne-zero (eqb-false _ _ (n .1 .0))),
+  λ p. none-after order order (codeRows t) _ tt tt .1 (p .0, (ne-eqb (degreeOf (t .0)) 0 (λ e. omega (arith, p .1)), tt)),
 )
 
 pub child-passes : (t : TriangleCode) (d : ℕ) → (refuseChild t d ≡ 0) ↔ ((checkCode t ≡ 0) × (d ≤ 3) × (degreeOf (t .0) < 24))
 unfolding refuseChild checkCode
 child-passes t d = (
   λ e.
-      let n = none-after (codeRows t) _ tt tt .0 e in
+      let n = none-after order order (codeRows t) _ tt tt .0 e in
       (n .0, ltb-false 3 d (n .1 .0), lt-of-le-ne (code-passes t .0 (n .0) .0 .degree) (eqb-false _ _ (n .1 .1 .0))),
-  λ p. none-after (codeRows t) _ tt tt .1 (p .0, (le-ltb 3 d (p .1), (ne-eqb (degreeOf (t .0)) 24 (λ e. omega (arith, p .2)), tt))),
+  λ p. none-after order order (codeRows t) _ tt tt .1 (p .0, (le-ltb 3 d (p .1), (ne-eqb (degreeOf (t .0)) 24 (λ e. omega (arith, p .2)), tt))),
 )
 
 -- the child has the code's side and digits and one more
@@ -48,8 +49,9 @@ parent-has t e =
     made _ _ (s .0) (s .1) (omega (arith, code-degree c)) (digits-are (t .0) (degreeOf (t .0) - 1))
 
 -- the child's parent is the code itself
-pub child-then-parent : (t : TriangleCode) (d : ℕ) → refuseChild t d ≡ 0 → parentAnswer (childOf t d) ≡ codeAnswer 0 t
-unfolding parentAnswer digits
+pub child-then-parent : (t : TriangleCode) (d : ℕ) → refuseChild t d ≡ 0
+    → (refuseParent (childOf t d) ≡ 0) × (parentOf (childOf t d) ≡ t)
+unfolding digits
 child-then-parent t d e =
     let n = degreeOf (t .0) in
     let u = childOf t d in
@@ -59,11 +61,12 @@ child-then-parent t d e =
     let g : Has (sideOf (u .0)) n (digits (u .0) n) (parentOf u) = rw m at (parent-has u z) in
     let q : digits (u .0) n ≡ digits (t .0) n = cc (h .digitsAre) in
     let same : parentOf u ≡ t = same-code (g .code) (is-code t (child-passes t d .0 e .0)) (g .side ∙ h .side) (g .digitsAre ∙ q) in
-    λ i. codeAnswer (z i) (same i)
+    (z, same)
 
 -- the parent's child with the code's last digit is the code itself
-pub parent-then-child : (t : TriangleCode) → refuseParent t ≡ 0 → childAnswer (parentOf t) (digitOf (t .0) (degreeOf (t .0))) ≡ codeAnswer 0 t
-unfolding childAnswer digits
+pub parent-then-child : (t : TriangleCode) → refuseParent t ≡ 0
+    → let d = digitOf (t .0) (degreeOf (t .0)) in (refuseChild (parentOf t) d ≡ 0) × (childOf (parentOf t) d ≡ t)
+unfolding digits
 parent-then-child t e =
     let w = t .0 in
     let n = degreeOf w in
@@ -77,4 +80,4 @@ parent-then-child t e =
     let m : n ≡ suc k = omega (arith, p .1) in
     let q : d ∷ digits (u .0) k ≡ digits w (suc k) = λ i. digitOf w (m i) ∷ h .digitsAre i in
     let same : childOf u d ≡ t = same-code (g .code) (record { passes = p .0; degreeIs = m }) (g .side ∙ h .side) (g .digitsAre ∙ q) in
-    λ i. codeAnswer (z i) (same i)
+    (z, same)

@@ -1,21 +1,23 @@
 -- Document 01, "Parent, child and crossing take a triangle code": parent and child. Assumes nothing.
-use Prim.Native.Nat.{ℕ, zero, suc, _-_}
+use mathlib.Core.Path.{_≡_}
+use Prim.Native.Nat.{ℕ, suc, _-_}
 use mathlib.Core.List.{_∷_, _++_}
+use Rattle.frame.specs.Refusals.{refusal}
+use Rattle.frame.specs.Answers.{Answer}
 use Rattle.words.specs.Words.{degreeOf, digits, sideOf, path, wordOf}
-use Rattle.words.specs.Refusals.{refusal, codeRows, digitRows, parentRows, childRows}
+use Rattle.words.specs.Refusals.{codeRows, digitRows, parentRows, childRows}
 use Rattle.words.specs.declared.TriangleCode.{TriangleCode}
 use Rattle.words.specs.declared.CodeAnswer.{CodeAnswer}
 
 abbrev pub codeOf : ℕ → TriangleCode
 codeOf w = record { 0 = w }
 
--- "Zero means answered. Every refusal returns only its number and zeros": refusal f, or the code t.
-abbrev pub noCode : (refusal : ℕ) → CodeAnswer
-noCode f = record { refusal = f; code = codeOf 0 }
+-- an answer that is a code, and a refusal's zeros
+abbrev pub codeAnswer : (refusal : ℕ) → TriangleCode → CodeAnswer
+codeAnswer f t = record { refusal = f; code = t }
 
-abbrev pub codeAnswer : ℕ → TriangleCode → CodeAnswer
-codeAnswer zero t = record { refusal = 0; code = t }
-codeAnswer (suc f) t = noCode (suc f)
+abbrev pub noCode : (refusal : ℕ) → CodeAnswer
+noCode f = codeAnswer f (codeOf 0)
 
 unfoldable pub refuseParent : TriangleCode → ℕ
 refuseParent t = refusal (codeRows t ++ parentRows t)
@@ -31,8 +33,9 @@ parentOf t = let w = t .0 in codeOf (wordOf (sideOf w) (degreeOf w - 1) (path (d
 unfoldable pub childOf : TriangleCode → ℕ → TriangleCode
 childOf t d = let w = t .0 in codeOf (wordOf (sideOf w) (suc (degreeOf w)) (path (d ∷ digits w (degreeOf w))))
 
-unfoldable pub parentAnswer : TriangleCode → CodeAnswer
-parentAnswer t = codeAnswer (refuseParent t) (parentOf t)
+-- The complete answers, for every input: what the contracts cite.
+abbrev pub ParentAnswer : TriangleCode → CodeAnswer → Type 0
+ParentAnswer t r = Answer (refuseParent t) (λ s. s ≡ codeAnswer 0 (parentOf t)) noCode r
 
-unfoldable pub childAnswer : TriangleCode → ℕ → CodeAnswer
-childAnswer t d = codeAnswer (refuseChild t d) (childOf t d)
+abbrev pub ChildAnswer : TriangleCode → ℕ → CodeAnswer → Type 0
+ChildAnswer t d r = Answer (refuseChild t d) (λ s. s ≡ codeAnswer 0 (childOf t d)) noCode r

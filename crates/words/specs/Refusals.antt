@@ -1,44 +1,13 @@
--- Document 01, 'Refusal numbers': the order, and the rows that need only a word. Assumes nothing.
+-- Document 01, 'Refusal numbers': the rows that need only a word. Assumes nothing.
 use mathlib.Core.Path.{_≡_}
 use Prim.Native.Nat.{ℕ}
-use mathlib.Core.Bool.{Bool, true, false, not, cond}
+use mathlib.Core.Bool.{not}
 use mathlib.Core.List.{List, [], _∷_, _++_}
 use lib.Dec.{ltb, eqb}
+use Rattle.frame.specs.Refusals.{_either_, Row, _when_, refusal}
 use Rattle.words.specs.Words.{aOf, degreeOf, beyond, zeroBits, cornerNumber}
 use Rattle.words.specs.declared.TriangleCode.{TriangleCode}
 use Rattle.words.specs.declared.CornerName.{CornerName}
-
-infixr 40 _either_
-abbrev pub _either_ : Bool → Bool → Bool
-true either b = true
-false either b = b
-
--- A row of the table at given arguments: its number, and whether what it says is so.
-pub record Row : Type 0 where
-  pub number : ℕ
-  pub so : Bool
-
-infix 80 _when_
-abbrev pub _when_ : ℕ → Bool → Row
-k when b = record { number = k; so = b }
-
--- whether a row of this number says what is so
-abbrev pub given : ℕ → List Row → Bool
-given k [] = false
-given k (r ∷ rs) = cond (eqb k (r .number)) (r .so either given k rs) (given k rs)
-
--- the first of these numbers that is given; "Zero means answered"
-abbrev pub firstOf : List ℕ → List Row → ℕ
-firstOf [] rs = 0
-firstOf (k ∷ ks) rs = cond (given k rs) k (firstOf ks rs)
-
--- "Where several hold, the order is 1, 2, 3, 4, 10, 5, 6, 8, 7, 9, 11."
-abbrev pub order : List ℕ
-order = 1 ∷ 2 ∷ 3 ∷ 4 ∷ 10 ∷ 5 ∷ 6 ∷ 8 ∷ 7 ∷ 9 ∷ 11 ∷ []
-
--- A call's refusal, by the rows that its arguments can break.
-unfoldable pub refusal : List Row → ℕ
-refusal rs = firstOf order rs
 
 -- "1: a degree, as field or argument, is above 24"
 abbrev pub degreeRows : ℕ → List Row

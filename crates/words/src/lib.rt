@@ -2,9 +2,10 @@
 ghost use mathlib.Core.Path.{_≡_};
 ghost use Prim.Native.Nat.{_+_, _-_, _*_, _^_, _<_, _≤_};
 ghost use lib.ListN.{take};
+ghost use Rattle.frame.specs.Refusals.{refusal};
 ghost use Rattle.words.specs.Words.{bits, aOf, degreeOf, digits, beyond, sideOf, path, wordOf};
-ghost use Rattle.words.specs.Refusals.{refusal, wordRows, checkCode, checkNameFields};
-ghost use Rattle.words.specs.Family.{codeOf, codeAnswer, parentAnswer, childAnswer};
+ghost use Rattle.words.specs.Refusals.{wordRows, checkCode, checkNameFields};
+ghost use Rattle.words.specs.Family.{codeOf, codeAnswer, noCode, ParentAnswer, ChildAnswer};
 
 // A triangle code, or any word handed in as one.
 pub struct TriangleCode(pub u64);
@@ -48,7 +49,7 @@ pub fn power(k: u64) -> u64
 }
 
 // The b bits above the lowest k.
-fn bits_of(w: u64, k: u64, b: u64) -> u64
+pub fn bits_of(w: u64, k: u64, b: u64) -> u64
     requires { ⌜ (k < 64) × (b < 64) ⌝ }
     ensures { λ r. ⌜ r ≡ bits w k b ⌝ }
 {
@@ -121,8 +122,27 @@ fn check_word(w: u64) -> u64
     0
 }
 
+// 0, or the refusal 1 to 4 of a word whose fields are no corner name's. Whether it is canonical is not looked at: no
+// call of document 01, but the first part of checking a name.
+pub fn check_name_fields(r: CornerName) -> u64
+    ensures { λ f. ⌜ f ≡ checkNameFields r ⌝ }
+{
+    let w = r.0;
+    let f = check_word(w);
+    if f != 0 {
+        return f;
+    }
+    if w / 4 % 16 != 0 {
+        return 4;
+    }
+    if w % 4 == 0 {
+        return 4;
+    }
+    0
+}
+
 fn refused(f: u64) -> CodeAnswer
-    ensures { λ r. ⌜ r ≡ record { refusal = f; code = codeOf 0 } ⌝ }
+    ensures { λ r. ⌜ r ≡ noCode f ⌝ }
 {
     CodeAnswer {
         refusal: f,
@@ -160,7 +180,7 @@ impl TriangleCode {
 
     // The triangle of which this is a child.
     pub fn parent(self) -> CodeAnswer
-        ensures { λ r. ⌜ r ≡ parentAnswer self ⌝ }
+        ensures { λ r. ⌜ ParentAnswer self r ⌝ }
     {
         let w = self.0;
         let f = self.check();
@@ -176,7 +196,7 @@ impl TriangleCode {
 
     // The child with this digit.
     pub fn child(self, digit: u64) -> CodeAnswer
-        ensures { λ r. ⌜ r ≡ childAnswer self digit ⌝ }
+        ensures { λ r. ⌜ ChildAnswer self digit r ⌝ }
     {
         let w = self.0;
         let f = self.check();
@@ -191,25 +211,5 @@ impl TriangleCode {
             return refused(6);
         }
         answered(word_of(side_of(w), n + 1, 4 * path_of(w, n) + digit))
-    }
-}
-
-impl CornerName {
-    // 0, or the refusal 1 to 4 of a word whose fields are no corner name's. Whether it is canonical is not looked at.
-    pub fn check_fields(self) -> u64
-        ensures { λ r. ⌜ r ≡ checkNameFields self ⌝ }
-    {
-        let w = self.0;
-        let f = check_word(w);
-        if f != 0 {
-            return f;
-        }
-        if w / 4 % 16 != 0 {
-            return 4;
-        }
-        if w % 4 == 0 {
-            return 4;
-        }
-        0
     }
 }

@@ -3,7 +3,8 @@ use borrow.Author.Needs.{needs}
 use mathlib.Core.Path.{_≡_, refl, sym, _∙_}
 use Rattle.corners.specs.Refusals.{refuseNumbered}
 use Rattle.corners.proofs.Refused.{numbered-passes}
-use Rattle.corners.proofs.Calls.{refusing, cross-answers}
+use Rattle.frame.proofs.Answering.{refusing}
+use Rattle.corners.proofs.Calls.{cross-answers}
 use Rattle.corners.proofs.cross.Statement.{statement}
 use Rattle.corners.proofs.cross.Tie as tie
 

@@ -7,7 +7,8 @@ use Rattle.corners.specs.Refusals.{refuseNumbered}
 use Rattle.net.specs.Sides.{OneToThree}
 use Rattle.corners.proofs.Refused.{numbered-passes}
 use Rattle.net.proofs.WordSteps.{numbered-fields, numbered-fits}
-use Rattle.corners.proofs.Calls.{refusing, naming-answers}
+use Rattle.frame.proofs.Answering.{refusing}
+use Rattle.corners.proofs.Calls.{naming-answers}
 use Rattle.corners.proofs.name_of.Statement.{statement}
 use Rattle.corners.proofs.name_of.Tie as tie
 

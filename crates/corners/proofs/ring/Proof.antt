@@ -9,7 +9,8 @@ use Rattle.net.specs.Refusals.{checkName}
 use Rattle.net.specs.Means.States.{pointOf, stateOf}
 use Rattle.net.proofs.Canonical.{name-means}
 use Rattle.net.proofs.CodePlaces.{digitsIn}
-use Rattle.corners.proofs.Calls.{refusing-lent, ring-first, ring-nine}
+use Rattle.frame.proofs.Answering.{refusing}
+use Rattle.corners.proofs.Calls.{ring-first, ring-nine}
 use Rattle.net.proofs.RingLists.{count-least, count-most}
 use Rattle.corners.proofs.RingCalls.{code-passes, name-number, ring-answers}
 use Rattle.corners.proofs.ring.Statement.{statement}

@@ -4,7 +4,8 @@ use mathlib.Core.Path.{_≡_, refl, sym, _∙_}
 use native.Mathlib.Omega.{arith}
 use Rattle.corners.specs.Refusals.{refuseNumbered}
 use Rattle.corners.proofs.Refused.{numbered-passes, weights-passes}
-use Rattle.corners.proofs.Calls.{refusing-lent, answering-lent, weights-first, weights-nine}
+use Rattle.frame.proofs.Answering.{refusing, answering}
+use Rattle.corners.proofs.Calls.{weights-first, weights-nine}
 use Rattle.corners.proofs.weights_of.Statement.{statement}
 use Rattle.corners.proofs.weights_of.Tie as tie
 

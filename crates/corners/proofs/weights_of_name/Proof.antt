@@ -8,10 +8,12 @@ use Rattle.words.specs.Words.{cornerNumber}
 use Rattle.words.specs.declared.TriangleCode.{TriangleCode}
 use Rattle.words.proofs.Codes.{name-code, name-passes}
 use Rattle.net.specs.Corners.{corner}
-use Rattle.net.specs.Refusals.{checkName, over}
+use Rattle.frame.specs.Answers.{over}
+use Rattle.frame.proofs.Answering.{refusing, answering}
+use Rattle.net.specs.Refusals.{checkName}
 use Rattle.net.proofs.Canonical.{name-means}
 use Rattle.corners.proofs.Refused.{name-weights-passes}
-use Rattle.corners.proofs.Calls.{refusing-lent, answering-lent, name-weights-first, name-weights-nine}
+use Rattle.corners.proofs.Calls.{name-weights-first, name-weights-nine}
 use Rattle.corners.proofs.weights_of_name.Statement.{statement}
 use Rattle.corners.proofs.weights_of_name.Tie as tie
 

@@ -2,7 +2,7 @@
 -- (FilingCalls). Assumes nothing.
 use borrow.Author.Needs.{needs}
 use mathlib.Core.Path.{_≡_, sym, _∙_}
-use Rattle.corners.proofs.Calls.{refusing}
+use Rattle.frame.proofs.Answering.{refusing}
 use Rattle.directions.specs.Refusals.{refuseFile}
 use Rattle.directions.proofs.Refused.{Allowed, allowed}
 use Rattle.directions.proofs.FilingCalls.{filed-answer}

@@ -4,7 +4,7 @@ use borrow.Author.Needs.{needs}
 use mathlib.Core.Path.{_≡_, sym, _∙_}
 use native.Mathlib.Omega.{arith}
 use denote.Ref.{now}
-use Rattle.corners.proofs.Calls.{refusing-lent}
+use Rattle.frame.proofs.Answering.{refusing}
 use Rattle.filing.proofs.HolderLists.{puts-one}
 use Rattle.directions.specs.Refusals.{refuseFile}
 use Rattle.directions.proofs.Refused.{allowed}

@@ -5,7 +5,7 @@ use mathlib.Core.List.{List, [], _++_}
 use lib.ListN.{length, take, drop}
 use Rattle.words.specs.Words.{wordOf}
 use Rattle.net.specs.Division.{each}
-use Rattle.net.specs.Refusals.{over}
+use Rattle.frame.specs.Answers.{over}
 use Rattle.filing.specs.Means.Descent.{holders}
 use Rattle.filing.specs.Means.Sides.{sideDets}
 use Rattle.filing.specs.declared.Direction.{Direction}

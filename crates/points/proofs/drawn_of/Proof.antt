@@ -2,7 +2,7 @@
 use borrow.Author.Needs.{needs}
 use mathlib.Core.Path.{_∙_, sym, subst}
 use Prim.Native.Nat.{ℕ, _≤_}
-use Rattle.corners.specs.Answers.{Answer}
+use Rattle.frame.specs.Answers.{Answer}
 use Rattle.points.specs.Answers.{Pointed, noPoint}
 use Rattle.points.proofs.PlaceCalls.{numbered-small, numbered-degree, refusal-is, place-small, point-answers}
 use Rattle.points.proofs.drawn_of.Statement.{statement}

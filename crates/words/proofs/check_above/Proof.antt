@@ -5,7 +5,8 @@ use lib.ListN.{take}
 use borrow.Author.Tests.{lt-ltb, le-ltb, eq-eqb, ne-eqb}
 use Rattle.words.specs.Words.{aOf, degreeOf}
 use Rattle.words.specs.Refusals.{wordRows}
-use Rattle.words.proofs.Refusing.{here, next, nothing, refuse-first, either-left, either-right, either-false}
+use Rattle.frame.proofs.Refusing.{here, next, nothing, refuse-first, either-left, either-right, either-false}
+use Rattle.frame.specs.Refusals.{order}
 use borrow.Author.Needs.{needs}
 use Rattle.words.proofs.check_above.Statement.{statement}
 use Rattle.words.proofs.check_above.Tie as tie
@@ -19,25 +20,25 @@ a-of-requires c κs = search needs
 returns : tie.Need-returns
 returns c =
     let w = c .before .before .before .args .w in
-    refuse-first (take 2 (wordRows w)) tt (here (lt-ltb 24 (degreeOf w) (omega arith)))
+    refuse-first order (take 2 (wordRows w)) tt (here (lt-ltb 24 (degreeOf w) (omega arith)))
 
 returns-2 : tie.Need-returns-2
 returns-2 c =
     let w = c .before .before .before .before .args .w in
-    refuse-first (take 2 (wordRows w)) tt
+    refuse-first order (take 2 (wordRows w)) tt
     (next (le-ltb 24 (degreeOf w) (omega arith)) (here (either-left _ _ (eq-eqb (aOf w) 0 (omega arith)))))
 
 returns-3 : tie.Need-returns-3
 returns-3 c =
     let w = c .before .before .before .before .before .args .w in
-    refuse-first (take 2 (wordRows w)) tt
+    refuse-first order (take 2 (wordRows w)) tt
     (next (le-ltb 24 (degreeOf w) (omega arith))
     (here (either-right (eqb (aOf w) 0) _ (lt-ltb 5 (aOf w) (omega arith)))))
 
 returns-4 : tie.Need-returns-4
 returns-4 c =
     let w = c .before .before .before .before .before .args .w in
-    refuse-first (take 2 (wordRows w)) tt
+    refuse-first order (take 2 (wordRows w)) tt
     (next (le-ltb 24 (degreeOf w) (omega arith))
     (next (either-false _ _ .1 (ne-eqb (aOf w) 0 (omega arith), le-ltb 5 (aOf w) (omega arith))) nothing))
 

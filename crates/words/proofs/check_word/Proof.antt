@@ -6,7 +6,8 @@ use lib.ListN.{take}
 use borrow.Author.Tests.{eq-eqb, ne-eqb}
 use Rattle.words.specs.Words.{degreeOf, beyond}
 use Rattle.words.specs.Refusals.{wordRows}
-use Rattle.words.proofs.Refusing.{here, next, nothing, refuse-before, refuse-after}
+use Rattle.frame.proofs.Refusing.{here, next, nothing, refuse-before, refuse-after}
+use Rattle.frame.specs.Refusals.{order}
 use Rattle.words.proofs.Codes.{side-degree}
 use borrow.Author.Needs.{needs}
 use Rattle.words.proofs.check_word.Statement.{statement}
@@ -18,7 +19,7 @@ check-above-requires c κs = search needs
 returns : tie.Need-returns
 returns c =
     let w = c .before .before .args .w in
-    refuse-before (take 2 (wordRows w)) _ tt tt (c .before .check-above .ensures) (c .if1 .taken)
+    refuse-before order order (take 2 (wordRows w)) _ tt tt (c .before .check-above .ensures) (c .if1 .taken)
 
 beyond-of-requires : tie.Need-beyond-of-requires
 beyond-of-requires c κs = side-degree (c .before .before .args .w) (omega arith)
@@ -26,13 +27,13 @@ beyond-of-requires c κs = side-degree (c .before .before .args .w) (omega arith
 returns-2 : tie.Need-returns-2
 returns-2 c =
     let w = c .before .before .before .before .args .w in
-    refuse-after (take 2 (wordRows w)) _ tt tt (omega arith)
+    refuse-after order order (take 2 (wordRows w)) _ tt tt (omega arith)
     (here (ap not (ne-eqb (beyond w (degreeOf w)) 0 (λ e. c .if2 .taken (cc)))))
 
 returns-3 : tie.Need-returns-3
 returns-3 c =
     let w = c .before .before .before .before .args .w in
-    refuse-after (take 2 (wordRows w)) _ tt tt (omega arith)
+    refuse-after order order (take 2 (wordRows w)) _ tt tt (omega arith)
     (next (ap not (eq-eqb (beyond w (degreeOf w)) 0 (cc))) nothing)
 
 pub check-word-spec : {M : Type 1} → statement M

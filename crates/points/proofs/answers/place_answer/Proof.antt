@@ -1,6 +1,6 @@
 -- The number and zeros, or the exact coordinates. Assumes nothing.
 use mathlib.Core.Path.{refl}
-use Rattle.corners.proofs.Calls.{refusing, answering}
+use Rattle.frame.proofs.Answering.{refusing, answering}
 use Rattle.points.proofs.answers.place_answer.Statement.{statement}
 use Rattle.points.proofs.answers.place_answer.Tie as tie
 

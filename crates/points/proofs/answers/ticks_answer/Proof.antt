@@ -1,7 +1,7 @@
 -- The number and zeros, or t on each axis. Assumes nothing.
 use borrow.Author.Needs.{needs}
 use mathlib.Core.Path.{refl}
-use Rattle.corners.proofs.Calls.{refusing, answering}
+use Rattle.frame.proofs.Answering.{refusing, answering}
 use Rattle.points.proofs.answers.ticks_answer.Statement.{statement}
 use Rattle.points.proofs.answers.ticks_answer.Tie as tie
 

@@ -9,7 +9,8 @@ use lib.Pow.{pow-pos}
 use borrow.Author.Tests.{eq-eqb, ne-eqb}
 use Rattle.words.specs.Words.{degreeOf, beyond}
 use Rattle.words.specs.Refusals.{wordRows, checkCode}
-use Rattle.words.proofs.Refusing.{here, next, nothing, refuse-before, refuse-after, so-unless}
+use Rattle.frame.proofs.Refusing.{here, next, nothing, refuse-before, refuse-after, so-unless}
+use Rattle.frame.specs.Refusals.{order}
 use Rattle.words.proofs.Codes.{side-degree, below-zero, low-zero}
 use borrow.Author.Needs.{needs}
 use Rattle.words.proofs.TriangleCode.check.Statement.{statement}
@@ -22,7 +23,7 @@ returns : tie.Need-returns
 unfolding checkCode
 returns c =
     let w = c .before .before .args .self .0 in
-    refuse-before (take 2 (wordRows w)) _ tt tt (c .before .check-above .ensures) (c .if1 .taken)
+    refuse-before order order (take 2 (wordRows w)) _ tt tt (c .before .check-above .ensures) (c .if1 .taken)
 
 small : (c : tie.Else1) → degreeOf (c .before .before .args .self .0) ≤ 24
 small c = side-degree (c .before .before .args .self .0) (omega arith)
@@ -41,7 +42,7 @@ returns-2 c =
     let n = degreeOf w in
     let e : w % 2 ^ (54 - 2 * n) ≡ 0 = rw (c .before .unit-of .ensures) at (c .if2 .taken) in
     let z = below-zero w n (small b) .0 e in
-    refuse-after (take 2 (wordRows w)) _ tt tt (omega arith)
+    refuse-after order order (take 2 (wordRows w)) _ tt tt (omega arith)
     (next (ap not (eq-eqb (beyond w n) 0 (z .0))) (next (low-zero w .1 (z .1)) nothing))
 
 beyond-of-requires : tie.Need-beyond-of-requires
@@ -51,7 +52,7 @@ returns-3 : tie.Need-returns-3
 unfolding checkCode
 returns-3 c =
     let w = c .before .before .before .before .before .before .args .self .0 in
-    refuse-after (take 2 (wordRows w)) _ tt tt (omega arith)
+    refuse-after order order (take 2 (wordRows w)) _ tt tt (omega arith)
     (here (ap not (ne-eqb (beyond w (degreeOf w)) 0 (λ e. c .if3 .taken (cc)))))
 
 returns-4 : tie.Need-returns-4
@@ -63,7 +64,7 @@ returns-4 c =
     let n = degreeOf w in
     let z : beyond w n ≡ 0 = cc in
     let some : w % 2 ^ (54 - 2 * n) ≡ 0 → ⊥ = rw (s .before .unit-of .ensures) at (s .if2 .left) in
-    refuse-after (take 2 (wordRows w)) _ tt tt (omega arith)
+    refuse-after order order (take 2 (wordRows w)) _ tt tt (omega arith)
     (next (ap not (eq-eqb (beyond w n) 0 z))
     (here (so-unless _ (λ e. some (below-zero w n (small b) .1 (z, low-zero w .0 e))))))
 

@@ -5,8 +5,9 @@ use native.Mathlib.Numerals.{add-one}
 use borrow.Author.Tests.{lt-ltb, le-ltb, eq-eqb, ne-eqb}
 use Rattle.words.specs.Words.{degreeOf, path}
 use Rattle.words.specs.Refusals.{codeRows, checkCode}
-use Rattle.words.specs.Family.{refuseChild, childOf, childAnswer}
-use Rattle.words.proofs.Refusing.{here, next, nothing, refuse-before, refuse-after}
+use Rattle.words.specs.Family.{refuseChild, childOf}
+use Rattle.frame.proofs.Refusing.{here, next, nothing, refuse-before, refuse-after}
+use Rattle.frame.specs.Refusals.{order}
 use Rattle.words.proofs.Answers.{refuse, accept}
 use Rattle.words.proofs.Digits.{more, digits-are, path-lt, path-48}
 use Rattle.words.proofs.Codes.{code-passes}
@@ -21,19 +22,19 @@ refused-requires : tie.Need-refused-requires
 refused-requires c κs = search needs
 
 returns : tie.Need-returns
-unfolding childAnswer refuseChild checkCode
+unfolding refuseChild checkCode
 returns c =
     let some = c .before .if1 .taken in
-    refuse _ _ (c .refused .ensures) (refuse-before (codeRows (c .before .before .before .args .self)) _ tt tt (c .before .before .check .ensures) some) some
+    refuse _ _ (c .refused .ensures) (refuse-before order order (codeRows (c .before .before .before .args .self)) _ tt tt (c .before .before .check .ensures) some) some
 
 refused-requires-2 : tie.Need-refused-requires-2
 refused-requires-2 c κs = search needs
 
 returns-2 : tie.Need-returns-2
-unfolding childAnswer refuseChild checkCode
+unfolding refuseChild checkCode
 returns-2 c =
     let a = c .before .before .before .before .args in
-    refuse _ _ (c .refused2 .ensures) (refuse-after (codeRows (a .self)) _ tt tt (omega arith) (here (lt-ltb 3 (a .digit) (omega arith)))) (omega arith)
+    refuse _ _ (c .refused2 .ensures) (refuse-after order order (codeRows (a .self)) _ tt tt (omega arith) (here (lt-ltb 3 (a .digit) (omega arith)))) (omega arith)
 
 degree-of-requires : tie.Need-degree-of-requires
 degree-of-requires c κs = search needs
@@ -42,11 +43,11 @@ refused-requires-3 : tie.Need-refused-requires-3
 refused-requires-3 c κs = search needs
 
 returns-3 : tie.Need-returns-3
-unfolding childAnswer refuseChild checkCode
+unfolding refuseChild checkCode
 returns-3 c =
     let a = c .before .before .before .before .before .before .args in
     refuse _ _ (c .refused3 .ensures)
-    (refuse-after (codeRows (a .self)) _ tt tt (omega arith)
+    (refuse-after order order (codeRows (a .self)) _ tt tt (omega arith)
     (next (le-ltb 3 (a .digit) (omega arith)) (here (eq-eqb (degreeOf (a .self .0)) 24 (omega arith)))))
     (omega arith)
 
@@ -83,11 +84,11 @@ answered-requires : tie.Need-answered-requires
 answered-requires c κs = search needs
 
 returns-4 : tie.Need-returns-4
-unfolding childAnswer refuseChild checkCode childOf path
+unfolding refuseChild checkCode childOf path
 returns-4 c =
     let a = c .before .before .before .before .before .before .before .before .before .args in
     accept _ _ (c .answered .ensures)
-    (refuse-after (codeRows (a .self)) _ tt tt (omega arith)
+    (refuse-after order order (codeRows (a .self)) _ tt tt (omega arith)
     (next (le-ltb 3 (a .digit) (omega arith)) (next (ne-eqb (degreeOf (a .self .0)) 24 (omega arith)) nothing)))
     (cc (add-one (degreeOf (a .self .0))))
 

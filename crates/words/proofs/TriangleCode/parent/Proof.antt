@@ -4,8 +4,9 @@ use native.Mathlib.Omega.{arith}
 use borrow.Author.Tests.{eq-eqb, ne-eqb}
 use Rattle.words.specs.Words.{degreeOf}
 use Rattle.words.specs.Refusals.{codeRows, checkCode}
-use Rattle.words.specs.Family.{refuseParent, parentOf, parentAnswer}
-use Rattle.words.proofs.Refusing.{here, next, nothing, refuse-before, refuse-after}
+use Rattle.words.specs.Family.{refuseParent, parentOf}
+use Rattle.frame.proofs.Refusing.{here, next, nothing, refuse-before, refuse-after}
+use Rattle.frame.specs.Refusals.{order}
 use Rattle.words.proofs.Answers.{refuse, accept}
 use Rattle.words.proofs.Digits.{digits-are, path-lt}
 use Rattle.words.proofs.Codes.{code-passes}
@@ -20,10 +21,10 @@ refused-requires : tie.Need-refused-requires
 refused-requires c κs = search needs
 
 returns : tie.Need-returns
-unfolding parentAnswer refuseParent checkCode
+unfolding refuseParent checkCode
 returns c =
     let some = c .before .if1 .taken in
-    refuse _ _ (c .refused .ensures) (refuse-before (codeRows (c .before .before .before .args .self)) _ tt tt (c .before .before .check .ensures) some) some
+    refuse _ _ (c .refused .ensures) (refuse-before order order (codeRows (c .before .before .before .args .self)) _ tt tt (c .before .before .check .ensures) some) some
 
 degree-of-requires : tie.Need-degree-of-requires
 degree-of-requires c κs = search needs
@@ -32,10 +33,10 @@ refused-requires-2 : tie.Need-refused-requires-2
 refused-requires-2 c κs = search needs
 
 returns-2 : tie.Need-returns-2
-unfolding parentAnswer refuseParent checkCode
+unfolding refuseParent checkCode
 returns-2 c =
     let t = c .before .before .before .before .before .args .self in
-    refuse _ _ (c .refused2 .ensures) (refuse-after (codeRows t) _ tt tt (omega arith) (here (eq-eqb (degreeOf (t .0)) 0 (omega arith)))) (omega arith)
+    refuse _ _ (c .refused2 .ensures) (refuse-after order order (codeRows t) _ tt tt (omega arith) (here (eq-eqb (degreeOf (t .0)) 0 (omega arith)))) (omega arith)
 
 small : (c : tie.Else2) → c .before .degree-of .result ≤ 24
 small c = omega (arith, code-passes (c .before .before .before .before .args .self) .0 (omega arith) .0 .degree)
@@ -59,10 +60,10 @@ answered-requires : tie.Need-answered-requires
 answered-requires c κs = search needs
 
 returns-3 : tie.Need-returns-3
-unfolding parentAnswer refuseParent checkCode parentOf
+unfolding refuseParent checkCode parentOf
 returns-3 c =
     let t = c .before .before .before .before .before .before .before .before .args .self in
-    accept _ _ (c .answered .ensures) (refuse-after (codeRows t) _ tt tt (omega arith) (next (ne-eqb (degreeOf (t .0)) 0 (omega arith)) nothing)) (cc)
+    accept _ _ (c .answered .ensures) (refuse-after order order (codeRows t) _ tt tt (omega arith) (next (ne-eqb (degreeOf (t .0)) 0 (omega arith)) nothing)) (cc)
 
 pub parent-spec : {M : Type 1} → statement M
 parent-spec =

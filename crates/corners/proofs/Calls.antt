@@ -1,6 +1,6 @@
 -- What the public functions answer, return by return. Assumes nothing.
 use mathlib.Core.Path.{_≡_, _∙_, refl, sym, ap, subst}
-use mathlib.Core.Bool.{Bool, true, false, not}
+use mathlib.Core.Bool.{true, false, not}
 use mathlib.Core.List.{List, _++_}
 use Prim.Native.Nat.{ℕ, zero, suc, _+_, _*_, _≤_, _<_, _^_}
 use native.Mathlib.Omega.{arith}
@@ -9,10 +9,10 @@ use lib.Bits.{bitXor}
 use lib.Dec.{eqb}
 use lib.ListN.{length, take}
 use borrow.Author.Tests.{eqb-true, lt-ltb, le-ltb, eq-eqb}
-use Rattle.words.proofs.Codes.{code-degree, is-code}
-use Rattle.frame.proofs.Refusing.{either-left, either-right, here, next, refuse-after, refuse-before, refuse-first}
 use Rattle.frame.specs.Refusals.{Row, refusal, listRows, order}
-use Rattle.frame.specs.Answers.{Answer, Lent}
+use Rattle.frame.proofs.Refusing.{so-unless, either-left, either-right, here, next, refuse-after, refuse-before, refuse-first}
+use Rattle.frame.proofs.Answering.{answering}
+use Rattle.words.proofs.Codes.{code-degree, is-code}
 use Rattle.words.specs.Refusals.{checkCode, checkNameFields, codeRows, degreeRows, nameRows}
 use Rattle.words.specs.Words.{degreeOf, wordOf}
 use Rattle.words.specs.declared.CornerName.{CornerName}
@@ -25,7 +25,7 @@ use Rattle.net.specs.Means.Paths.{digitsOf}
 use Rattle.net.specs.Means.Spreads.{pointIn, spread}
 use Rattle.net.specs.Means.Walks.{Place, edgeThere, leastName, placeAt, stepFrom}
 use Rattle.net.specs.Names.{IsName}
-use Rattle.net.specs.Refusals.{canonical, canonicalRows, checkName, notCanonical, onOneSide, onSide}
+use Rattle.net.specs.Refusals.{lesserHas, canonicalRows, checkName, notCanonical, onOneSide, onSide}
 use Rattle.net.specs.Refusals.{oneToThreeRows, weightRows}
 use Rattle.corners.specs.Refusals.{refuseBack, refuseNameWeights, refuseNumbered, refuseRing, refuseWeights}
 use Rattle.net.specs.Sides.{IsSide, OneToThree, nth, prev}
@@ -34,7 +34,7 @@ use Rattle.net.specs.Steps.{Across}
 use Rattle.net.specs.declared.Corner.{Corner}
 use Rattle.net.specs.declared.Point.{Point}
 use Rattle.net.specs.declared.Edge.{Edge}
-use Rattle.net.proofs.Canonical.{canonical-is, name-means}
+use Rattle.net.proofs.Canonical.{lesser-none, name-means}
 use Rattle.net.proofs.Crossing.{across-is}
 use Rattle.net.proofs.LeastName.{least-is-name, place-in, placeIn}
 use Rattle.net.proofs.Loads.{sum-spread}
@@ -44,23 +44,6 @@ use Rattle.corners.proofs.Refused.{back-passes, numbered, numbered-pass
 use Rattle.corners.proofs.TurnedCorners.{turned-is}
 use Rattle.net.proofs.StateCode.{on-one, spread-of}
 use Rattle.net.proofs.WordSteps.{at-made, at-place, low-degree, made, made-place, numbered-place, third}
-
--- ---- an answer from its refusal
-
-module _ {A : Type 0} {f : ℕ} {Good : A → Type 0} {zeros : ℕ → A} where
-  -- refusal k was found, and it is not 0
-  pub refusing : {k : ℕ} → k ≡ f → (k ≡ 0 → ⊥) → Answer f Good zeros (zeros k)
-  refusing e no-zero = record { answered = λ z. absurd (no-zero (e ∙ z)); refused = λ n. ap zeros e }
-
-  pub answering : {r : A} → f ≡ 0 → Good r → Answer f Good zeros r
-  answering z g = record { answered = λ e. g; refused = λ n. absurd (n z) }
-
-module _ {A : Type 0} {f : ℕ} {Good : A → List ℕ → Type 0} {zeros : ℕ → A} {out : List ℕ} where
-  pub refusing-lent : {k : ℕ} → k ≡ f → (k ≡ 0 → ⊥) → Lent f Good zeros out (zeros k) out
-  refusing-lent e no-zero = record { answered = λ z. absurd (no-zero (e ∙ z)); refused = λ n. (ap zeros e, refl) }
-
-  pub answering-lent : {r : A} {new : List ℕ} → f ≡ 0 → Good r new → Lent f Good zeros out r new
-  answering-lent z g = record { answered = λ e. g; refused = λ n. absurd (n z) }
 
 -- ---- refusals in turn
 
@@ -119,16 +102,12 @@ module _ (r : CornerName) (z : checkNameFields r ≡ 0) where
 
   pub name-ten : (least ≡ r .0 → ⊥) → 10 ≡ checkName r
   unfolding checkName checkNameFields
-  name-ten n = refuse-after order order (nameRows r) _ tt tt z (here (not-so (refusal (nameRows r)) z))
+  name-ten n = refuse-after order order (nameRows r) _ tt tt z (here (so (refusal (nameRows r)) z))
     where
-      no-true : (b : Bool) → (b ≡ true → ⊥) → not b ≡ true
-      no-true true f = absurd (f refl)
-      no-true false f = refl
-
-      not-so : (f : ℕ) → f ≡ 0 → notCanonical f r ≡ true
-      not-so zero e = no-true (canonical r) (λ e. n (ap (λ (q : CornerName). q .0)
-          (one-name least-name (canonical-is r z .0 e))))
-      not-so (suc f) e = absurd (omega arith)
+      so : (f : ℕ) → f ≡ 0 → notCanonical f r ≡ true
+      so zero e = so-unless (lesserHas r)
+          (λ e. n (ap (λ (q : CornerName). q .0) (one-name least-name (lesser-none r z .0 e))))
+      so (suc f) e = absurd (omega arith)
 
   pub name-passing : least ≡ r .0 → 0 ≡ checkName r
   name-passing e = sym (name-means r .1 (

@@ -1,20 +1,21 @@
 -- For every input there is a result that meets a call's statement, and any two that do are equal. (Checking a name: the
 -- statement is an equation.) Assumes nothing.
-use mathlib.Core.Path.{_≡_, _∙_, refl, sym, ap, subst}
-use mathlib.Core.Logic.{⊎-elim}
+use mathlib.Core.Path.{_≡_, _∙_, refl, sym, subst}
 use mathlib.Core.List.{List}
 use Prim.Native.Nat.{ℕ}
 use lib.ListN.{length, take}
 use lib.Seq.{length-take-le}
+use Rattle.frame.specs.Answers.{Listed, over}
+use Rattle.frame.specs.Promises.{together}
+use Rattle.frame.proofs.Answering.{answer-one, answer-some, listed-one}
 use Rattle.words.proofs.Codes.{code-degree, name-code}
 use Rattle.words.specs.Words.{cornerNumber, degreeOf}
 use Rattle.words.specs.declared.CornerName.{CornerName}
 use Rattle.words.specs.declared.TriangleCode.{TriangleCode}
 use Rattle.net.specs.Corners.{nameOf, codeInside, corner, named}
-use Rattle.frame.specs.Answers.{over, Answer, Lent, Listed}
 use Rattle.corners.specs.Answers.{BackAnswer, CrossAnswer, Crossed, NameWeightsAnswer}
 use Rattle.corners.specs.Answers.{Named, NamingAnswer, Put, RingAnswer, WeightsAnswer, countAnswer, nameAnswer}
-use Rattle.corners.specs.Answers.{noStep, stepAnswer}
+use Rattle.corners.specs.Answers.{noCount, noName, noStep, stepAnswer}
 use Rattle.net.specs.Division.{Weights}
 use Rattle.net.specs.Means.Walks.{leastName, ringWords}
 use Rattle.net.specs.Names.{IsName}
@@ -31,39 +32,7 @@ use Rattle.net.proofs.Names.{one-name}
 use Rattle.corners.proofs.Refused.{back-passes, numbered, ring-passes}
 use Rattle.corners.proofs.TurnedCorners.{turned-is, turned-one}
 use Rattle.net.proofs.RingCodes.{ring-is, ring-one}
-use Rattle.net.proofs.Table.{either-way, same}
 use Rattle.net.proofs.WayBack.{weights-mean}
-
--- one answer, where what is answered and what a refusal returns are one
-module _ {A : Type 0} {f : ℕ} {Good : A → Type 0} {zeros : ℕ → A} where
-  pub answer-one : {r r′ : A} → ((f ≡ 0) → Good r → Good r′ → r ≡ r′)
-      → Answer f Good zeros r → Answer f Good zeros r′ → r ≡ r′
-  answer-one {r} {r′} one x y =
-      ⊎-elim (λ z. one z (x .answered z) (y .answered z)) (λ n. x .refused n ∙ sym (y .refused n))
-      (either-way (same f 0))
-
-module _ {A : Type 0} {f : ℕ} {Good : A → List ℕ → Type 0} {zeros : ℕ → A} {out : List ℕ} where
-  pub lent-one : {r r′ : A} {new new′ : List ℕ}
-      → (f ≡ 0 → Good r new → Good r′ new′ → (r ≡ r′) × (new ≡ new′))
-      → Lent f Good zeros out r new → Lent f Good zeros out r′ new′ → (r ≡ r′) × (new ≡ new′)
-  lent-one one x y =
-      ⊎-elim (λ z. one z (x .answered z) (y .answered z))
-      (λ n. (x .refused n .0 ∙ sym (y .refused n .0), x .refused n .1 ∙ sym (y .refused n .1)))
-      (either-way (same f 0))
-
-module _ {A : Type 0} (f : ℕ) (Good : A → Type 0) (zeros : ℕ → A) where
-  pub answer-some : (f ≡ 0 → (r : A) × Good r) → (r : A) × Answer f Good zeros r
-  answer-some give =
-      ⊎-elim (λ z. let x = give z in (x .0, record { answered = λ e. x .1; refused = λ n. absurd (n z) }))
-      (λ n. (zeros f, record { answered = λ z. absurd (n z); refused = λ m. refl })) (either-way (same f 0))
-
-module _ {A : Type 0} (f : ℕ) (Good : A → List ℕ → Type 0) (zeros : ℕ → A) (out : List ℕ) where
-  pub lent-some : (f ≡ 0 → (r : A) × (new : List ℕ) × Good r new)
-      → (r : A) × (new : List ℕ) × Lent f Good zeros out r new
-  lent-some give =
-      ⊎-elim (λ z. let x = give z in (x .0, x .1, record { answered = λ e. x .2; refused = λ n. absurd (n z) }))
-      (λ n. (zeros f, out, record { answered = λ z. absurd (n z); refused = λ m. (refl, refl) }))
-      (either-way (same f 0))
 
 pub cross-one : (t : TriangleCode) (k : ℕ) (r r′ : StepAnswer) → CrossAnswer t k r → CrossAnswer t k r′
     → r ≡ r′
@@ -101,7 +70,7 @@ naming-one t i r r′ = answer-one (λ z x y. named-one x y)
 
 pub naming-some : (t : TriangleCode) (i : ℕ) → (r : NameAnswer) × NamingAnswer t i r
 naming-some t i =
-    answer-some _ (Named (degreeOf (t .0)) (corner t i)) (λ f. nameAnswer f (nameOf 0))
+    answer-some _ (Named (degreeOf (t .0)) (corner t i)) noName
     (λ z. let c = numbered t i z in (
       nameAnswer 0 (nameOf (leastName 5 (placeIn t i))),
       record {
@@ -116,44 +85,45 @@ back-one n weights r r′ = answer-one (λ z x y. named-one x y)
 
 pub back-some : (n : ℕ) (weights : List ℕ) → (r : NameAnswer) × BackAnswer n weights r
 back-some n weights =
-    answer-some _ (Named n (take 12 weights)) (λ f. nameAnswer f (nameOf 0))
+    answer-some _ (Named n (take 12 weights)) noName
     (λ z. let p = back-passes n weights .0 z in
     let x = weights-mean n (take 12 weights) (p .0) (length-take-le 12 weights (p .1)) .0 (p .2, p .3) in
     let i = x .2 in
     let m = one-name-each n (x .0) (i .0) (x .1) (i .1) in
     (nameAnswer 0 (m .0), record { number = refl; is = subst (λ (w : Weights). IsName n w (m .0)) (i .2) (m .1) }))
 
-pub weights-one : (t : TriangleCode) (i : ℕ) (out : List ℕ) (r r′ : ℕ) (new new′ : List ℕ)
-    → WeightsAnswer t i out r new → WeightsAnswer t i out r′ new′ → (r ≡ r′) × (new ≡ new′)
-weights-one t i out r r′ new new′ = lent-one (λ z x y. (x .0 ∙ sym (y .0), x .1 ∙ sym (y .1)))
+-- ---- with a lent list: the answer and the list as it is left, together
+
+put-one : (p : Weights) (out : List ℕ) {x y : ℕ × List ℕ} → together (Put p out) x → together (Put p out) y → x ≡ y
+put-one p out a b = λ i. ((a .0 ∙ sym (b .0)) i, (a .1 ∙ sym (b .1)) i)
+
+pub weights-one : (t : TriangleCode) (i : ℕ) (out : List ℕ) (x y : ℕ × List ℕ)
+    → together (WeightsAnswer t i out) x → together (WeightsAnswer t i out) y → x ≡ y
+weights-one t i out x y = answer-one (λ z. put-one (corner t i) out)
 
 pub weights-some : (t : TriangleCode) (i : ℕ) (out : List ℕ)
-    → (r : ℕ) × (new : List ℕ) × WeightsAnswer t i out r new
-weights-some t i out = lent-some _ (Put (corner t i) out) (λ f. f) out (λ z. (0, over (corner t i) out, (refl, refl)))
+    → (x : ℕ × List ℕ) × together (WeightsAnswer t i out) x
+weights-some t i out =
+    answer-some _ (together (Put (corner t i) out)) (λ f. (f, out)) (λ z. ((0, over (corner t i) out), (refl, refl)))
 
-pub name-weights-one : (q : CornerName) (out : List ℕ) (r r′ : ℕ) (new new′ : List ℕ)
-    → NameWeightsAnswer q out r new → NameWeightsAnswer q out r′ new′ → (r ≡ r′) × (new ≡ new′)
-name-weights-one q out r r′ new new′ = lent-one (λ z x y. (x .0 ∙ sym (y .0), x .1 ∙ sym (y .1)))
+pub name-weights-one : (q : CornerName) (out : List ℕ) (x y : ℕ × List ℕ)
+    → together (NameWeightsAnswer q out) x → together (NameWeightsAnswer q out) y → x ≡ y
+name-weights-one q out x y = answer-one (λ z. put-one (named q) out)
 
-pub name-weights-some : (q : CornerName) (out : List ℕ)
-    → (r : ℕ) × (new : List ℕ) × NameWeightsAnswer q out r new
-name-weights-some q out = lent-some _ (Put (named q) out) (λ f. f) out (λ z. (0, over (named q) out, (refl, refl)))
+pub name-weights-some : (q : CornerName) (out : List ℕ) → (x : ℕ × List ℕ) × together (NameWeightsAnswer q out) x
+name-weights-some q out =
+    answer-some _ (together (Put (named q) out)) (λ f. (f, out)) (λ z. ((0, over (named q) out), (refl, refl)))
 
-pub ring-answer-one : (q : CornerName) (out : List ℕ) (r r′ : CountAnswer) (new new′ : List ℕ)
-    → RingAnswer q out r new → RingAnswer q out r′ new′ → (r ≡ r′) × (new ≡ new′)
-ring-answer-one q out r r′ new new′ =
-    lent-one (λ z x y.
-    let e : x .list ≡ y .list = ring-one (x .good) (y .good) in (
-      x .count ∙ ap (λ (l : List ℕ). countAnswer 0 (length l)) e ∙ sym (y .count),
-      x .put ∙ ap (λ (l : List ℕ). over l out) e ∙ sym (y .put),
-    ))
+pub ring-answer-one : (q : CornerName) (out : List ℕ) (x y : CountAnswer × List ℕ)
+    → together (RingAnswer q out) x → together (RingAnswer q out) y → x ≡ y
+ring-answer-one q out x y = answer-one (λ z. listed-one (λ xs ys. ring-one))
 
 pub ring-answer-some : (q : CornerName) (out : List ℕ)
-    → (r : CountAnswer) × (new : List ℕ) × RingAnswer q out r new
+    → (x : CountAnswer × List ℕ) × together (RingAnswer q out) x
 ring-answer-some q out =
-    lent-some _ (Listed (IsRing q) out) (λ f. countAnswer f 0) out
+    answer-some _ (together (Listed (IsRing q) (countAnswer 0) out)) (λ f. (noCount f, out))
     (λ z. let n = name-means q .0 (ring-passes q out .0 z .0) in
     let c = name-code q (n .0) in
     let x = ring-is q c (n .1 .number) in
     let ts = ringWords (ringSize (nonZeros (named q))) (placeIn (codeInside q) (cornerNumber (q .0))) in
-    (countAnswer 0 (length ts), over ts out, record { list = ts; good = x; count = refl; put = refl }))
+    ((countAnswer 0 (length ts), over ts out), record { list = ts; good = x; count = refl; put = refl }))

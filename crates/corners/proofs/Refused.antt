@@ -8,9 +8,9 @@ use native.Mathlib.Nat.{pos-of-ne-zero}
 use native.Mathlib.Omega.{arith}
 use lib.ListN.{length, take}
 use borrow.Author.Tests.{ltb-false, eqb-false, eqb-true, le-ltb, ne-eqb, eq-eqb, not-false}
-use Rattle.words.proofs.Codes.{is-code}
-use Rattle.frame.proofs.Refusing.{NoneSo, either-false, none-after, none-so}
 use Rattle.frame.specs.Refusals.{listRows, order}
+use Rattle.frame.proofs.Refusing.{NoneSo, either-false, none-after, none-so}
+use Rattle.words.proofs.Codes.{is-code}
 use Rattle.words.specs.Refusals.{IsCode, checkCode, codeRows, degreeRows}
 use Rattle.words.specs.Words.{degreeOf}
 use Rattle.words.specs.declared.CornerName.{CornerName}

@@ -3,6 +3,8 @@ use mathlib.Core.Path.{_≡_, _∙_, sym, ap}
 use mathlib.Core.List.{List}
 use Prim.Native.Nat.{ℕ, _≤_}
 use lib.ListN.{length}
+use Rattle.frame.specs.Answers.{over}
+use Rattle.frame.proofs.Answering.{answering}
 use Rattle.words.proofs.Codes.{code-side, is-code, name-code}
 use Rattle.words.specs.Refusals.{checkCode}
 use Rattle.words.specs.Words.{cornerNumber, sideOf}
@@ -11,8 +13,6 @@ use Rattle.net.specs.Corners.{codeInside, named}
 use Rattle.net.specs.Division.{Weights}
 use Rattle.net.specs.Means.States.{pointOf, stateOf}
 use Rattle.net.specs.Means.Walks.{placeAt, ringWords}
-use Rattle.frame.specs.Answers.{over}
-use Rattle.frame.proofs.Answering.{answering}
 use Rattle.net.specs.Refusals.{checkName}
 use Rattle.net.specs.Sides.{OneToThree}
 use Rattle.net.specs.Steps.{nonZeros, ringSize}
@@ -44,7 +44,7 @@ module _ (r : CornerName) (z : checkName r ≡ 0) where
       e ∙ ap countOf f
       ∙ sym (count-is (sideOf (t .0)) (digitsIn t) i (code-side (is-code t code-passes)))
       ∙ ap (λ (P : Weights). ringSize (nonZeros P)) (sym (corner-at t i)) in
-      answering-lent (ring-passes r out .1 (z, l)) (record {
+      answering (ring-passes r out .1 (z, l)) (record {
         list = ringWords (ringSize (nonZeros (named r))) (placeAt (r .0));
         good = ring-is r (name-means r .0 z .1 .code) name-number;
         count = ap (countAnswer 0) (size ∙ sym (ring-length _ _));

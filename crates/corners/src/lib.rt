@@ -35,7 +35,7 @@ pub struct CountAnswer {
 // ---- a code with an edge or corner number
 
 // Of a code with an edge or corner number: 0, or 1 to 5.
-fn refuse_numbered(t: TriangleCode, i: u64) -> u64
+pub fn refuse_numbered(t: TriangleCode, i: u64) -> u64
     ensures { λ r. ⌜ r ≡ refuseNumbered t i ⌝ }
 {
     let f = t.check();
@@ -58,7 +58,7 @@ pub fn check_name(r: CornerName) -> u64
     ensures { λ f. ⌜ f ≡ checkName r ⌝ }
 {
     let w = r.0;
-    let f = r.check_fields();
+    let f = words::check_name_fields(r);
     if f != 0 {
         return f;
     }

@@ -5,12 +5,12 @@ use Prim.Native.Nat.{ℕ, zero, suc, _+_, _≤_, _<_}
 use native.Mathlib.Omega.{arith}
 use lib.ListN.{length, length-append}
 use borrow.Author.Tests.{lt-ltb}
+use Rattle.frame.specs.Refusals.{listRows, order}
+use Rattle.frame.proofs.Refusing.{here, refuse-before, refuse-after}
+use Rattle.frame.proofs.Answering.{answering}
 use Rattle.words.specs.Words.{wordOf}
 use Rattle.words.specs.Family.{codeOf}
 use Rattle.words.specs.Refusals.{degreeRows}
-use Rattle.frame.proofs.Refusing.{here, refuse-before, refuse-after}
-use Rattle.frame.specs.Refusals.{listRows, order}
-use Rattle.frame.proofs.Answering.{answering}
 use Rattle.corners.specs.Answers.{countAnswer}
 use Rattle.directions.specs.Answers.{FileAnswer, ListAnswer}
 use Rattle.net.proofs.Flips.{each-length}
@@ -81,7 +81,7 @@ pub listed-answer : (n : ℕ) (d : Direction) (out : List ℕ) (r : ℕ) (new : 
     → Puts 0 (allWords d n 4) out r new → ListAnswer n d out (countAnswer 0 r) new
 listed-answer n d out r new z l p =
     let c : r ≡ length (allWords d n 4) = omega (arith, p .count) in
-    answering-lent (list-passes n d out .1 (z, l)) (record {
+    answering (list-passes n d out .1 (z, l)) (record {
       list = allWords d n 4;
       good = all-holders n d (allowed n d z .low);
       count = ap (countAnswer 0) c;

@@ -3,12 +3,12 @@
 use mathlib.Core.Path.{_≡_}
 use Prim.Native.Nat.{ℕ}
 use mathlib.Core.List.{List}
+use Rattle.frame.specs.Answers.{Answer, Lent, Listed}
 use Rattle.words.specs.Family.{noCode}
 use Rattle.words.specs.declared.CodeAnswer.{CodeAnswer}
 use Rattle.filing.specs.Filing.{IsFiled, AreHolders}
 use Rattle.filing.specs.declared.Direction.{Direction}
-use Rattle.frame.specs.Answers.{Answer, Lent, Listed}
-use Rattle.corners.specs.Answers.{noCount}
+use Rattle.corners.specs.Answers.{countAnswer, noCount}
 use Rattle.corners.specs.declared.CountAnswer.{CountAnswer}
 use Rattle.directions.specs.Refusals.{refuseFile, refuseList}
 
@@ -23,4 +23,4 @@ FileAnswer n d r = Answer (refuseFile n d) (Filed n d) noCode r
 
 -- "places after the count are unchanged"
 abbrev pub ListAnswer : ℕ → Direction → List ℕ → CountAnswer → List ℕ → Type 0
-ListAnswer n d out r new = Lent (refuseList n d out) (Listed (AreHolders n d) out) noCount out r new
+ListAnswer n d out r new = Lent (refuseList n d out) (Listed (AreHolders n d) (countAnswer 0) out) noCount out r new

@@ -12,9 +12,9 @@ use Rattle.golden.specs.Decisions.{Decides}
 use Rattle.words.specs.Words.{wordOf}
 use Rattle.words.specs.Family.{codeOf}
 use Rattle.words.specs.Refusals.{IsCode}
-use Rattle.words.specs.Counting.{codeAt}
+use Rattle.words.specs.Counting.{codeAt, placeOf}
 use Rattle.words.specs.declared.TriangleCode.{TriangleCode}
-use Rattle.words.proofs.CodeCount.{four-pow, code-at, code-place, codes-rise}
+use Rattle.words.proofs.CodeCount.{at-place, code-at, codes-rise, four-pow, place-below}
 use Rattle.net.specs.Sides.{IsSide}
 use Rattle.net.specs.Division.{each}
 use Rattle.net.specs.Means.Paths.{digitsOf}
@@ -209,9 +209,9 @@ module _ (n : ℕ) (d : Direction) (low : n ≤ 24) where
     codes = λ m h. let r = listed all-words m h in subst (IsCode n) (λ i. codeOf (sym (r .is) i)) (code-at n (r .number) low (r .high));
     hold = λ m h. let r = listed all-words m h in subst Held (λ i. codeOf (sym (r .is) i)) (r .has);
     complete = λ t c h.
-        let p = code-place c in
-        let r = complete all-words (p .0) (omega arith) (p .1) (subst Held (sym (p .2)) h) in
-        (r .0, r .1, r .2 ∙ (λ i. p .2 i .0));
+        let e = at-place c in
+        let r = complete all-words (placeOf t) (omega arith) (place-below c) (subst Held (sym e) h) in
+        (r .0, r .1, r .2 ∙ (λ i. e i .0));
   }
 
 -- ---- there is only one list

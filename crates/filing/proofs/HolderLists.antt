@@ -7,8 +7,8 @@ use mathlib.Core.List.{List, [], _∷_, _++_}
 use Prim.Native.Nat.{ℕ, zero, suc, _+_, _*_, _-_, _≤_, _<_}
 use native.Mathlib.Omega.{arith}
 use lib.ListN.{length, set, drop, length-append, length-drop, take-append-drop}
-use Rattle.net.specs.Division.{each}
 use Rattle.frame.specs.Answers.{over}
+use Rattle.net.specs.Division.{each}
 use Rattle.filing.specs.Means.Descent.{childDets, holds, holders}
 use Rattle.filing.specs.Means.Lists.{joined, put, Room, Puts}
 use Rattle.filing.specs.declared.Determinants.{Determinants}

@@ -1,8 +1,8 @@
 -- Refusals at their bounds and in their order (specs/Examples.antt: Bounds), computed. Assumes nothing.
 use mathlib.Core.Path.{refl}
+use Rattle.frame.specs.Refusals.{firstOf}
 use Rattle.words.specs.Words.{digits, path, wordOf}
 use Rattle.words.specs.Counting.{codeAt}
-use Rattle.frame.specs.Refusals.{firstOf}
 use Rattle.words.specs.Refusals.{checkCode}
 use Rattle.words.specs.Family.{refuseParent, refuseChild}
 use Rattle.net.specs.Sides.{cornerVertex}

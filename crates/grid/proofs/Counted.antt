@@ -7,10 +7,10 @@ use Prim.Native.Nat.{ℕ, zero, suc, _+_, _*_, _^_, _≤_, _<_}
 use native.Mathlib.Nat.{pow-suc}
 use native.Mathlib.Omega.{arith}
 use lib.ListN.{getD}
-use Rattle.words.proofs.CodeCount.{code-at, code-place, codes-rise}
+use Rattle.words.proofs.CodeCount.{at-place, code-at, place-at, place-below}
 use Rattle.words.proofs.Codes.{code-side}
 use Rattle.words.proofs.Digits.{none}
-use Rattle.words.specs.Counting.{codeAt}
+use Rattle.words.specs.Counting.{codeAt, placeOf}
 use Rattle.words.specs.Refusals.{IsCode}
 use Rattle.words.specs.Words.{cornerNumber, digits, sideOf}
 use Rattle.words.specs.declared.CornerName.{CornerName}
@@ -31,16 +31,12 @@ use Rattle.grid.proofs.EdgeHalves.{half-edges}
 
 -- "20·4^N triangles"
 pub triangles : (n : ℕ) → n ≤ 24 → Count (20 * 4 ^ n) (IsCode n)
-triangles n h = record { at = codeAt n; each = λ i k. code-at n i h k; every = λ t c. code-place c; once = one }
-  where
-    word : (i j : ℕ) → codeAt n i ≡ codeAt n j → codeAt n i .0 ≡ codeAt n j .0
-    word i j e = ap (λ (t : TriangleCode). t .0) e
-
-    one : (i j : ℕ) → i < 20 * 4 ^ n → j < 20 * 4 ^ n → codeAt n i ≡ codeAt n j → i ≡ j
-    one i j k l e =
-        ⊎-elim (λ a. absurd (omega (arith, codes-rise n i j h a l, word i j e)))
-        (λ a. ⊎-elim (λ b. absurd (omega (arith, codes-rise n j i h b k, word i j e))) (λ b. omega (arith, a, b)) (either-way (less j i)))
-        (either-way (less i j))
+triangles n h = record {
+  at = codeAt n;
+  each = λ i k. code-at n i h k;
+  every = λ t c. (placeOf t, place-below c, at-place c);
+  once = λ i j k l e. sym (place-at n i h) ∙ ap placeOf e ∙ place-at n j h;
+}
 
 -- "30·4^N edges"
 pub edges : (n : ℕ) → n ≤ 24 → Count (30 * 4 ^ n) (IsEdge n)

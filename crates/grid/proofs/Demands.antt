@@ -6,6 +6,9 @@ use Prim.Native.Nat.{ℕ, zero, suc, _≤_}
 use native.Mathlib.Omega.{arith}
 use lib.ListN.{length, take, drop, length-append}
 use lib.Seq.{take-append-seam}
+use Rattle.frame.specs.Answers.{over, Answer, Lent}
+use Rattle.frame.specs.Promises.{Keeps}
+use Rattle.frame.proofs.Answering.{answering}
 use Rattle.words.specs.Words.{cornerNumber, degreeOf, digitOf, digits, sideOf}
 use Rattle.words.specs.Refusals.{IsCode}
 use Rattle.words.specs.Family.{codeAnswer, refuseParent, refuseChild, parentOf, childOf, parentAnswer, childAnswer}
@@ -19,9 +22,6 @@ use Rattle.net.specs.Division.{Weights, sum, triangleAt, cornerOf, divide}
 use Rattle.net.specs.Corners.{codeInside, corner, triangleOf, HasCorner, named}
 use Rattle.net.specs.Names.{IsName}
 use Rattle.net.specs.Steps.{Across}
-use Rattle.frame.specs.Answers.{over, Answer, Lent}
-use Rattle.frame.proofs.Answering.{answering}
-use Rattle.frame.specs.Promises.{Keeps}
 use Rattle.net.specs.Refusals.{onOneSide}
 use Rattle.net.proofs.Canonical.{name-means, name-passes-all}
 use Rattle.net.proofs.Demand3.{back-again, one-across, three-distinct, just-two, names-equal}

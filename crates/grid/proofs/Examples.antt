@@ -5,10 +5,10 @@ use lib.Dec.{lit≤}
 use lib.IntN.{pos}
 use lib.Ieee.{fits, ofBits}
 use lib.ListN.{replicate}
+use Rattle.frame.specs.Refusals.{firstOf}
 use Rattle.golden.specs.Numbers.{_+φ_, negφ, _*φ_}
 use Rattle.words.specs.Words.{digits, path, wordOf}
 use Rattle.words.specs.Counting.{codeAt}
-use Rattle.frame.specs.Refusals.{firstOf}
 use Rattle.words.specs.Refusals.{checkNameFields}
 use Rattle.words.specs.Family.{refuseParent, refuseChild, parentOf, childOf, parentAnswer, childAnswer}
 use Rattle.net.specs.Sides.{cornerVertex, vertex}

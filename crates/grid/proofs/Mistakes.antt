@@ -11,12 +11,12 @@ use lib.Dec.{eqb, lit≤}
 use lib.IntN.{pos, natAbs}
 use lib.ListN.{getD}
 use borrow.Author.Tests.{eqb-false, le-ltb}
+use Rattle.frame.specs.Refusals.{firstOf}
+use Rattle.frame.specs.Promises.{_gives_}
 use Rattle.golden.specs.Numbers.{golden, whole, _+φ_, negφ, _*φ_}
 use Rattle.golden.proofs.GoldenOrder.{is-nonneg, not-nonneg}
 use Rattle.golden.proofs.IntegerOrder.{pp}
 use Rattle.words.specs.Words.{digits, path, wordOf, sideOf, degreeOf}
-use Rattle.frame.specs.Refusals.{firstOf}
-use Rattle.frame.specs.Promises.{_gives_}
 use Rattle.words.specs.Refusals.{checkCode, IsCode}
 use Rattle.words.specs.Family.{codeOf, codeAnswer}
 use Rattle.words.specs.declared.TriangleCode.{TriangleCode}

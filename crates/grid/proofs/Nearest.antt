@@ -1,9 +1,11 @@
 -- t and drawn coordinates are as specs/Nearest.antt says. Assumes nothing.
 use mathlib.Core.Path.{_≡_, _∙_, refl, sym, ap, subst}
-use Prim.Native.Nat.{ℕ, zero, suc, _+_, _-_, _*_, _^_, _≤_, _<_}
+use Prim.Native.Nat.{ℕ, zero, suc, _^_, _≤_, _<_}
 use native.Mathlib.Omega.{arith}
 use lib.IntN.{ℤ, pos, negsuc, negℤ, natAbs}
 use lib.Ieee.{Float, binary64, toBits}
+use Rattle.frame.specs.Answers.{Answer}
+use Rattle.frame.proofs.Answering.{good, passed}
 use Rattle.golden.specs.Numbers.{negφ}
 use Rattle.golden.specs.Drawing.{quantity}
 use Rattle.golden.proofs.Nearest.{nearest-means, no-half, quantity-irrational, quantity-whole}
@@ -28,8 +30,6 @@ use Rattle.filing.specs.declared.Point.{Point}
 use Rattle.filing.specs.declared.Ticks.{Ticks}
 use Rattle.filing.proofs.OppositeCorners.{opposite-code, opposite-degree, opposite-exact, oppositeOf}
 use Rattle.filing.proofs.Weighted.{corner-twelve, exact-small}
-use Rattle.frame.specs.Answers.{Answer}
-use Rattle.frame.proofs.Answering.{good, passed}
 use Rattle.corners.proofs.Refused.{numbered}
 use Rattle.points.specs.Answers.{Pointed, Ticked, noPoint, noTicks}
 use Rattle.points.specs.Bits.{bitsOf}

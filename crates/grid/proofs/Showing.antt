@@ -8,6 +8,9 @@ use lib.IntN.{ℤ, natAbs}
 use lib.Ieee.{Float, binary64, fits}
 use lib.Ieee.Exact.{HasValue}
 use lib.ListN.{length, take}
+use Rattle.frame.specs.Answers.{over}
+use Rattle.frame.specs.Promises.{_gives_, _leaves_}
+use Rattle.frame.proofs.Answering.{answering, refusing}
 use Rattle.golden.specs.Drawing.{IsT, quantity}
 use Rattle.golden.specs.declared.Golden.{Golden}
 use Rattle.golden.proofs.Nearest.{Tested, t-test}
@@ -22,9 +25,6 @@ use Rattle.net.specs.Division.{Weights}
 use Rattle.net.specs.Corners.{corner, named, nameOf, codeInside}
 use Rattle.net.specs.Names.{IsName}
 use Rattle.net.specs.Steps.{Across, IsRing, nonZeros, ringSize}
-use Rattle.frame.specs.Answers.{over}
-use Rattle.frame.proofs.Answering.{answering, refusing}
-use Rattle.frame.specs.Promises.{_gives_, _leaves_}
 use Rattle.net.specs.Refusals.{checkName}
 use Rattle.net.specs.Means.Walks.{leastName, ringWords}
 use Rattle.net.proofs.Canonical.{name-means}
@@ -76,7 +76,7 @@ pub lists : (n : ℕ) (d : Direction) (ws : List ℕ) → refuseFile n d ≡ 0 �
     → (out : List ℕ) → 6 ≤ length out → ListAnswer n d out leaves (countAnswer 0 (length ws), over ws out)
 lists n d ws z e out h =
     let is : ListAnswer n d out (countAnswer 0 (length ws)) (over ws out) =
-    answering-lent (list-passes n d out .1 (z, h)) (record {
+    answering (list-passes n d out .1 (z, h)) (record {
       list = ws;
       good = subst (AreHolders n d) e (all-holders n d (allowed n d z .low));
       count = refl;
@@ -87,7 +87,7 @@ lists n d ws z e out h =
 pub lists-refused : (n : ℕ) (d : Direction) (out : List ℕ) (k : ℕ) → suc k ≡ refuseList n d out
     → ListAnswer n d out leaves (countAnswer (suc k) 0, out)
 lists-refused n d out k e =
-    let is : ListAnswer n d out (countAnswer (suc k) 0) out = refusing-lent e (λ z. omega arith) in
+    let is : ListAnswer n d out (countAnswer (suc k) 0) out = refusing e (λ z. omega arith) in
     record { meets = is; only = λ s new a. list-one n d out s _ new _ a is }
 
 -- ---- crossing, naming, the way back
@@ -148,20 +148,20 @@ pub weighs : (t : TriangleCode) (i : ℕ) (p : Weights) → refuseNumbered t i �
     → (out : List ℕ) → 12 ≤ length out → WeightsAnswer t i out leaves (0, over p out)
 weighs t i p z e out h =
     let is : WeightsAnswer t i out 0 (over p out) =
-    answering-lent (weights-passes t i out .1 (z, h)) (refl, ap (λ (p : Weights). over p out) (sym e)) in
+    answering (weights-passes t i out .1 (z, h)) (refl, ap (λ (p : Weights). over p out) (sym e)) in
     record { meets = is; only = λ s new a. weights-one t i out s _ new _ a is }
 
 pub weighs-name : (q : CornerName) (p : Weights) → checkName q ≡ 0 → named q ≡ p
     → (out : List ℕ) → 12 ≤ length out → NameWeightsAnswer q out leaves (0, over p out)
 weighs-name q p z e out h =
     let is : NameWeightsAnswer q out 0 (over p out) =
-    answering-lent (name-weights-passes q out .1 (z, h)) (refl, ap (λ (p : Weights). over p out) (sym e)) in
+    answering (name-weights-passes q out .1 (z, h)) (refl, ap (λ (p : Weights). over p out) (sym e)) in
     record { meets = is; only = λ s new a. name-weights-one q out s _ new _ a is }
 
 pub weighs-refused : (t : TriangleCode) (i : ℕ) (out : List ℕ) (k : ℕ) → suc k ≡ refuseWeights t i out
     → WeightsAnswer t i out leaves (suc k, out)
 weighs-refused t i out k e =
-    let is : WeightsAnswer t i out (suc k) out = refusing-lent e (λ z. omega arith) in
+    let is : WeightsAnswer t i out (suc k) out = refusing e (λ z. omega arith) in
     record { meets = is; only = λ s new a. weights-one t i out s _ new _ a is }
 
 -- ---- rings
@@ -172,14 +172,14 @@ pub rings-by : (q : CornerName) (ws : List ℕ) → checkName q ≡ 0
 rings-by q ws z e out h =
     let n = name-means q .0 z .1 in
     let is : RingAnswer q out (countAnswer 0 (length ws)) (over ws out) =
-    answering-lent (ring-passes q out .1 (z, h))
+    answering (ring-passes q out .1 (z, h))
     (record { list = ws; good = subst (IsRing q) e (ring-is q (n .code) (n .number)); count = refl; put = refl }) in
     record { meets = is; only = λ s new a. ring-answer-one q out s _ new _ a is }
 
 pub rings-refused : (q : CornerName) (out : List ℕ) (k : ℕ) → suc k ≡ refuseRing q out
     → RingAnswer q out leaves (countAnswer (suc k) 0, out)
 rings-refused q out k e =
-    let is : RingAnswer q out (countAnswer (suc k) 0) out = refusing-lent e (λ z. omega arith) in
+    let is : RingAnswer q out (countAnswer (suc k) 0) out = refusing e (λ z. omega arith) in
     record { meets = is; only = λ s new a. ring-answer-one q out s _ new _ a is }
 
 -- ---- places: of a corner of a code, and of a name

@@ -6,6 +6,7 @@ use mathlib.Core.Logic.{_⊎_, _↔_}
 use mathlib.Core.List.{List}
 use Prim.Native.Nat.{ℕ, _≤_}
 use lib.ListN.{take}
+use Rattle.frame.specs.Promises.{_gives_}
 use Rattle.words.specs.Words.{degreeOf, digitOf, sideOf}
 use Rattle.words.specs.Refusals.{IsCode, checkCode}
 use Rattle.words.specs.Family.{codeAnswer, refuseParent, refuseChild, parentAnswer, childAnswer, noCode}
@@ -31,7 +32,6 @@ use Rattle.points.specs.Answers.{NameTickAnswer, DrawAnswer, NameDrawAnswer}
 use Rattle.points.specs.declared.CoordinatesAnswer.{CoordinatesAnswer}
 use Rattle.directions.specs.Refusals.{refuseFile, refuseList}
 use Rattle.directions.specs.Answers.{FileAnswer, ListAnswer}
-use Rattle.frame.specs.Promises.{_gives_}
 
 -- There is one, and whatever else meets P is that one.
 abbrev pub One : {A : Type 0} → (A → Type 0) → Type 0

@@ -5,14 +5,14 @@ use mathlib.Core.List.{List, [], _∷_, _++_}
 use Prim.Native.Nat.{ℕ, _+_, _-_, _*_, _^_, _≤_}
 use lib.IntN.{pos}
 use lib.ListN.{length, replicate}
+use Rattle.frame.specs.Answers.{over}
+use Rattle.frame.specs.Promises.{_gives_, _leaves_}
 use Rattle.golden.specs.Numbers.{golden}
 use Rattle.words.specs.Refusals.{checkCode}
 use Rattle.words.specs.Family.{codeOf, codeAnswer, refuseParent, refuseChild, parentAnswer, childAnswer}
 use Rattle.net.specs.Sides.{vertex}
 use Rattle.net.specs.Division.{unitAt}
 use Rattle.net.specs.Corners.{nameOf}
-use Rattle.frame.specs.Answers.{over}
-use Rattle.frame.specs.Promises.{_gives_, _leaves_}
 use Rattle.net.specs.Refusals.{checkName}
 use Rattle.corners.specs.Refusals.{refuseNumbered, refuseWeights, refuseNameWeights, refuseBack, refuseRing}
 use Rattle.corners.specs.Answers.{CrossAnswer, WeightsAnswer, NameWeightsAnswer, NamingAnswer, BackAnswer, RingAnswer}

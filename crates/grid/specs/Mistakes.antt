@@ -5,6 +5,7 @@ use mathlib.Core.List.{List, _∷_}
 use Prim.Native.Nat.{ℕ, suc, _+_, _-_, _^_, _≤_, _<_}
 use lib.IntN.{pos}
 use lib.ListN.{length, replicate}
+use Rattle.frame.specs.Promises.{_gives_}
 use Rattle.golden.specs.Numbers.{golden, whole}
 use Rattle.golden.specs.Order.{NonNeg, Positive}
 use Rattle.words.specs.Words.{degreeOf}
@@ -21,7 +22,6 @@ use Rattle.corners.specs.Answers.{nameAnswer, countAnswer}
 use Rattle.points.specs.Answers.{TickAnswer, NameTickAnswer}
 use Rattle.directions.specs.Refusals.{refuseFile}
 use Rattle.directions.specs.Answers.{FileAnswer, ListAnswer}
-use Rattle.frame.specs.Promises.{_gives_}
 use Rattle.grid.specs.Writing.{written, cornerIn, minus, towards, up, ticks}
 
 -- A direction close to an edge of a triangle of degree 24. Its determinant by that edge is about 0.005, u + vφ with u

@@ -4,16 +4,16 @@ use mathlib.Core.Path.{_≡_, _∙_, refl, sym, ap, subst}
 use mathlib.Core.Logic.{_↔_, _⊎_, inl, inr, ⊎-elim}
 use mathlib.Core.Bool.{Bool, true, false, _&&_, true≢false}
 use mathlib.Core.List.{[], _∷_}
-use Prim.Native.Nat.{ℕ, zero, suc, _≤_, _<_}
+use Prim.Native.Nat.{ℕ, zero, suc, _<_}
 use native.Mathlib.Omega.{arith}
 use lib.Dec.{eqb}
 use borrow.Author.Tests.{eqb-true, eq-eqb}
+use Rattle.frame.specs.Refusals.{_either_, order}
+use Rattle.frame.proofs.Refusing.{none-after}
 use Rattle.words.proofs.CodeCount.{at-place, code-at, place-at, place-below, places-rise}
 use Rattle.words.proofs.Codes.{code-degree, code-name, name-code, name-passes}
-use Rattle.frame.proofs.Refusing.{none-after}
-use Rattle.frame.specs.Refusals.{_either_, order}
 use Rattle.words.specs.Counting.{codeAt, placeOf}
-use Rattle.words.specs.Refusals.{IsCode, checkNameFields, nameRows}
+use Rattle.words.specs.Refusals.{checkNameFields, nameRows}
 use Rattle.words.specs.Words.{degreeOf}
 use Rattle.words.specs.declared.CornerName.{CornerName}
 use Rattle.words.specs.declared.TriangleCode.{TriangleCode}

@@ -1,7 +1,7 @@
 -- What the code of states, of weights and of the way back rests on. Assumes nothing.
 use mathlib.Core.Path.{_≡_, _∙_, refl, sym, ap}
 use mathlib.Core.Logic.{inl, inr, ⊎-elim}
-use mathlib.Core.Bool.{Bool, true, false, not, _&&_, true≢false}
+use mathlib.Core.Bool.{true, false}
 use mathlib.Core.List.{List, [], _∷_, _++_}
 use Prim.Native.Nat.{ℕ, zero, suc, _+_, _-_, _*_, _/_, _%_, _^_, _≤_, _<_}
 use native.Mathlib.Nat.{lt-of-lt-of-le}
@@ -11,10 +11,10 @@ use lib.Dec.{eqb}
 use lib.ListN.{length, getD, take}
 use lib.Pow.{pow-mono}
 use lib.Seq.{length-take-le, take-suc, getD-take, ext-getD}
-use borrow.Author.Tests.{eq-eqb, eqb-true, ne-eqb, not-true, not-false}
-use Rattle.words.specs.Words.{degreeOf, digits, path}
+use borrow.Author.Tests.{eq-eqb, eqb-true, ne-eqb}
 use Rattle.frame.specs.Refusals.{_either_}
 use Rattle.frame.proofs.Refusing.{either-left, either-right}
+use Rattle.words.specs.Words.{degreeOf, digits, path}
 use Rattle.words.specs.declared.TriangleCode.{TriangleCode}
 use Rattle.words.proofs.Digits.{AreDigits, digits-are, more, none, path-lt}
 use Rattle.net.specs.Refusals.{isCornerOf, onOneSide, onSide}

@@ -13,6 +13,8 @@ use lib.Ieee.{Float, nan, inf, fin, binary64, up, down, size, toBits, ofBits}
 use lib.Ieee.Digits.{size-lt, size-le, size-reaches}
 use lib.Ieee.Fits.{down-pos}
 use lib.Ieee.Exact.{HasValue}
+use Rattle.frame.specs.Answers.{Answer}
+use Rattle.frame.proofs.Answering.{answers-or-not}
 use Rattle.golden.specs.declared.Golden.{Golden}
 use Rattle.golden.specs.Numbers.{Below}
 use Rattle.golden.specs.Drawing.{IsT}
@@ -21,8 +23,6 @@ use Rattle.golden.proofs.Nearest.{t-one, t-small}
 use Rattle.words.specs.Words.{degreeOf}
 use Rattle.words.specs.declared.TriangleCode.{TriangleCode}
 use Rattle.words.specs.declared.CornerName.{CornerName}
-use Rattle.frame.specs.Answers.{Answer}
-use Rattle.net.proofs.Table.{either-way, same}
 use Rattle.filing.specs.Fractions.{isNeg, IsFraction}
 use Rattle.filing.specs.Drawing.{AreTicks, IsDrawn, IsPoint}
 use Rattle.points.specs.Answers.{Ticked, Pointed, noTicks, noPoint, TickAnswer, NameTickAnswer, DrawAnswer}
@@ -33,7 +33,6 @@ use Rattle.filing.specs.declared.Ticks.{Ticks}
 use Rattle.points.specs.declared.TicksAnswer.{TicksAnswer}
 use Rattle.filing.specs.declared.Point.{Point}
 use Rattle.points.specs.declared.PointAnswer.{PointAnswer}
-use Rattle.points.proofs.PlaceCalls.{numbered-small, numbered-degree, name-small, name-degree}
 use Rattle.points.specs.Bits.{exponent, fraction, magnitude, bitsOf, HasBits}
 
 -- ---- how many binary digits
@@ -186,6 +185,11 @@ points-bits {n} hn s a b = record {
         bits-are n t r hn (omega (arith, t-small l h))
         (subst (λ (u : ℤ). IsFraction r u (65536 * 2 ^ n)) (t-one g (d .1) h) (d .2))
 
+-- what is promised of a drawn point, of which the bits follow
+pub pointed : {n : ℕ} {c : Coordinates} (r : PointAnswer) → n ≤ 24 → Small c → r .refusal ≡ 0
+    → IsPoint n c (r .at) → Pointed n c r
+pointed r hn s e is = record { number = e; is = is; bits = λ t a. points-bits hn s a is }
+
 -- a refusal's zeros
 zeros-bits : (n f : ℕ) → HasBits n (noTicks f .at) (noPoint f .at)
 unfolding bitsOf toBits ofBits
@@ -193,21 +197,18 @@ zeros-bits n f = record { x = refl; y = refl; z = refl }
 
 -- the same for answers: f is the refusal of both
 answers-bits : {f n : ℕ} {c : Coordinates} {r : PointAnswer} {q : TicksAnswer}
-    → (f ≡ 0 → n ≤ 24) → (f ≡ 0 → Small c)
     → Answer f (Pointed n c) noPoint r → Answer f (Ticked c) noTicks q → HasBits n (q .at) (r .at)
-answers-bits {f} {n} hn hp a b = ⊎-elim
-    (λ z. points-bits (hn z) (hp z) (b .answered z .are) (a .answered z .is))
-    (λ g. rw (a .refused g, b .refused g) (zeros-bits n f))
-    (either-way (same f 0))
+answers-bits {f} {n} a b = ⊎-elim (λ z. a .answered z .bits _ (b .answered z .are))
+    (λ g. rw (a .refused g, b .refused g) (zeros-bits n f)) (answers-or-not f)
 
 -- Whatever is handed in, the drawn point has the bits that t on each axis says, and a refusal's point those of zeros.
 pub drawn-bits : (t : TriangleCode) (i : ℕ) (r : PointAnswer) (q : TicksAnswer)
     → DrawAnswer t i r → TickAnswer t i q → HasBits (degreeOf (t .0)) (q .at) (r .at)
-drawn-bits t i r q = answers-bits (numbered-degree t i) (numbered-small t i)
+drawn-bits t i r q = answers-bits
 
 pub name-drawn-bits : (c : CornerName) (r : PointAnswer) (q : TicksAnswer)
     → NameDrawAnswer c r → NameTickAnswer c q → HasBits (degreeOf (c .0)) (q .at) (r .at)
-name-drawn-bits c r q = answers-bits (name-degree c) (name-small c)
+name-drawn-bits c r q = answers-bits
 
 -- E12 as bits: t of V(41) at degree 0 is -106039, 0, -65536, drawn as -1.6180267333984375, 0, -1
 pub e12-bits : (bitsOf 0 (negsuc 106038) ≡ 0xBFF9E37000000000) × (bitsOf 0 (pos 0) ≡ 0)

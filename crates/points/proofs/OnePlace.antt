@@ -5,6 +5,7 @@ use Prim.Native.Nat.{ℕ, _+_, _*_, _≤_, _^_}
 use native.Mathlib.Omega.{arith}
 use lib.IntN.{ℤ, pos}
 use lib.Ieee.{Float, binary64, div, ofInt}
+use Rattle.frame.proofs.Answering.{answer-one, answer-some}
 use Rattle.golden.specs.declared.Golden.{Golden}
 use Rattle.golden.specs.Numbers.{Below}
 use Rattle.golden.proofs.Nearest.{t-one, t-small, t-some}
@@ -15,7 +16,6 @@ use Rattle.net.specs.Division.{Weights}
 use Rattle.net.specs.Corners.{corner, named}
 use Rattle.net.specs.Refusals.{checkName}
 use Rattle.corners.specs.Refusals.{refuseNumbered}
-use Rattle.frame.proofs.Answering.{answer-one, answer-some}
 use Rattle.filing.specs.Coordinates.{exact}
 use Rattle.filing.specs.Fractions.{IsFraction}
 use Rattle.filing.specs.Drawing.{AreTicks, IsDrawn, IsPoint}
@@ -31,6 +31,7 @@ use Rattle.filing.specs.declared.Point.{Point}
 use Rattle.points.specs.declared.PointAnswer.{PointAnswer}
 use Rattle.filing.proofs.Weighted.{exact-small}
 use Rattle.filing.proofs.ExactFractions.{one-fraction, divisor-pos, divided}
+use Rattle.points.proofs.DrawnBits.{pointed}
 use Rattle.points.proofs.PlaceCalls.{numbered-twelve, numbered-degree, name-twelve, name-degree}
 
 -- ---- exact coordinates
@@ -134,7 +135,7 @@ pointed-one x y = λ i. record { refusal = (x .number ∙ sym (y .number)) i; at
 pointed-some : (n : ℕ) (p : Weights) → n ≤ 24 → Twelve p → (r : PointAnswer) × Pointed n (exact p) r
 pointed-some n p l t =
     let a = point-some n (exact p) l (exact-small t) in
-    (record { refusal = 0; at = a .0 }, record { number = refl; is = a .1 })
+    (record { refusal = 0; at = a .0 }, pointed _ l (exact-small t) refl (a .1))
 
 pub draw-one : (t : TriangleCode) (i : ℕ) (r r′ : PointAnswer)
     → DrawAnswer t i r → DrawAnswer t i r′ → r ≡ r′

@@ -6,13 +6,14 @@ use Prim.Native.Nat.{ℕ, _≤_}
 use native.Mathlib.Omega.{arith}
 use lib.ListN.{length, drop}
 use lib.Seq.{drop-length}
+use Rattle.frame.specs.Answers.{over, Answer, Lent}
+use Rattle.frame.proofs.Answering.{answers-or-not, number-is}
 use Rattle.words.specs.Words.{degreeOf}
 use Rattle.words.specs.declared.TriangleCode.{TriangleCode}
 use Rattle.words.specs.declared.CornerName.{CornerName}
 use Rattle.words.proofs.Codes.{code-degree, is-code, name-code}
 use Rattle.net.specs.Division.{Weights}
 use Rattle.net.specs.Corners.{corner, named}
-use Rattle.frame.specs.Answers.{over, Answer, Lent}
 use Rattle.net.specs.Refusals.{checkName}
 use Rattle.corners.specs.Refusals.{refuseNumbered, refuseWeights, refuseNameWeights}
 use Rattle.corners.specs.Answers.{Put}
@@ -20,7 +21,6 @@ use Rattle.points.specs.Answers.{Placed, Ticked, Pointed, noCoordinates,
 use Rattle.net.proofs.Canonical.{name-means}
 use Rattle.corners.proofs.Refused.{numbered-passes, weights-passes, name-weights-passes}
 use Rattle.corners.proofs.Calls.{weights-first, name-weights-first}
-use Rattle.net.proofs.Table.{either-way, same}
 use Rattle.filing.specs.Coordinates.{exact}
 use Rattle.filing.specs.Means.Places.{Twelve, Small}
 use Rattle.filing.specs.declared.Coordinates.{Coordinates}
@@ -80,30 +80,31 @@ over-all : (xs out : List ℕ) → length xs ≡ length out → over xs out ≡ 
 over-all xs out e = ap (λ (n : ℕ). xs ++ drop n out) e ∙ ap (λ (l : List ℕ). xs ++ l) (drop-length out) ∙ append-nil xs
 
 module _ {f g : ℕ} {p out : List ℕ} (s : Serves f g p out) {k : ℕ} {new : List ℕ} (w : Lent g (Put p out) (λ m. m) out k new) where
-  number-is : k ≡ f
-  number-is = ⊎-elim (λ z. w .answered (s .passes z) .0 ∙ sym z) (λ n. w .refused (λ e. n (s .first n ∙ e)) .0 ∙ sym (s .first n)) (either-way (same f 0))
+  number-found : k ≡ f
+  number-found = ⊎-elim (λ z. w .answered (s .passes z) .0 ∙ sym z)
+      (λ n. ap (λ (x : ℕ × List ℕ). x .0) (w .refused (λ e. n (s .first n ∙ e))) ∙ sym (s .first n)) (answers-or-not f)
 
   written : f ≡ 0 → new ≡ p
   written z = w .answered (s .passes z) .1 ∙ over-all p out (s .twelve z .places ∙ sym (s .room))
 
   pub weights-twelve : k ≡ 0 → Twelve new
-  weights-twelve e = let z : f ≡ 0 = sym number-is ∙ e in subst Twelve (sym (written z)) (s .twelve z)
+  weights-twelve e = let z : f ≡ 0 = sym number-found ∙ e in subst Twelve (sym (written z)) (s .twelve z)
 
   pub place-answers : {r : CoordinatesAnswer} → Answer k (Placed (exact new)) noCoordinates r → Answer f (Placed (exact p)) noCoordinates r
   place-answers {r} a =
-      let b : Answer f (Placed (exact new)) noCoordinates r = subst (λ (m : ℕ). Answer m (Placed (exact new)) noCoordinates r) number-is a in
+      let b : Answer f (Placed (exact new)) noCoordinates r = subst (λ (m : ℕ). Answer m (Placed (exact new)) noCoordinates r) number-found a in
       record { answered = λ z. subst (λ (q : Weights). Placed (exact q) r) (written z) (b .answered z); refused = b .refused }
 
 -- ---- t and drawn points, from the coordinates
 
 module _ {f : ℕ} {e : Coordinates} {c : CoordinatesAnswer} (a : Answer f (Placed e) noCoordinates c) where
   pub refusal-is : c .refusal ≡ f
-  refusal-is = ⊎-elim (λ z. a .answered z .number ∙ sym z) (λ n. ap (λ (r : CoordinatesAnswer). r .refusal) (a .refused n)) (either-way (same f 0))
+  refusal-is = number-is (λ r. r .refusal) refl (λ r g. g .number) a
 
   pub place-small : (f ≡ 0 → Small e) → Small (c .at)
   place-small t =
       ⊎-elim (λ z. subst Small (sym (a .answered z .is)) (t z))
-      (λ n. subst (λ (r : CoordinatesAnswer). Small (r .at)) (sym (a .refused n)) origin-small) (either-way (same f 0))
+      (λ n. subst (λ (r : CoordinatesAnswer). Small (r .at)) (sym (a .refused n)) origin-small) (answers-or-not f)
 
   -- what is answered of the coordinates that were found is answered of the corner's
   of-place : {A : Type 0} (Good : Coordinates → A → Type 0) {zeros : ℕ → A} {r : A} → Answer (c .refusal) (Good (c .at)) zeros r → Answer f (Good e) zeros r

@@ -2,6 +2,7 @@
 use mathlib.Core.Path.{_≡_}
 use Prim.Native.Nat.{ℕ}
 use lib.IntN.{pos}
+use Rattle.frame.specs.Answers.{Answer}
 use Rattle.words.specs.Words.{degreeOf}
 use Rattle.words.specs.declared.TriangleCode.{TriangleCode}
 use Rattle.words.specs.declared.CornerName.{CornerName}
@@ -11,8 +12,9 @@ use Rattle.filing.specs.Coordinates.{origin, exact}
 use Rattle.filing.specs.Fractions.{plusZero}
 use Rattle.filing.specs.Drawing.{AreTicks, IsPoint}
 use Rattle.filing.specs.declared.Coordinates.{Coordinates}
+use Rattle.filing.specs.declared.Ticks.{Ticks}
 use Rattle.corners.specs.Refusals.{refuseNumbered}
-use Rattle.frame.specs.Answers.{Answer}
+use Rattle.points.specs.Bits.{HasBits}
 use Rattle.points.specs.declared.CoordinatesAnswer.{CoordinatesAnswer}
 use Rattle.points.specs.declared.TicksAnswer.{TicksAnswer}
 use Rattle.points.specs.declared.PointAnswer.{PointAnswer}
@@ -40,6 +42,8 @@ pub record Ticked (c : Coordinates) (r : TicksAnswer) : Type 0 where
 pub record Pointed (n : ℕ) (c : Coordinates) (r : PointAnswer) : Type 0 where
   pub number : r .refusal ≡ 0
   pub is : IsPoint n c (r .at)
+  -- "with stated exact bits": those that t on each axis says
+  pub bits : (t : Ticks) → AreTicks c t → HasBits n t (r .at)
 
 abbrev pub PlaceAnswer : TriangleCode → ℕ → CoordinatesAnswer → Type 0
 PlaceAnswer t i r = Answer (refuseNumbered t i) (Placed (exact (corner t i))) noCoordinates r

@@ -7,7 +7,7 @@ use native.Mathlib.Nat.{mod-lt, div-add-mod', div-lt-iff-lt-mul}
 use native.Mathlib.Omega.{arith}
 use lib.Arith.{digits-div, digits-mod, digits-lt}
 use lib.Pow.{pow-add, pow-pos}
-use Rattle.words.specs.Words.{degreeOf, digits, sideOf, path, wordOf}
+use Rattle.words.specs.Words.{digits, sideOf, path, wordOf}
 use Rattle.words.specs.Refusals.{IsCode}
 use Rattle.words.specs.Family.{codeOf}
 use Rattle.words.specs.Counting.{codeAt, placeOf}

@@ -11,10 +11,10 @@ use lib.Dec.{eqb}
 use lib.ListN.{take}
 use lib.Pow.{shr-shr}
 use borrow.Author.Tests.{ltb-false, eqb-true, eqb-false, not-false, le-ltb, eq-eqb, ne-eqb}
-use Rattle.words.specs.Words.{aOf, degreeOf, digits, beyond, zeroBits, cornerNumber, sideOf, path, wordOf}
-use Rattle.words.specs.Words.{inside}
 use Rattle.frame.specs.Refusals.{_either_, refusal, order}
 use Rattle.frame.proofs.Refusing.{none-so, none-after, either-false}
+use Rattle.words.specs.Words.{aOf, degreeOf, digits, beyond, zeroBits, cornerNumber, sideOf, path, wordOf}
+use Rattle.words.specs.Words.{inside}
 use Rattle.words.specs.Refusals.{wordRows, checkCode, checkNameFields, IsCode}
 use Rattle.words.specs.Family.{codeOf}
 use Rattle.words.specs.declared.TriangleCode.{TriangleCode}

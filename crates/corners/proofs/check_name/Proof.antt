@@ -7,15 +7,15 @@ use Rattle.corners.proofs.Calls.{name-first, name-ten, name-passing}
 use Rattle.corners.proofs.check_name.Statement.{statement}
 use Rattle.corners.proofs.check_name.Tie as tie
 
-check-fields-requires : tie.Need-check-fields-requires
-check-fields-requires c κs = search needs
+check-name-fields-requires : tie.Need-check-name-fields-requires
+check-name-fields-requires c κs = search needs
 
 returns : tie.Need-returns
-returns c = name-first _ (c .before .check-fields .ensures) (c .if1 .taken)
+returns c = name-first _ (c .before .check-name-fields .ensures) (c .if1 .taken)
 
 -- the fields are in order
 fields : (c : tie.Else1) → checkNameFields (c .before .before .args .r) ≡ 0
-fields c = sym (c .before .check-fields .ensures) ∙ c .if1 .left
+fields c = sym (c .before .check-name-fields .ensures) ∙ c .if1 .left
 
 least-name-requires : tie.Need-least-name-requires
 least-name-requires c κs = fields c
@@ -35,7 +35,7 @@ pub check-name-spec : {M : Type 1} → statement M
 check-name-spec =
     tie.close
     (tie.spec
-    check-fields-requires
+    check-name-fields-requires
     returns
     least-name-requires
     returns-2

@@ -1,9 +1,9 @@
 -- The refusals in turn; the step to the neighbour (Calls). Assumes nothing.
 use borrow.Author.Needs.{needs}
 use mathlib.Core.Path.{_≡_, refl, sym, _∙_}
+use Rattle.frame.proofs.Answering.{refusing}
 use Rattle.corners.specs.Refusals.{refuseNumbered}
 use Rattle.corners.proofs.Refused.{numbered-passes}
-use Rattle.frame.proofs.Answering.{refusing}
 use Rattle.corners.proofs.Calls.{cross-answers}
 use Rattle.corners.proofs.cross.Statement.{statement}
 use Rattle.corners.proofs.cross.Tie as tie

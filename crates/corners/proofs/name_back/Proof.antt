@@ -12,13 +12,13 @@ use lib.Dec.{eqb}
 use lib.ListN.{length, take}
 use lib.Pow.{pow-mono}
 use borrow.Author.Tests.{not-true, not-false, eqb-true}
+use Rattle.frame.proofs.Answering.{refusing}
 use Rattle.net.specs.Sides.{IsSide}
 use Rattle.net.specs.Division.{sum}
 use Rattle.net.specs.Corners.{nameOf}
 use Rattle.net.specs.Refusals.{onSide}
 use Rattle.net.specs.Means.Walks.{leastName, placeAt}
 use Rattle.net.proofs.WordSteps.{made-fields, made-fits}
-use Rattle.frame.proofs.Answering.{refusing}
 use Rattle.corners.proofs.Calls.{back-one-refused, back-nine, back-sum, back-side, back-answers}
 use Rattle.corners.proofs.Calls.{back-total}
 use Rattle.corners.proofs.name_back.Statement.{statement}

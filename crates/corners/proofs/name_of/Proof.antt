@@ -2,12 +2,12 @@
 use borrow.Author.Needs.{needs}
 use native.Mathlib.Omega.{arith}
 use mathlib.Core.Path.{_≡_, sym, _∙_}
+use Rattle.frame.proofs.Answering.{refusing}
 use Rattle.words.specs.Refusals.{checkCode}
 use Rattle.corners.specs.Refusals.{refuseNumbered}
 use Rattle.net.specs.Sides.{OneToThree}
 use Rattle.corners.proofs.Refused.{numbered-passes}
 use Rattle.net.proofs.WordSteps.{numbered-fields, numbered-fits}
-use Rattle.frame.proofs.Answering.{refusing}
 use Rattle.corners.proofs.Calls.{naming-answers}
 use Rattle.corners.proofs.name_of.Statement.{statement}
 use Rattle.corners.proofs.name_of.Tie as tie

@@ -17,7 +17,7 @@ refuse-direction-requires c κs = search needs
 
 returns : tie.Need-returns
 returns c = let a = c .before .before .before .args in
-    refusing-lent (list-first (a .degree) (a .d) (now (a .out)) (c .before .refuse-direction .ensures) (c .if1
+    refusing (list-first (a .degree) (a .d) (now (a .out)) (c .before .refuse-direction .ensures) (c .if1
     .taken)) (c .if1 .taken)
 
 -- the degree and the direction pass
@@ -27,7 +27,7 @@ passes c = sym (c .before .refuse-direction .ensures) ∙ c .if1 .left
 
 returns-2 : tie.Need-returns-2
 returns-2 c = let a = c .before .before .before .before .args in
-    refusing-lent (list-nine (a .degree) (a .d) (now (a .out)) (passes (c .before)) (c .if2 .taken)) (λ e. omega arith)
+    refusing (list-nine (a .degree) (a .d) (now (a .out)) (passes (c .before)) (c .if2 .taken)) (λ e. omega arith)
 
 quick-word-requires : tie.Need-quick-word-requires
 quick-word-requires c κs = let a = allowed _ _ (passes (c .before)) in (a .low, a .level, a .some)

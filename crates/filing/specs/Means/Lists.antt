@@ -3,9 +3,9 @@ use Prim.Native.Nat.{ℕ, zero, suc, _+_, _≤_, _-_}
 use mathlib.Core.Path.{_≡_}
 use mathlib.Core.List.{List, [], _++_}
 use lib.ListN.{length, take, drop}
+use Rattle.frame.specs.Answers.{over}
 use Rattle.words.specs.Words.{wordOf}
 use Rattle.net.specs.Division.{each}
-use Rattle.frame.specs.Answers.{over}
 use Rattle.filing.specs.Means.Descent.{holders}
 use Rattle.filing.specs.Means.Sides.{sideDets}
 use Rattle.filing.specs.declared.Direction.{Direction}

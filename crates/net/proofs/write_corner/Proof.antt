@@ -2,8 +2,8 @@
 use mathlib.Core.Path.{_≡_, sym, _∙_}
 use native.Mathlib.Omega.{arith}
 use denote.Ref.{now}
-use Rattle.words.proofs.Codes.{code-side, is-code}
 use Rattle.frame.specs.Answers.{over}
+use Rattle.words.proofs.Codes.{code-side, is-code}
 use Rattle.net.specs.Means.Spreads.{spread}
 use Rattle.net.specs.Corners.{corner}
 use Rattle.net.specs.Sides.{IsSide}

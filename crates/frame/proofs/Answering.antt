@@ -37,6 +37,14 @@ module _ {A : Type 0} (f : ℕ) (Good : A → Type 0) (zeros : ℕ → A) where
   answer-some give =
       ⊎-elim (λ z. let x = give z in (x .0, answering z (x .1))) (λ n. (zeros f, refusing refl n)) (answers-or-not f)
 
+-- where what is answered is one value v
+module _ {A : Type 0} (f : ℕ) (v : A) (zeros : ℕ → A) where
+  pub known-one : (r r′ : A) → Answer f (λ s. s ≡ v) zeros r → Answer f (λ s. s ≡ v) zeros r′ → r ≡ r′
+  known-one r r′ = answer-one (λ z x y. x ∙ sym y)
+
+  pub known-some : (r : A) × Answer f (λ s. s ≡ v) zeros r
+  known-some = answer-some f (λ s. s ≡ v) zeros (λ z. (v, refl))
+
 -- a count with its list, where the list is one
 pub listed-one : {A B : Type 0} {Good : List B → Type 0} {counted : ℕ → A} {out : List B} {x y : A × List B}
     → ((xs ys : List B) → Good xs → Good ys → xs ≡ ys)

@@ -2,20 +2,20 @@
 use mathlib.Core.Path.{refl}
 use Rattle.frame.specs.Refusals.{firstOf}
 use Rattle.words.specs.Words.{digits, path, wordOf}
-use Rattle.words.specs.Counting.{codeAt}
+use Rattle.words.specs.Counting.{codeAt, placeOf}
 use Rattle.words.specs.Refusals.{checkCode}
 use Rattle.words.specs.Family.{refuseParent, refuseChild}
 use Rattle.net.specs.Sides.{cornerVertex}
 use Rattle.net.specs.Division.{unitAt, triangleAt, cornerOf, sum}
 use Rattle.net.specs.Corners.{corner}
-use Rattle.net.specs.Refusals.{checkName, canonical, everyCode}
+use Rattle.net.specs.Refusals.{checkName, lesserHas}
 use Rattle.corners.specs.Refusals.{refuseNumbered, refuseWeights, refuseNameWeights, refuseBack, refuseRing}
 use Rattle.directions.specs.Refusals.{refuseFile, refuseList}
 use Rattle.grid.specs.Writing.{decimals, written}
 use Rattle.grid.specs.Examples.{Bounds}
 
 pub bounds : Bounds
-unfolding firstOf checkCode refuseParent refuseChild checkName canonical everyCode codeAt refuseNumbered refuseWeights refuseNameWeights refuseBack refuseRing refuseFile refuseList decimals written path wordOf digits corner cornerOf triangleAt unitAt cornerVertex sum
+unfolding firstOf checkCode refuseParent refuseChild checkName lesserHas placeOf codeAt refuseNumbered refuseWeights refuseNameWeights refuseBack refuseRing refuseFile refuseList decimals written path wordOf digits corner cornerOf triangleAt unitAt cornerVertex sum
 bounds = record {
   word-0 = refl;
   word-0-name = refl;

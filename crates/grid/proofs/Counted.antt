@@ -2,7 +2,6 @@
 -- different codes, corners and edges are different is Differing.antt. Assumes nothing.
 use mathlib.Core.Path.{_≡_, _∙_, refl, sym, ap, subst}
 use mathlib.Core.List.{List, []}
-use mathlib.Core.Logic.{⊎-elim}
 use Prim.Native.Nat.{ℕ, zero, suc, _+_, _*_, _^_, _≤_, _<_}
 use native.Mathlib.Nat.{pow-suc}
 use native.Mathlib.Omega.{arith}
@@ -23,7 +22,7 @@ use Rattle.net.proofs.CodePlaces.{codeFor, corner-at, digitsIn, for-code, for-c
 use Rattle.net.proofs.Demand3.{one-name-each, there-and-back}
 use Rattle.net.proofs.Names.{one-name}
 use Rattle.net.proofs.SharedVertices.{vertex-small}
-use Rattle.net.proofs.Table.{_then_, below, either-way, less, same, some, sound, three}
+use Rattle.net.proofs.Table.{_then_, below, same, some, sound, three}
 use Rattle.grid.specs.Counts.{Count, Counts, IsCorner, IsEdge}
 use Rattle.grid.proofs.CornerSteps.{IsKept, IsMiddle, kept-corner, kept-once, kept-or-middle, middle-corner, middle-once, middleOf, not-both}
 use Rattle.grid.proofs.CountLaws.{as-many, mapped, matched, together}

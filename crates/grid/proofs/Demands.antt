@@ -2,17 +2,16 @@
 use mathlib.Core.Path.{_≡_, _∙_, refl, sym, ap, subst}
 use mathlib.Core.Logic.{_⊎_, inl, inr, ⊎-elim}
 use mathlib.Core.List.{List, []}
-use Prim.Native.Nat.{ℕ, zero, suc, _≤_}
+use Prim.Native.Nat.{ℕ, _≤_}
 use native.Mathlib.Omega.{arith}
 use lib.ListN.{length, take, drop, length-append}
 use lib.Seq.{take-append-seam}
-use Rattle.frame.specs.Answers.{over, Answer, Lent}
-use Rattle.frame.specs.Promises.{Keeps}
-use Rattle.frame.proofs.Answering.{answering}
+use Rattle.frame.specs.Answers.{Answer, Lent, over}
+use Rattle.frame.specs.Promises.{_gives_}
+use Rattle.frame.proofs.Answering.{answering, good, keeps, keeps-is, known-one, known-some, passed}
 use Rattle.words.specs.Words.{cornerNumber, degreeOf, digitOf, digits, sideOf}
 use Rattle.words.specs.Refusals.{IsCode}
-use Rattle.words.specs.Family.{codeAnswer, refuseParent, refuseChild, parentOf, childOf, parentAnswer, childAnswer}
-use Rattle.words.specs.Family.{noCode}
+use Rattle.words.specs.Family.{codeAnswer, noCode, refuseParent, refuseChild, parentOf, childOf, ParentAnswer, ChildAnswer}
 use Rattle.words.specs.declared.TriangleCode.{TriangleCode}
 use Rattle.words.specs.declared.CodeAnswer.{CodeAnswer}
 use Rattle.words.proofs.Codes.{code-degree}
@@ -26,7 +25,7 @@ use Rattle.net.specs.Refusals.{onOneSide}
 use Rattle.net.proofs.Canonical.{name-means, name-passes-all}
 use Rattle.net.proofs.Demand3.{back-again, one-across, three-distinct, just-two, names-equal}
 use Rattle.net.proofs.Stepping.{next-three, prev-three, next-not, prev-not}
-use Rattle.net.proofs.Table.{either-way, same, sound, threes, _or_}
+use Rattle.net.proofs.Table.{same, sound, threes, _or_}
 use Rattle.net.proofs.WayBack.{weights-mean}
 use Rattle.filing.specs.Coordinates.{exact}
 use Rattle.filing.proofs.OnePoint.{same-point}
@@ -35,108 +34,46 @@ use Rattle.corners.specs.Refusals.{refuseNumbered}
 use Rattle.corners.specs.Turns.{Turned}
 use Rattle.corners.specs.Answers.{Put, nameAnswer, Named, CrossAnswer, NamingAnswer}
 use Rattle.corners.specs.Answers.{BackAnswer}
+use Rattle.corners.specs.declared.CountAnswer.{CountAnswer}
 use Rattle.corners.specs.declared.StepAnswer.{StepAnswer}
 use Rattle.corners.specs.declared.NameAnswer.{NameAnswer}
 use Rattle.corners.proofs.Refused.{numbered, numbered-passes, weights-passes, name-weights-passes, back-passes}
 use Rattle.corners.proofs.OneAnswer as corners
 use Rattle.points.proofs.OnePlace as points
 use Rattle.directions.proofs.OneFiling as directions
+use Rattle.grid.proofs.Showing.{gives-code}
 use Rattle.grid.specs.Demands.{Demand1, Demand2Codes, Demand2Back, Demand2Files, Demand3}
 
 -- ---- 1
 
--- the number of an answer is the refusal's
-number-is : {A : Type 0} {f : ℕ} {Good : A → Type 0} {zeros : ℕ → A} (number : A → ℕ)
-    → number (zeros f) ≡ f → ((r : A) → Good r → number r ≡ 0)
-    → (r : A) → Answer f Good zeros r → number r ≡ f
-number-is {A} {f} number z g r a =
-    ⊎-elim (λ e. g r (a .answered e) ∙ sym e) (λ n. ap number (a .refused n) ∙ z) (either-way (same f 0))
-
--- an answer whose number is 0 is what was asked for
-module _ {A : Type 0} {f : ℕ} {Good : A → Type 0} {zeros : ℕ → A} (number : A → ℕ)
-    (z : number (zeros f) ≡ f) (g : (r : A) → Good r → number r ≡ 0) where
-  pub passed : {r : A} → Answer f Good zeros r → number r ≡ 0 → f ≡ 0
-  passed {r} a e = sym (number-is number z g r a) ∙ e
-
-  pub good : {r : A} → Answer f Good zeros r → number r ≡ 0 → Good r
-  good a e = a .answered (passed a e)
-
-module _ {A : Type 0} {f : ℕ} {Good : A → Type 0} {zeros : ℕ → A} {number : A → ℕ} where
-  keeps : ((r : A) × Answer f Good zeros r)
-      → ((r r′ : A) → Answer f Good zeros r → Answer f Good zeros r′ → r ≡ r′)
-      → number (zeros f) ≡ f → ((r : A) → Good r → number r ≡ 0)
-      → Keeps f (Answer f Good zeros) number zeros
-  keeps some one z g = record {
-    one = (some .0, record { meets = some .1; only = λ r a. one r (some .0) a (some .1) });
-    exactly = number-is number z g;
-    refused = λ r a n. a .refused n;
-  }
-
-module _ {A : Type 0} {f : ℕ} {Good : A → List ℕ → Type 0} {zeros : ℕ → A} {out : List ℕ}
-    {number : A → ℕ} where
-  keeps-lent : ((r : A) × (new : List ℕ) × Lent f Good zeros out r new)
-      → ((r r′ : A) (new new′ : List ℕ) → Lent f Good zeros out r new → Lent f Good zeros out r′ new′
-      → (r ≡ r′) × (new ≡ new′))
-      → number (zeros f) ≡ f → ((r : A) (new : List ℕ) → Good r new → number r ≡ 0)
-      → Keeps {A = WithList A} f (λ r. Lent f Good zeros out (r .0) (r .1)) (λ r. number (r .0))
-      (λ k. (zeros k, out))
-  keeps-lent some one z g = record {
-    one = (
-      (some .0, some .1),
-      record {
-        meets = some .2;
-        only = λ r a. let e = one (r .0) (some .0) (r .1) (some .1) a (some .2) in λ i. (e .0 i, e .1 i);
-      },
-    );
-    exactly = λ r a.
-        ⊎-elim (λ e. g (r .0) (r .1) (a .answered e) ∙ sym e) (λ n. ap number (a .refused n .0) ∙ z)
-        (either-way (same f 0));
-    refused = λ r a n. let e = a .refused n in λ i. (e .0 i, e .1 i);
-  }
-
--- an answer that is an equation
-keeps-is : {A : Type 0} {f : ℕ} {number : A → ℕ} {zeros : ℕ → A} (v : A) → number v ≡ f
-    → ((f ≡ 0 → ⊥) → v ≡ zeros f) → Keeps f (λ r. r ≡ v) number zeros
-keeps-is {A} {f} {number} {zeros} v h k = record {
-  one = (v, record { meets = refl; only = λ r e. e });
-  exactly = λ r e. ap number e ∙ h;
-  refused = λ r e n. e ∙ k n;
-}
-
-code-number : (f : ℕ) (t : TriangleCode) → codeAnswer f t .refusal ≡ f
-code-number zero t = refl
-code-number (suc f) t = refl
-
-code-zeros : (f : ℕ) (t : TriangleCode) → (f ≡ 0 → ⊥) → codeAnswer f t ≡ noCode f
-code-zeros zero t n = absurd (n refl)
-code-zeros (suc f) t n = refl
-
 pub demand-1 : Demand1
-unfolding parentAnswer childAnswer
 demand-1 = record {
   check = λ t. keeps-is _ refl (λ n. refl);
   checkNames = λ q. keeps-is _ refl (λ n. refl);
-  parent = λ t. keeps-is (parentAnswer t) (code-number (refuseParent t) (parentOf t))
-      (code-zeros (refuseParent t) (parentOf t));
-  child = λ t d. keeps-is (childAnswer t d) (code-number (refuseChild t d) (childOf t d))
-      (code-zeros (refuseChild t d) (childOf t d));
-  cross = λ t k. keeps (corners.cross-some t k) (corners.cross-one t k) refl (λ r g. g .number);
-  weights = λ t i out. keeps-lent (corners.weights-some t i out) (corners.weights-one t i out) refl (λ r new g. g .0);
-  nameWeights = λ q out. keeps-lent (corners.name-weights-some q out) (corners.name-weights-one q out) refl
-      (λ r new g. g .0);
-  coordinates = λ t i. keeps (points.place-some t i) (points.place-one t i) refl (λ r g. g .number);
-  nameCoordinates = λ q. keeps (points.name-place-some q) (points.name-place-one q) refl (λ r g. g .number);
-  ticks = λ t i. keeps (points.tick-answer-some t i) (points.tick-answer-one t i) refl (λ r g. g .number);
-  nameTicks = λ q. keeps (points.name-tick-some q) (points.name-tick-one q) refl (λ r g. g .number);
-  drawn = λ t i. keeps (points.draw-some t i) (points.draw-one t i) refl (λ r g. g .number);
-  nameDrawn = λ q. keeps (points.name-draw-some q) (points.name-draw-one q) refl (λ r g. g .number);
-  naming = λ t i. keeps (corners.naming-some t i) (corners.naming-one t i) refl (λ r g. g .number);
-  back = λ n weights. keeps (corners.back-some n weights) (corners.back-one n weights) refl (λ r g. g .number);
-  ring = λ q out. keeps-lent (corners.ring-answer-some q out) (corners.ring-answer-one q out) refl
-      (λ r new g. ap (λ (x : _). x .refusal) (g .count));
-  file = λ n d. keeps (directions.file-some n d) (directions.file-one n d) refl (λ r g. g .number);
-  list = λ n d out. keeps-lent (directions.list-some n d out) (directions.list-one n d out) refl
-      (λ r new g. ap (λ (x : _). x .refusal) (g .count));
+  parent = λ t. keeps (λ r. r .refusal) refl (λ r g. ap (λ (s : CodeAnswer). s .refusal) g)
+      (known-some _ _ _) (known-one _ _ _);
+  child = λ t d. keeps (λ r. r .refusal) refl (λ r g. ap (λ (s : CodeAnswer). s .refusal) g)
+      (known-some _ _ _) (known-one _ _ _);
+  cross = λ t k. keeps (λ r. r .refusal) refl (λ r g. g .number) (corners.cross-some t k) (corners.cross-one t k);
+  weights = λ t i out. keeps (λ x. x .0) refl (λ x g. g .0) (corners.weights-some t i out) (corners.weights-one t i out);
+  nameWeights = λ q out. keeps (λ x. x .0) refl (λ x g. g .0) (corners.name-weights-some q out)
+      (corners.name-weights-one q out);
+  coordinates = λ t i. keeps (λ r. r .refusal) refl (λ r g. g .number) (points.place-some t i) (points.place-one t i);
+  nameCoordinates = λ q. keeps (λ r. r .refusal) refl (λ r g. g .number) (points.name-place-some q)
+      (points.name-place-one q);
+  ticks = λ t i. keeps (λ r. r .refusal) refl (λ r g. g .number) (points.tick-answer-some t i)
+      (points.tick-answer-one t i);
+  nameTicks = λ q. keeps (λ r. r .refusal) refl (λ r g. g .number) (points.name-tick-some q) (points.name-tick-one q);
+  drawn = λ t i. keeps (λ r. r .refusal) refl (λ r g. g .number) (points.draw-some t i) (points.draw-one t i);
+  nameDrawn = λ q. keeps (λ r. r .refusal) refl (λ r g. g .number) (points.name-draw-some q) (points.name-draw-one q);
+  naming = λ t i. keeps (λ r. r .refusal) refl (λ r g. g .number) (corners.naming-some t i) (corners.naming-one t i);
+  back = λ n weights. keeps (λ r. r .refusal) refl (λ r g. g .number) (corners.back-some n weights)
+      (corners.back-one n weights);
+  ring = λ q out. keeps (λ x. x .0 .refusal) refl (λ x g. ap (λ (r : CountAnswer). r .refusal) (g .count))
+      (corners.ring-answer-some q out) (corners.ring-answer-one q out);
+  file = λ n d. keeps (λ r. r .refusal) refl (λ r g. g .number) (directions.file-some n d) (directions.file-one n d);
+  list = λ n d out. keeps (λ x. x .0 .refusal) refl (λ x g. ap (λ (r : CountAnswer). r .refusal) (g .count))
+      (directions.list-some n d out) (directions.list-one n d out);
 }
 
 -- ---- 2, from code to corner
@@ -162,13 +99,11 @@ child-corners t d z =
     ∙ ap (divide d) (sym (triangle-at t))
 
 -- an answered parent or child
-was-answered : {r : CodeAnswer} (f : ℕ) (t : TriangleCode) → r ≡ codeAnswer f t → r .refusal ≡ 0
-    → (f ≡ 0) × (r .code ≡ t)
-was-answered {r} f t e z = go f e (sym (code-number f t) ∙ ap (λ (x : CodeAnswer). x .refusal) (sym e) ∙ z)
-  where
-    go : (f : ℕ) → r ≡ codeAnswer f t → f ≡ 0 → (f ≡ 0) × (r .code ≡ t)
-    go zero e z = (refl, ap (λ (x : CodeAnswer). x .code) e)
-    go (suc f) e z = absurd (omega arith)
+was-answered : {r : CodeAnswer} (f : ℕ) (t : TriangleCode) → Answer f (λ s. s ≡ codeAnswer 0 t) noCode r
+    → r .refusal ≡ 0 → (f ≡ 0) × (r .code ≡ t)
+was-answered f t a z =
+    let e = passed (λ r. r .refusal) refl (λ r g. ap (λ (s : CodeAnswer). s .refusal) g) a z in
+    (e, ap (λ (s : CodeAnswer). s .code) (a .answered e))
 
 -- twelve weights at the front of a list
 front : (p out : List ℕ) → length p ≡ 12 → take 12 (over p out) ≡ p
@@ -177,7 +112,7 @@ front p out e = ap (λ (n : ℕ). take n (over p out)) (sym e) ∙ take-append-s
 -- weights that were answered, with 0
 put : {f : ℕ} (p : Weights) {out new : List ℕ} → Lent f (Put p out) (λ k. k) out 0 new
     → (f ≡ 0) × (new ≡ over p out)
-put {f} p a = ⊎-elim (λ e. (e, a .answered e .1)) (λ n. absurd (n (sym (a .refused n .0)))) (either-way (same f 0))
+put p a = let e = passed (λ x. x .0) refl (λ x g. g .0) a refl in (e, a .answered e .1)
 
 -- the name of a corner, where naming answers
 naming-is : (t : TriangleCode) (i : ℕ) (s : NameAnswer) → NamingAnswer t i s → s .refusal ≡ 0
@@ -187,19 +122,21 @@ naming-is t i s a z =
     (f, a .answered f .is)
 
 pub demand-2-codes : Demand2Codes
-unfolding parentAnswer childAnswer triangleAt
+unfolding triangleAt
 demand-2-codes = record {
   side = side-corners;
-  child = λ t d r e z.
-      let p = was-answered (refuseChild t d) (childOf t d) e z in
+  child = λ t d r a z.
+      let p = was-answered (refuseChild t d) (childOf t d) a z in
       ap triangleOf (p .1) ∙ child-corners t d (p .0);
-  childParent = λ t d r e z.
-      let p = was-answered (refuseChild t d) (childOf t d) e z in
-      ap parentAnswer (p .1) ∙ child-then-parent t d (p .0);
-  parentChild = λ t r e z.
-      let p = was-answered (refuseParent t) (parentOf t) e z in
-      ap (λ (u : TriangleCode). childAnswer u (digitOf (t .0) (degreeOf (t .0)))) (p .1)
-      ∙ parent-then-child t (p .0);
+  childParent = λ t d r a z.
+      let p = was-answered (refuseChild t d) (childOf t d) a z in
+      subst (λ (u : TriangleCode). ParentAnswer u gives codeAnswer 0 t) (sym (p .1))
+      (let e = child-then-parent t d (p .0) in gives-code _ _ t (e .0) (e .1));
+  parentChild = λ t r a z.
+      let p = was-answered (refuseParent t) (parentOf t) a z in
+      let d = digitOf (t .0) (degreeOf (t .0)) in
+      subst (λ (u : TriangleCode). ChildAnswer u d gives codeAnswer 0 t) (sym (p .1))
+      (let e = parent-then-child t (p .0) in gives-code _ _ t (e .0) (e .1));
   weights = λ t i out new a.
       let p = put (corner t i) a in
       let c = numbered t i (weights-passes t i out .0 (p .0) .0) in

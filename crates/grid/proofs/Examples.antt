@@ -8,13 +8,13 @@ use lib.ListN.{replicate}
 use Rattle.frame.specs.Refusals.{firstOf}
 use Rattle.golden.specs.Numbers.{_+φ_, negφ, _*φ_}
 use Rattle.words.specs.Words.{digits, path, wordOf}
-use Rattle.words.specs.Counting.{codeAt}
+use Rattle.words.specs.Counting.{codeAt, placeOf}
 use Rattle.words.specs.Refusals.{checkNameFields}
-use Rattle.words.specs.Family.{refuseParent, refuseChild, parentOf, childOf, parentAnswer, childAnswer}
+use Rattle.words.specs.Family.{refuseParent, refuseChild, parentOf, childOf}
 use Rattle.net.specs.Sides.{cornerVertex, vertex}
 use Rattle.net.specs.Division.{unitAt, triangleAt, cornerOf, sum}
 use Rattle.net.specs.Corners.{corner, named, nameOf}
-use Rattle.net.specs.Refusals.{checkName, canonical, everyCode}
+use Rattle.net.specs.Refusals.{checkName, lesserHas}
 use Rattle.net.specs.Means.Seams.{seamSide, seamKept}
 use Rattle.net.specs.Means.States.{cross}
 use Rattle.net.specs.Means.Walks.{stepOf, around, wordAt, nameAt, leastName, ringWords}
@@ -28,7 +28,7 @@ use Rattle.corners.specs.Refusals.{refuseNumbered, refuseWeights, refuseBack, r
 use Rattle.directions.specs.Refusals.{refuseFile, refuseList}
 use Rattle.grid.specs.Writing.{decimals, written, cornerIn, minus, up, ticks, point}
 use Rattle.grid.specs.Examples.{Examples, Crossings, Family, Weighed, Rings, Places, Points}
-use Rattle.grid.proofs.Showing.{files, lists, lists-refused, crosses, crosses-refused, names, backs}
+use Rattle.grid.proofs.Showing.{gives-code, refuses-code, files, lists, lists-refused, crosses, crosses-refused, names, backs}
 use Rattle.grid.proofs.Showing.{weighs, weighs-name}
 use Rattle.grid.proofs.Showing.{weighs-refused, rings-by, rings-refused, passes-by, placed, ticked, pointed}
 use Rattle.grid.proofs.Showing.{placed-name, ticked-name, pointed-name, not-placed, not-pointed}
@@ -108,8 +108,13 @@ crossings = record {
 }
 
 pub family : Family
-unfolding firstOf refuseParent refuseChild parentOf childOf parentAnswer childAnswer decimals written path wordOf digits
-family = record { child = refl; parent = refl; no-parent = refl; no-child = refl }
+unfolding firstOf refuseParent refuseChild parentOf childOf decimals written path wordOf digits
+family = record {
+  child = gives-code _ _ _ refl refl;
+  parent = gives-code _ _ _ refl refl;
+  no-parent = refuses-code _ _ 5 refl;
+  no-child = refuses-code _ _ 4 refl;
+}
 
 passes-weighed : checkName (cornerIn 10000 1) ≡ 0
 unfolding checkNameFields firstOf decimals written path wordOf digits stepOf cross seamSide seamKept around wordAt
@@ -144,7 +149,7 @@ rings =
 -- ---- lent lists
 
 pub places : Places
-unfolding firstOf refuseWeights refuseNumbered refuseRing refuseList checkName canonical everyCode codeAt decimals
+unfolding firstOf refuseWeights refuseNumbered refuseRing refuseList checkName lesserHas placeOf codeAt decimals
     written path wordOf digits corner cornerOf triangleAt unitAt cornerVertex
 places = record {
   ring = rings .five (replicate 7 7) (lit≤ tt);

@@ -1,5 +1,6 @@
 -- What is promised of the calls together, and the laws behind it.
 pub mod Demands
+pub mod Contracts
 pub mod Turns
 pub mod Nearest
 pub mod Showing

@@ -193,12 +193,12 @@ mistakes = record {
   then-zeros = no-other (λ r. r .code .0) (examples .e3) refl;
   also-holds = test-holds (dets (written 500) up) refl;
   not-least = no-other (λ r. r .code .0) (files 0 up (written 100) refl refl) refl;
-  holder-count = λ k out new l n a. n (ap (λ (r : CountAnswer). r .count) (examples .whole out l .only _ new a .0));
-  ring-count = λ k out new l n a. n (ap (λ (r : CountAnswer). r .count) (rings .five out l .only _ new a .0));
+  holder-count = λ k out new l n a. n (ap (λ (r : CountAnswer). r .count) (λ i. examples .whole out l .only (_, new) a i .0));
+  ring-count = λ k out new l n a. n (ap (λ (r : CountAnswer). r .count) (λ i. rings .five out l .only (_, new) a i .0));
   written-on = λ r out new l n a.
-      n (a .refused (λ z.
+      n (λ i. a .refused (λ z.
       let e : 9 ≡ refuseWeights (written 100) 1 out = weights-nine (written 100) 1 out refl l in
-      omega (arith, e, z)) .1);
+      omega (arith, e, z)) i .1);
   wrapped-sum = λ q a.
       let e : _≡_ {A = ℕ} 0 11 =
       ap (λ (r : NameAnswer). r .refusal) (a .refused (λ z. let e : _≡_ {A = ℕ} 11 0 = z in omega arith)) in

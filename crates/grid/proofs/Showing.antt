@@ -8,15 +8,15 @@ use lib.IntN.{ℤ, natAbs}
 use lib.Ieee.{Float, binary64, fits}
 use lib.Ieee.Exact.{HasValue}
 use lib.ListN.{length, take}
-use Rattle.frame.specs.Answers.{over}
+use Rattle.frame.specs.Answers.{over, Answer}
 use Rattle.frame.specs.Promises.{_gives_, _leaves_}
-use Rattle.frame.proofs.Answering.{answering, refusing}
+use Rattle.frame.proofs.Answering.{answering, gives-one, known-one, refusing}
 use Rattle.golden.specs.Drawing.{IsT, quantity}
 use Rattle.golden.specs.declared.Golden.{Golden}
 use Rattle.golden.proofs.Nearest.{Tested, t-test}
 use Rattle.words.specs.Words.{degreeOf, wordOf, cornerNumber}
 use Rattle.words.specs.Refusals.{IsCode, checkNameFields}
-use Rattle.words.specs.Family.{codeOf, codeAnswer}
+use Rattle.words.specs.Family.{codeOf, codeAnswer, noCode}
 use Rattle.words.specs.declared.TriangleCode.{TriangleCode}
 use Rattle.words.specs.declared.CornerName.{CornerName}
 use Rattle.words.proofs.Codes.{code-degree, name-code, name-passes}
@@ -54,11 +54,23 @@ use Rattle.points.specs.Answers.{PlaceAnswer, NamePlaceAnswer, TickAnswer, Name
 use Rattle.points.specs.Answers.{noCoordinates, noPoint}
 use Rattle.points.specs.declared.TicksAnswer.{TicksAnswer}
 use Rattle.points.specs.declared.PointAnswer.{PointAnswer}
+use Rattle.points.proofs.DrawnBits as drawn
+use Rattle.points.proofs.PlaceCalls.{name-degree, name-small, numbered-degree, numbered-small}
 use Rattle.points.proofs.OnePlace.{place-one, name-place-one, tick-answer-one, name-tick-one, draw-one, name-draw-one}
 use Rattle.directions.specs.Refusals.{refuseFile, refuseList}
 use Rattle.directions.specs.Answers.{FileAnswer, ListAnswer}
 use Rattle.directions.proofs.Refused.{allowed, list-passes}
 use Rattle.directions.proofs.OneFiling.{file-one, list-one}
+
+-- ---- parent and child: f is the refusal, u the code that they promise
+
+pub gives-code : (f : ℕ) (u t : TriangleCode) → f ≡ 0 → u ≡ t
+    → Answer f (λ s. s ≡ codeAnswer 0 u) noCode gives codeAnswer 0 t
+gives-code f u t z e = gives-one (known-one f (codeAnswer 0 u) noCode) (answering z (ap (codeAnswer 0) (sym e)))
+
+pub refuses-code : (f : ℕ) (u : TriangleCode) (k : ℕ) → suc k ≡ f
+    → Answer f (λ s. s ≡ codeAnswer 0 u) noCode gives noCode (suc k)
+refuses-code f u k e = gives-one (known-one f (codeAnswer 0 u) noCode) (refusing e (λ z. omega arith))
 
 -- ---- filing and listing
 
@@ -69,7 +81,7 @@ pub files : (n : ℕ) (d : Direction) (t : TriangleCode) → refuseFile n d ≡ 
 files n d t z e =
     let is : FileAnswer n d (codeAnswer 0 t) =
     answering z (record { number = refl; is = subst (IsFiled n d) e (found-code n d (allowed n d z .low)) }) in
-    record { meets = is; only = λ s a. file-one n d s _ a is }
+    gives-one (file-one n d) is
 
 -- by the walk through the sides
 pub lists : (n : ℕ) (d : Direction) (ws : List ℕ) → refuseFile n d ≡ 0 → allWords d n 4 ≡ ws
@@ -82,13 +94,13 @@ lists n d ws z e out h =
       count = refl;
       put = refl;
     }) in
-    record { meets = is; only = λ s new a. list-one n d out s _ new _ a is }
+    gives-one (list-one n d out) is
 
 pub lists-refused : (n : ℕ) (d : Direction) (out : List ℕ) (k : ℕ) → suc k ≡ refuseList n d out
     → ListAnswer n d out leaves (countAnswer (suc k) 0, out)
 lists-refused n d out k e =
     let is : ListAnswer n d out (countAnswer (suc k) 0) out = refusing e (λ z. omega arith) in
-    record { meets = is; only = λ s new a. list-one n d out s _ new _ a is }
+    gives-one (list-one n d out) is
 
 -- ---- crossing, naming, the way back
 
@@ -101,13 +113,13 @@ crosses t k u e z f g =
     let x : Across (degreeOf (t .0)) t k u e = rw (sym f) (rw (sym g) (across-is (c .0) k (c .1))) in
     let is : CrossAnswer t k (stepAnswer 0 u e (firstThere k e) (secondThere k e)) =
     answering z (record { number = refl; across = x; turned = turned-is (c .0) (c .1) x }) in
-    record { meets = is; only = λ s a. cross-one t k s _ a is }
+    gives-one (cross-one t k) is
 
 pub crosses-refused : (t : TriangleCode) (k f : ℕ) → suc f ≡ refuseNumbered t k
     → CrossAnswer t k gives noStep (suc f)
 crosses-refused t k f e =
     let is : CrossAnswer t k (noStep (suc f)) = refusing e (λ z. omega arith) in
-    record { meets = is; only = λ s a. cross-one t k s _ a is }
+    gives-one (cross-one t k) is
 
 -- by the walk round the corner
 least-name : {n : ℕ} {t : TriangleCode} (i w : ℕ) → IsCode n t → OneToThree i
@@ -121,7 +133,7 @@ names t i w z e =
     let c = numbered t i z in
     let is : NamingAnswer t i (nameAnswer 0 (nameOf w)) =
     answering z (record { number = refl; is = least-name i w (c .0) (c .1) e }) in
-    record { meets = is; only = λ s a. naming-one t i s _ a is }
+    gives-one (naming-one t i) is
 
 -- the same corner from its weights
 pub backs : (n : ℕ) (weights : List ℕ) (w : ℕ) (t : TriangleCode) (i : ℕ) → refuseBack n weights ≡ 0
@@ -133,7 +145,7 @@ backs n weights w t i z z′ d p e =
     subst (λ (p : Weights). IsName n p (nameOf w)) p
     (least-name i w (subst (λ (n : ℕ). IsCode n t) d (c .0)) (c .1) e) in
     let is : BackAnswer n weights (nameAnswer 0 (nameOf w)) = answering z (record { number = refl; is = x }) in
-    record { meets = is; only = λ s a. back-one n weights s _ a is }
+    gives-one (back-one n weights) is
 
 -- a word passes as a name where it is the least round its corner
 pub passes-by : (q : CornerName) → checkNameFields q ≡ 0
@@ -149,20 +161,20 @@ pub weighs : (t : TriangleCode) (i : ℕ) (p : Weights) → refuseNumbered t i �
 weighs t i p z e out h =
     let is : WeightsAnswer t i out 0 (over p out) =
     answering (weights-passes t i out .1 (z, h)) (refl, ap (λ (p : Weights). over p out) (sym e)) in
-    record { meets = is; only = λ s new a. weights-one t i out s _ new _ a is }
+    gives-one (weights-one t i out) is
 
 pub weighs-name : (q : CornerName) (p : Weights) → checkName q ≡ 0 → named q ≡ p
     → (out : List ℕ) → 12 ≤ length out → NameWeightsAnswer q out leaves (0, over p out)
 weighs-name q p z e out h =
     let is : NameWeightsAnswer q out 0 (over p out) =
     answering (name-weights-passes q out .1 (z, h)) (refl, ap (λ (p : Weights). over p out) (sym e)) in
-    record { meets = is; only = λ s new a. name-weights-one q out s _ new _ a is }
+    gives-one (name-weights-one q out) is
 
 pub weighs-refused : (t : TriangleCode) (i : ℕ) (out : List ℕ) (k : ℕ) → suc k ≡ refuseWeights t i out
     → WeightsAnswer t i out leaves (suc k, out)
 weighs-refused t i out k e =
     let is : WeightsAnswer t i out (suc k) out = refusing e (λ z. omega arith) in
-    record { meets = is; only = λ s new a. weights-one t i out s _ new _ a is }
+    gives-one (weights-one t i out) is
 
 -- ---- rings
 
@@ -174,13 +186,13 @@ rings-by q ws z e out h =
     let is : RingAnswer q out (countAnswer 0 (length ws)) (over ws out) =
     answering (ring-passes q out .1 (z, h))
     (record { list = ws; good = subst (IsRing q) e (ring-is q (n .code) (n .number)); count = refl; put = refl }) in
-    record { meets = is; only = λ s new a. ring-answer-one q out s _ new _ a is }
+    gives-one (ring-answer-one q out) is
 
 pub rings-refused : (q : CornerName) (out : List ℕ) (k : ℕ) → suc k ≡ refuseRing q out
     → RingAnswer q out leaves (countAnswer (suc k) 0, out)
 rings-refused q out k e =
     let is : RingAnswer q out (countAnswer (suc k) 0) out = refusing e (λ z. omega arith) in
-    record { meets = is; only = λ s new a. ring-answer-one q out s _ new _ a is }
+    gives-one (ring-answer-one q out) is
 
 -- ---- places: of a corner of a code, and of a name
 
@@ -213,19 +225,20 @@ module _ (t : TriangleCode) (i : ℕ) (z : refuseNumbered t i ≡ 0) where
   pub placed : (c : Coordinates) → exact (corner t i) ≡ c → PlaceAnswer t i gives record { refusal = 0; at = c }
   placed c e =
       let is : PlaceAnswer t i (record { refusal = 0; at = c }) = answering z (record { number = refl; is = sym e }) in
-      record { meets = is; only = λ s a. place-one t i s _ a is }
+      gives-one (place-one t i) is
 
   pub ticked : (r : TicksAnswer) → r .refusal ≡ 0 → AreTicks (exact (corner t i)) (r .at)
       → TickAnswer t i gives r
   ticked r f e =
       let is : TickAnswer t i r = answering z (record { number = f; are = e }) in
-      record { meets = is; only = λ s a. tick-answer-one t i s _ a is }
+      gives-one (tick-answer-one t i) is
 
   pub pointed : (r : PointAnswer) → r .refusal ≡ 0 → IsPoint (degreeOf (t .0)) (exact (corner t i)) (r .at)
       → DrawAnswer t i gives r
   pointed r f e =
-      let is : DrawAnswer t i r = answering z (record { number = f; is = e }) in
-      record { meets = is; only = λ s a. draw-one t i s _ a is }
+      let is : DrawAnswer t i r =
+      answering z (drawn.pointed r (numbered-degree t i z) (numbered-small t i z) f e) in
+      gives-one (draw-one t i) is
 
 module _ (q : CornerName) (z : checkName q ≡ 0) where
   pub placed-name : (c : Coordinates) → exact (named q) ≡ c
@@ -233,28 +246,28 @@ module _ (q : CornerName) (z : checkName q ≡ 0) where
   placed-name c e =
       let is : NamePlaceAnswer q (record { refusal = 0; at = c }) =
       answering z (record { number = refl; is = sym e }) in
-      record { meets = is; only = λ s a. name-place-one q s _ a is }
+      gives-one (name-place-one q) is
 
   pub ticked-name : (r : TicksAnswer) → r .refusal ≡ 0 → AreTicks (exact (named q)) (r .at)
       → NameTickAnswer q gives r
   ticked-name r f e =
       let is : NameTickAnswer q r = answering z (record { number = f; are = e }) in
-      record { meets = is; only = λ s a. name-tick-one q s _ a is }
+      gives-one (name-tick-one q) is
 
   pub pointed-name : (r : PointAnswer) → r .refusal ≡ 0 → IsPoint (degreeOf (q .0)) (exact (named q)) (r .at)
       → NameDrawAnswer q gives r
   pointed-name r f e =
-      let is : NameDrawAnswer q r = answering z (record { number = f; is = e }) in
-      record { meets = is; only = λ s a. name-draw-one q s _ a is }
+      let is : NameDrawAnswer q r = answering z (drawn.pointed r (name-degree q z) (name-small q z) f e) in
+      gives-one (name-draw-one q) is
 
 -- refused
 pub not-placed : (t : TriangleCode) (i k : ℕ) → suc k ≡ refuseNumbered t i
     → PlaceAnswer t i gives noCoordinates (suc k)
 not-placed t i k e =
     let is : PlaceAnswer t i (noCoordinates (suc k)) = refusing e (λ z. omega arith) in
-    record { meets = is; only = λ s a. place-one t i s _ a is }
+    gives-one (place-one t i) is
 
 pub not-pointed : (q : CornerName) (k : ℕ) → suc k ≡ checkName q → NameDrawAnswer q gives noPoint (suc k)
 not-pointed q k e =
     let is : NameDrawAnswer q (noPoint (suc k)) = refusing e (λ z. omega arith) in
-    record { meets = is; only = λ s a. name-draw-one q s _ a is }
+    gives-one (name-draw-one q) is

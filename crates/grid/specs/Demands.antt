@@ -1,15 +1,15 @@
 -- The three demands of the user, clause by clause: what is promised of the calls together. A promise of a call
--- (`CrossAnswer t k r` and so on, the `ensures` of the function) says which answers r it may give; the theorems of
--- these types are in proofs/Demands.antt. Assumes nothing.
+-- (`CrossAnswer t k r` and so on) says which answers r it may give, and is just what the function ensures
+-- (Contracts.antt); the theorems of these types are in proofs/Demands.antt. Assumes nothing.
 use mathlib.Core.Path.{_≡_}
 use mathlib.Core.Logic.{_⊎_, _↔_}
 use mathlib.Core.List.{List}
 use Prim.Native.Nat.{ℕ, _≤_}
 use lib.ListN.{take}
-use Rattle.frame.specs.Promises.{_gives_}
+use Rattle.frame.specs.Promises.{One, Keeps, KeepsLent, _gives_}
 use Rattle.words.specs.Words.{degreeOf, digitOf, sideOf}
 use Rattle.words.specs.Refusals.{IsCode, checkCode}
-use Rattle.words.specs.Family.{codeAnswer, refuseParent, refuseChild, parentAnswer, childAnswer, noCode}
+use Rattle.words.specs.Family.{codeAnswer, refuseParent, refuseChild, ParentAnswer, ChildAnswer, noCode}
 use Rattle.words.specs.declared.TriangleCode.{TriangleCode}
 use Rattle.words.specs.declared.CornerName.{CornerName}
 use Rattle.words.specs.declared.CodeAnswer.{CodeAnswer}
@@ -26,46 +26,26 @@ use Rattle.corners.specs.Answers.{nameAnswer, noStep, noName, noCount, CrossAns
 use Rattle.corners.specs.Answers.{NameWeightsAnswer, NamingAnswer, BackAnswer, RingAnswer}
 use Rattle.corners.specs.declared.StepAnswer.{StepAnswer}
 use Rattle.corners.specs.declared.NameAnswer.{NameAnswer}
-use Rattle.corners.specs.declared.CountAnswer.{CountAnswer}
 use Rattle.points.specs.Answers.{noCoordinates, noTicks, noPoint, PlaceAnswer, NamePlaceAnswer, TickAnswer}
 use Rattle.points.specs.Answers.{NameTickAnswer, DrawAnswer, NameDrawAnswer}
 use Rattle.points.specs.declared.CoordinatesAnswer.{CoordinatesAnswer}
 use Rattle.directions.specs.Refusals.{refuseFile, refuseList}
 use Rattle.directions.specs.Answers.{FileAnswer, ListAnswer}
 
--- There is one, and whatever else meets P is that one.
-abbrev pub One : {A : Type 0} → (A → Type 0) → Type 0
-One {A} P = (a : A) × (P gives a)
-
 -- ---- 1
 
--- "Each call answers, or refuses by document 01's number exactly when 01 says so; a refusal returns its number and
--- zeros". Of one call at given arguments: f is the number that document 01 gives, 0 where the call answers; P is what
--- the call promises of its answer.
--- "No older answer is ever repeated": the arguments alone determine the answer.
-pub record Keeps {A : Type 0} (f : ℕ) (P : A → Type 0) (number : A → ℕ) (zeros : ℕ → A) : Type 0 where
-  pub one : One P
-  pub exactly : (r : A) → P r → number r ≡ f
-  pub refused : (r : A) → P r → (f ≡ 0 → ⊥) → r ≡ zeros f
-
--- ".. and changes no lent memory": the answer, and the lent list as it is left
-abbrev pub WithList : Type 0 → Type 0
-WithList A = A × List ℕ
-
--- "Any number and any lent list may be handed in."
+-- "Any number and any lent list may be handed in. Each call answers, or refuses by document 01's number exactly when 01
+-- says so; a refusal returns its number and zeros and changes no lent memory. No older answer is ever repeated."
 pub record Demand1 : Type 0 where
   pub check : (t : TriangleCode) → Keeps (checkCode t) (λ r. r ≡ checkCode t) (λ r. r) (λ f. f)
   pub checkNames : (q : CornerName) → Keeps (checkName q) (λ r. r ≡ checkName q) (λ r. r) (λ f. f)
-  pub parent : (t : TriangleCode) → Keeps (refuseParent t) (λ r. r ≡ parentAnswer t) (λ r. r .refusal) noCode
-  pub child : (t : TriangleCode) (d : ℕ)
-      → Keeps (refuseChild t d) (λ r. r ≡ childAnswer t d) (λ r. r .refusal) noCode
+  pub parent : (t : TriangleCode) → Keeps (refuseParent t) (ParentAnswer t) (λ r. r .refusal) noCode
+  pub child : (t : TriangleCode) (d : ℕ) → Keeps (refuseChild t d) (ChildAnswer t d) (λ r. r .refusal) noCode
   pub cross : (t : TriangleCode) (k : ℕ) → Keeps (refuseNumbered t k) (CrossAnswer t k) (λ r. r .refusal) noStep
   pub weights : (t : TriangleCode) (i : ℕ) (out : List ℕ)
-      → Keeps {A = WithList ℕ} (refuseWeights t i out) (λ r. WeightsAnswer t i out (r .0) (r .1)) (λ r. r .0)
-      (λ f. (f, out))
+      → KeepsLent (refuseWeights t i out) (WeightsAnswer t i out) (λ r. r) (λ f. f) out
   pub nameWeights : (q : CornerName) (out : List ℕ)
-      → Keeps {A = WithList ℕ} (refuseNameWeights q out) (λ r. NameWeightsAnswer q out (r .0) (r .1)) (λ r. r .0)
-      (λ f. (f, out))
+      → KeepsLent (refuseNameWeights q out) (NameWeightsAnswer q out) (λ r. r) (λ f. f) out
   pub coordinates : (t : TriangleCode) (i : ℕ)
       → Keeps (refuseNumbered t i) (PlaceAnswer t i) (λ r. r .refusal) noCoordinates
   pub nameCoordinates : (q : CornerName) → Keeps (checkName q) (NamePlaceAnswer q) (λ r. r .refusal) noCoordinates
@@ -77,12 +57,10 @@ pub record Demand1 : Type 0 where
   pub back : (n : ℕ) (weights : List ℕ)
       → Keeps (refuseBack n weights) (BackAnswer n weights) (λ r. r .refusal) noName
   pub ring : (q : CornerName) (out : List ℕ)
-      → Keeps {A = WithList CountAnswer} (refuseRing q out) (λ r. RingAnswer q out (r .0) (r .1))
-      (λ r. r .0 .refusal) (λ f. (noCount f, out))
+      → KeepsLent (refuseRing q out) (RingAnswer q out) (λ r. r .refusal) noCount out
   pub file : (n : ℕ) (d : Direction) → Keeps (refuseFile n d) (FileAnswer n d) (λ r. r .refusal) noCode
   pub list : (n : ℕ) (d : Direction) (out : List ℕ)
-      → Keeps {A = WithList CountAnswer} (refuseList n d out) (λ r. ListAnswer n d out (r .0) (r .1))
-      (λ r. r .0 .refusal) (λ f. (noCount f, out))
+      → KeepsLent (refuseList n d out) (ListAnswer n d out) (λ r. r .refusal) noCount out
 
 -- ---- 2
 
@@ -92,13 +70,13 @@ pub record Demand2Codes : Type 0 where
   pub side : (t : TriangleCode) → IsCode 0 t
       → triangleOf t ≡ triangle (unitAt (cornerVertex (sideOf (t .0)) 1)) (unitAt (cornerVertex (sideOf (t .0)) 2))
       (unitAt (cornerVertex (sideOf (t .0)) 3))
-  pub child : (t : TriangleCode) (d : ℕ) (r : CodeAnswer) → r ≡ childAnswer t d → r .refusal ≡ 0
+  pub child : (t : TriangleCode) (d : ℕ) (r : CodeAnswer) → ChildAnswer t d r → r .refusal ≡ 0
       → triangleOf (r .code) ≡ divide d (triangleOf t)
   -- parent undoes child, and a code is its parent's child by its last digit
-  pub childParent : (t : TriangleCode) (d : ℕ) (r : CodeAnswer) → r ≡ childAnswer t d → r .refusal ≡ 0
-      → parentAnswer (r .code) ≡ codeAnswer 0 t
-  pub parentChild : (t : TriangleCode) (r : CodeAnswer) → r ≡ parentAnswer t → r .refusal ≡ 0
-      → childAnswer (r .code) (digitOf (t .0) (degreeOf (t .0))) ≡ codeAnswer 0 t
+  pub childParent : (t : TriangleCode) (d : ℕ) (r : CodeAnswer) → ChildAnswer t d r → r .refusal ≡ 0
+      → ParentAnswer (r .code) gives codeAnswer 0 t
+  pub parentChild : (t : TriangleCode) (r : CodeAnswer) → ParentAnswer t r → r .refusal ≡ 0
+      → ChildAnswer (r .code) (digitOf (t .0) (degreeOf (t .0))) gives codeAnswer 0 t
   -- the first twelve places are the corner's weights, whatever lay there: by the code and corner number, and by the
   -- corner's name
   pub weights : (t : TriangleCode) (i : ℕ) (out new : List ℕ) → WeightsAnswer t i out 0 new

@@ -9,7 +9,7 @@ use Rattle.frame.specs.Answers.{over}
 use Rattle.frame.specs.Promises.{_gives_, _leaves_}
 use Rattle.golden.specs.Numbers.{golden}
 use Rattle.words.specs.Refusals.{checkCode}
-use Rattle.words.specs.Family.{codeOf, codeAnswer, refuseParent, refuseChild, parentAnswer, childAnswer}
+use Rattle.words.specs.Family.{codeOf, codeAnswer, refuseParent, refuseChild, ParentAnswer, ChildAnswer}
 use Rattle.net.specs.Sides.{vertex}
 use Rattle.net.specs.Division.{unitAt}
 use Rattle.net.specs.Corners.{nameOf}
@@ -70,12 +70,12 @@ pub record Crossings : Type 0 where
   -- refused, with zeros in the new fields
   pub no-edge : CrossAnswer (written 1001) 4 gives stepAnswer 5 (codeOf 0) 0 0 0
 
--- Parent and child. (Their promises are equations.)
+-- Parent and child.
 pub record Family : Type 0 where
-  pub child : childAnswer (written 1001) 3 ≡ codeAnswer 0 (written 10013)
-  pub parent : parentAnswer (written 10013) ≡ codeAnswer 0 (written 1001)
-  pub no-parent : parentAnswer (written 100) ≡ codeAnswer 6 (codeOf 0)
-  pub no-child : childAnswer (written 1001) 4 ≡ codeAnswer 5 (codeOf 0)
+  pub child : ChildAnswer (written 1001) 3 gives codeAnswer 0 (written 10013)
+  pub parent : ParentAnswer (written 10013) gives codeAnswer 0 (written 1001)
+  pub no-parent : ParentAnswer (written 100) gives codeAnswer 6 (codeOf 0)
+  pub no-child : ChildAnswer (written 1001) 4 gives codeAnswer 5 (codeOf 0)
 
 -- Weights of the corners of 10012, one of them kept: "At each step a kept corner's weights are doubled and a middle's
 -- weights are the sum of its two ends'."

@@ -1,5 +1,4 @@
 -- How examples are written: codes, names, directions and answers. Assumes nothing.
-use mathlib.Core.Path.{_≡_}
 use mathlib.Core.List.{List, [], _∷_}
 use Prim.Native.Nat.{ℕ, zero, suc, _+_, _-_, _/_, _%_}
 use lib.IntN.{ℤ, pos, negℤ}
@@ -17,26 +16,6 @@ use Rattle.filing.specs.declared.Direction.{Direction}
 use Rattle.points.specs.declared.CoordinatesAnswer.{CoordinatesAnswer}
 use Rattle.points.specs.declared.TicksAnswer.{TicksAnswer}
 use Rattle.points.specs.declared.PointAnswer.{PointAnswer}
-
--- ---- an answer, and no other
-
--- "Show that any two results meeting a statement are equal": r meets the promise, and whatever meets it is r.
-pub record Gives {A : Type 0} (Promise : A → Type 0) (r : A) : Type 0 where
-  pub meets : Promise r
-  pub only : (s : A) → Promise s → s ≡ r
-
-infix 3 _gives_
-abbrev pub _gives_ : {A : Type 0} → (A → Type 0) → A → Type 0
-P gives r = Gives P r
-
--- The same with a lent list: the answer, and the list as it is left.
-pub record Leaves {A : Type 0} (Promise : A → List ℕ → Type 0) (r : A) (new : List ℕ) : Type 0 where
-  pub meets : Promise r new
-  pub only : (s : A) (left : List ℕ) → Promise s left → (s ≡ r) × (left ≡ new)
-
-infix 3 _leaves_
-abbrev pub _leaves_ : {A : Type 0} → (A → List ℕ → Type 0) → A × List ℕ → Type 0
-P leaves r = Leaves P (r .0) (r .1)
 
 -- ---- codes and names
 

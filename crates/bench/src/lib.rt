@@ -12,7 +12,7 @@ use grid::TriangleCode;
 ghost use mathlib.Core.Path.{_≡_};
 ghost use lib.Bits.{bitXor};
 ghost use Rattle.words.specs.Refusals.{checkCode};
-ghost use Rattle.words.specs.Family.{codeOf, parentAnswer, childAnswer};
+ghost use Rattle.words.specs.Family.{codeOf, ParentAnswer, ChildAnswer};
 ghost use Rattle.words.specs.declared.CodeAnswer.{CodeAnswer};
 ghost use Rattle.net.specs.Corners.{nameOf};
 ghost use Rattle.net.specs.Refusals.{checkName};
@@ -42,7 +42,7 @@ pub extern "C" fn bench_check_name(name: u64) -> u64
 #[no_mangle]
 pub extern "C" fn bench_parent(code: u64) -> u64
     ensures { λ r. ⌜
-        ((a : CodeAnswer) × (a ≡ parentAnswer (codeOf code))
+        ((a : CodeAnswer) × ParentAnswer (codeOf code) a
         × (r ≡ bitXor (a .code .0) (a .refusal)))
         ⌝ }
 {
@@ -53,7 +53,7 @@ pub extern "C" fn bench_parent(code: u64) -> u64
 #[no_mangle]
 pub extern "C" fn bench_child(code: u64, digit: u64) -> u64
     ensures { λ r. ⌜
-        ((a : CodeAnswer) × (a ≡ childAnswer (codeOf code) digit)
+        ((a : CodeAnswer) × ChildAnswer (codeOf code) digit a
         × (r ≡ bitXor (a .code .0) (a .refusal)))
         ⌝ }
 {

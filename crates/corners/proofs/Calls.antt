@@ -10,7 +10,8 @@ use lib.Dec.{eqb}
 use lib.ListN.{length, take}
 use borrow.Author.Tests.{eqb-true, lt-ltb, le-ltb, eq-eqb}
 use Rattle.frame.specs.Refusals.{Row, refusal, listRows, order}
-use Rattle.frame.proofs.Refusing.{so-unless, either-left, either-right, here, next, refuse-after, refuse-before, refuse-first}
+use Rattle.frame.proofs.Refusing.{so-unless, either-left, either-right, here, next, refuse-after, refuse-before}
+use Rattle.frame.proofs.Refusing.{refuse-first}
 use Rattle.frame.proofs.Answering.{answering}
 use Rattle.words.proofs.Codes.{code-degree, is-code}
 use Rattle.words.specs.Refusals.{checkCode, checkNameFields, codeRows, degreeRows, nameRows}
@@ -54,7 +55,8 @@ module _ (t : TriangleCode) (i : ℕ) where
 
   pub numbered-low : checkCode t ≡ 0 → i ≡ 0 → 5 ≡ refuseNumbered t i
   unfolding refuseNumbered checkCode
-  numbered-low z e = refuse-after order order (codeRows t) (oneToThreeRows i) tt tt z (here (either-left _ _ (eq-eqb i 0 e)))
+  numbered-low z e = refuse-after order order (codeRows t) (oneToThreeRows i) tt tt z
+      (here (either-left _ _ (eq-eqb i 0 e)))
 
   pub numbered-high : checkCode t ≡ 0 → 3 < i → 5 ≡ refuseNumbered t i
   unfolding refuseNumbered checkCode
@@ -140,7 +142,8 @@ module _ (r : CornerName) (out : List ℕ) where
 
   pub name-weights-nine : checkName r ≡ 0 → length out < 12 → 9 ≡ refuseNameWeights r out
   unfolding checkName refuseNameWeights
-  name-weights-nine z h = refuse-after order order (canonicalRows r) (listRows 12 out) tt tt z (here (lt-ltb (length out) 12 h))
+  name-weights-nine z h = refuse-after order order (canonicalRows r) (listRows 12 out) tt tt z
+      (here (lt-ltb (length out) 12 h))
 
   pub ring-first : {k : ℕ} → k ≡ checkName r → (k ≡ 0 → ⊥) → k ≡ refuseRing r out
   unfolding checkName refuseRing

@@ -46,14 +46,16 @@ unfolding refuseWeights refuseNumbered
 weights-passes t i out = (
   λ e. let n = none-after order order (codeRows t ++ oneToThreeRows i) (listRows 12 out) tt tt .0 e in
       (n .0, long-enough 12 out .0 (n .1)),
-  λ p. none-after order order (codeRows t ++ oneToThreeRows i) (listRows 12 out) tt tt .1 (p .0, long-enough 12 out .1 (p .1)),
+  λ p. none-after order order (codeRows t ++ oneToThreeRows i) (listRows 12 out) tt tt .1
+      (p .0, long-enough 12 out .1 (p .1)),
 )
 
 pub name-weights-passes : (r : CornerName) (out : List ℕ)
     → (refuseNameWeights r out ≡ 0) ↔ ((checkName r ≡ 0) × (12 ≤ length out))
 unfolding refuseNameWeights checkName
 name-weights-passes r out = (
-  λ e. let n = none-after order order (canonicalRows r) (listRows 12 out) tt tt .0 e in (n .0, long-enough 12 out .0 (n .1)),
+  λ e. let n = none-after order order (canonicalRows r) (listRows 12 out) tt tt .0 e in
+      (n .0, long-enough 12 out .0 (n .1)),
   λ p. none-after order order (canonicalRows r) (listRows 12 out) tt tt .1 (p .0, long-enough 12 out .1 (p .1)),
 )
 
@@ -61,7 +63,8 @@ pub ring-passes : (r : CornerName) (out : List ℕ)
     → (refuseRing r out ≡ 0) ↔ ((checkName r ≡ 0) × (6 ≤ length out))
 unfolding refuseRing checkName
 ring-passes r out = (
-  λ e. let n = none-after order order (canonicalRows r) (listRows 6 out) tt tt .0 e in (n .0, long-enough 6 out .0 (n .1)),
+  λ e. let n = none-after order order (canonicalRows r) (listRows 6 out) tt tt .0 e in
+      (n .0, long-enough 6 out .0 (n .1)),
   λ p. none-after order order (canonicalRows r) (listRows 6 out) tt tt .1 (p .0, long-enough 6 out .1 (p .1)),
 )
 

@@ -1,7 +1,8 @@
--- Document 01, 'Refusal numbers': the refusal of each call on corners and edges, a line each. "Parent, child and crossing take a triangle code. Weights,
--- exact coordinates and drawn coordinates take a triangle code with a corner number, or a corner name. Naming takes a code with a corner number. The way
--- back takes a degree and twelve weights, the ring a corner name". (A call that takes only a name is refused as `checkName` of the crate net says.)
--- Assumes nothing.
+-- Document 01, 'Refusal numbers': the refusal of each call on corners and edges, a line each. "Parent, child and
+-- crossing take a triangle code. Weights, exact coordinates and drawn coordinates take a triangle code with a corner
+-- number, or a corner name. Naming takes a code with a corner number. The way back takes a degree and twelve weights,
+-- the ring a corner name". (A call that takes only a name is refused as `checkName` of the crate net says.) Assumes
+-- nothing.
 use Prim.Native.Nat.{ℕ}
 use mathlib.Core.List.{List, _++_}
 use Rattle.frame.specs.Refusals.{refusal, listRows}

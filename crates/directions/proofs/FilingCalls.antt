@@ -41,7 +41,8 @@ module _ (n : ℕ) (d : Direction) (out : List ℕ) where
 
   pub list-nine : refuseFile n d ≡ 0 → length out < 6 → 9 ≡ refuseList n d out
   unfolding refuseFile refuseList
-  list-nine z h = refuse-after order order (degreeRows n ++ directionRows d) (listRows 6 out) tt tt z (here (lt-ltb (length out)
+  list-nine z h = refuse-after order order (degreeRows n ++ directionRows d) (listRows 6 out) tt tt z
+      (here (lt-ltb (length out)
       6 h))
 
 -- the lists of the sides, one after the other, are as long as they are together

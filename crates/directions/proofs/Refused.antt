@@ -26,9 +26,11 @@ far d = outside (d .x) either outside (d .y) either outside (d .z)
 abbrev none : Direction → Bool
 none d = zero? (d .x) && (zero? (d .y) && zero? (d .z))
 
-pub refuse-by : (n : ℕ) (d : Direction) {a b c : Bool} → ltb 24 n ≡ a → far d ≡ b → none d ≡ c → inTurn (1 when a ∷ 8 when b ∷ 7 when c ∷ []) ≡ refuseFile n d
+pub refuse-by : (n : ℕ) (d : Direction) {a b c : Bool} → ltb 24 n ≡ a → far d ≡ b → none d ≡ c
+    → inTurn (1 when a ∷ 8 when b ∷ 7 when c ∷ []) ≡ refuseFile n d
 unfolding refuseFile
-refuse-by n d p q r = sym (in-turn order (degreeRows n ++ directionRows d) tt ∙ (λ i. inTurn (1 when p i ∷ 8 when q i ∷ 7 when r i ∷ [])))
+refuse-by n d p q r = sym (in-turn order (degreeRows n ++ directionRows d) tt
+    ∙ (λ i. inTurn (1 when p i ∷ 8 when q i ∷ 7 when r i ∷ [])))
 
 module _ (d : Direction) where
   pub far-x : 1000000000 < natAbs (d .x) → far d ≡ true
@@ -44,7 +46,11 @@ module _ (d : Direction) where
   not-far k l m = rw (le-ltb _ _ k, le-ltb _ _ l, le-ltb _ _ m) refl
 
   pub is-none : natAbs (d .x) + natAbs (d .y) + natAbs (d .z) ≡ 0 → none d ≡ true
-  is-none e = rw (eq-eqb _ _ (let p : natAbs (d .x) ≡ 0 = omega arith in p), eq-eqb _ _ (let p : natAbs (d .y) ≡ 0 = omega arith in p), eq-eqb _ _ (let p : natAbs (d .z) ≡ 0 = omega arith in p)) refl
+  is-none e = rw (
+    eq-eqb _ _ (let p : natAbs (d .x) ≡ 0 = omega arith in p),
+    eq-eqb _ _ (let p : natAbs (d .y) ≡ 0 = omega arith in p),
+    eq-eqb _ _ (let p : natAbs (d .z) ≡ 0 = omega arith in p),
+  ) refl
 
   pub not-none : (natAbs (d .x) + natAbs (d .y) + natAbs (d .z) ≡ 0 → ⊥) → none d ≡ false
   not-none f = go (none d) refl
@@ -54,7 +60,12 @@ module _ (d : Direction) where
       go true e =
           let p = and-true _ _ .0 e in
           let q = and-true _ _ .0 (p .1) in
-          absurd (f (omega (arith, eqb-true (natAbs (d .x)) 0 (p .0), eqb-true (natAbs (d .y)) 0 (q .0), eqb-true (natAbs (d .z)) 0 (q .1))))
+          absurd (f (omega (
+            arith,
+            eqb-true (natAbs (d .x)) 0 (p .0),
+            eqb-true (natAbs (d .y)) 0 (q .0),
+            eqb-true (natAbs (d .z)) 0 (q .1),
+          )))
 
 -- ---- when nothing is refused
 
@@ -75,9 +86,12 @@ allowed n d e =
       some = λ f. true≢false (sym (is-none d f) ∙ x .1 .1 .0);
     }
 
-pub list-passes : (n : ℕ) (d : Direction) (out : List ℕ) → (refuseList n d out ≡ 0) ↔ ((refuseFile n d ≡ 0) × (6 ≤ length out))
+pub list-passes : (n : ℕ) (d : Direction) (out : List ℕ) → (refuseList n d out ≡ 0)
+    ↔ ((refuseFile n d ≡ 0) × (6 ≤ length out))
 unfolding refuseList refuseFile
 list-passes n d out = (
-  λ e. let k = none-after order order (degreeRows n ++ directionRows d) (listRows 6 out) tt tt .0 e in (k .0, ltb-false (length out) 6 (k .1 .0)),
-  λ p. none-after order order (degreeRows n ++ directionRows d) (listRows 6 out) tt tt .1 (p .0, (le-ltb (length out) 6 (p .1), tt)),
+  λ e. let k = none-after order order (degreeRows n ++ directionRows d) (listRows 6 out) tt tt .0 e in
+      (k .0, ltb-false (length out) 6 (k .1 .0)),
+  λ p. none-after order order (degreeRows n ++ directionRows d) (listRows 6 out) tt tt .1
+      (p .0, (le-ltb (length out) 6 (p .1), tt)),
 )

@@ -1,5 +1,5 @@
--- The complete answers of filing and listing, for every input: what the contracts cite. `out` is a lent list as it comes, `new` as it is left.
--- Assumes nothing.
+-- The complete answers of filing and listing, for every input: what the contracts cite. `out` is a lent list as it
+-- comes, `new` as it is left. Assumes nothing.
 use mathlib.Core.Path.{_≡_}
 use Prim.Native.Nat.{ℕ}
 use mathlib.Core.List.{List}

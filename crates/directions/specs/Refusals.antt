@@ -1,4 +1,5 @@
--- Document 01, 'Refusal numbers': the refusals of filing and listing. "filing and listing [take] a degree and a direction". Assumes nothing.
+-- Document 01, 'Refusal numbers': the refusals of filing and listing. "filing and listing [take] a degree and a
+-- direction". Assumes nothing.
 use Prim.Native.Nat.{ℕ}
 use mathlib.Core.List.{List, _++_}
 use Rattle.frame.specs.Refusals.{refusal, listRows}

@@ -1,4 +1,5 @@
--- The descent lists all holders: the words of a degree that hold, each once and rising; and no other list is one of all holders. Assumes nothing.
+-- The descent lists all holders: the words of a degree that hold, each once and rising; and no other list is one of all
+-- holders. Assumes nothing.
 use mathlib.Core.Path.{_≡_, refl, sym, _∙_, ap, subst}
 use mathlib.Core.Logic.{_↔_, ⊎-elim}
 use mathlib.Core.Bool.{Bool, true, false, cond}
@@ -60,7 +61,8 @@ module _ {P : ℕ → Type 0} {f : ℕ → ℕ} where
 
   -- the same limits, written otherwise
   between : {lo lo′ hi hi′ : ℕ} {xs : List ℕ} → lo ≡ lo′ → hi ≡ hi′ → Lists P f lo hi xs → Lists P f lo′ hi′ xs
-  between {lo} {hi′ = hi′} {xs = xs} e e′ a = subst (λ (l : ℕ). Lists P f l hi′ xs) e (subst (λ (h : ℕ). Lists P f lo h xs) e′ a)
+  between {lo} {hi′ = hi′} {xs = xs} e e′ a = subst (λ (l : ℕ). Lists P f l hi′ xs) e
+      (subst (λ (h : ℕ). Lists P f lo h xs) e′ a)
 
   -- one part after the other
   and-then : {lo mid hi : ℕ} {xs ys : List ℕ} → Lists P f lo mid xs → Lists P f mid hi ys → Lists P f lo hi (xs ++ ys)
@@ -86,13 +88,20 @@ module _ {P : ℕ → Type 0} {f : ℕ → ℕ} where
   listed : {lo hi : ℕ} {xs : List ℕ} → Lists P f lo hi xs → (m : ℕ) → m < length xs → From P f lo hi (getD xs m 0)
   listed end m h = absurd (omega arith)
   listed (skip n a) m h = wider (listed a m h)
-  listed (keep {k = k} p a) zero h = record { number = k; low = omega arith; high = omega (arith, limits a); has = p; is = refl }
+  listed (keep {k = k} p a) zero h = record {
+    number = k;
+    low = omega arith;
+    high = omega (arith, limits a);
+    has = p;
+    is = refl;
+  }
   listed (keep p a) (suc m) h = wider (listed a m (omega arith))
 
   -- each from the range is listed
   complete : {lo hi : ℕ} {xs : List ℕ} → Lists P f lo hi xs → (k : ℕ) → lo ≤ k → k < hi → P k → Stands xs (f k)
   complete end k l u p = absurd (omega arith)
-  complete (skip {k = j} n a) k l u p = let other : j ≡ k → ⊥ = λ e. n (subst P (sym e) p) in complete a k (omega (arith, other)) u p
+  complete (skip {k = j} n a) k l u p = let other : j ≡ k → ⊥ = λ e. n (subst P (sym e) p) in
+      complete a k (omega (arith, other)) u p
   complete (keep {k = j} {xs = xs} q a) k l u p =
       ⊎-elim (λ e. (0, omega arith, ap f e)) (λ g. later (f j) xs (f k) (complete a k g u p)) (eq-or-lt-of-le l)
 
@@ -101,7 +110,8 @@ module _ {P : ℕ → Type 0} {f : ℕ → ℕ} where
     rising : {lo : ℕ} {xs : List ℕ} → Lists P f lo hi xs → (m : ℕ) → suc m < length xs → getD xs m 0 < getD xs (suc m) 0
     rising end m h = absurd (omega arith)
     rising (skip n a) m h = rising a m h
-    rising (keep {k = k} p a) zero h = let r = listed a 0 (omega arith) in omega (arith, rise k (r .number) (r .low) (r .high), r .is)
+    rising (keep {k = k} p a) zero h = let r = listed a 0 (omega arith) in
+        omega (arith, rise k (r .number) (r .low) (r .high), r .is)
     rising (keep p a) (suc m) h = rising a m (omega arith)
 
 -- every number c further on, and h of what is listed
@@ -117,7 +127,8 @@ moved {Q = Q} {g = g} c h e (skip {k = k} n a) =
 moved {Q = Q} {g = g} c h e (keep {k = k} {hi = hi} {xs = xs} p a) =
     let rest = moved {Q = Q} {g = g} c h (λ j l u. e j (omega arith) u) a in
     let s = e k (omega arith) (limits a) in
-    subst (λ (x : ℕ). Lists Q g (c + k) (c + hi) (x ∷ each h xs)) (sym (s .1)) (keep (s .0 .0 p) (between (omega arith) refl rest))
+    subst (λ (x : ℕ). Lists Q g (c + k) (c + hi) (x ∷ each h xs)) (sym (s .1))
+    (keep (s .0 .0 p) (between (omega arith) refl rest))
 
 -- ---- the paths below one triangle
 
@@ -143,7 +154,8 @@ module _ (n : ℕ) (D : Determinants) (u v j : ℕ) (h : (j < 4) × (u ≡ 4 * v
       let low : 4 * v * 4 ^ n ≤ u * 4 ^ n = mul-le-mul-right (4 ^ n) (omega (arith, h)) in
       let high : suc u * 4 ^ n ≤ 4 * suc v * 4 ^ n = mul-le-mul-right (4 ^ n) (omega (arith, h)) in
       let q = below-first D n k ∙ ap (λ (x : ℕ). below (childDets x D) (digitsOf n k)) (first-digit k a b) in
-      subst (λ (E : Determinants). P k ↔ AllNonNeg E) q (e k (omega (arith, four-more n v)) (omega (arith, four-more n (suc v))))
+      subst (λ (E : Determinants). P k ↔ AllNonNeg E) q
+      (e k (omega (arith, four-more n v)) (omega (arith, four-more n (suc v))))
 
 module _ {P : ℕ → Type 0} where
   one-path : (D : Determinants) (v : ℕ) → P v ↔ AllNonNeg D → Lists P (λ k. k) v (suc v) (holders 0 D v)
@@ -154,17 +166,20 @@ module _ {P : ℕ → Type 0} where
       go true h = keep (e .1 (h .holds refl)) end
       go false h = skip (λ p. h .fails refl (e .0 p)) end
 
-  paths : (n : ℕ) (D : Determinants) (v : ℕ) → Means P n D v → Lists P (λ k. k) (v * 4 ^ n) (suc v * 4 ^ n) (holders n D v)
+  paths : (n : ℕ) (D : Determinants) (v : ℕ) → Means P n D v → Lists P (λ k. k) (v * 4 ^ n) (suc v * 4 ^ n)
+      (holders n D v)
   unfolding below digitsOf holders
   paths zero D v e = between (omega arith) (omega arith) (one-path D v (e v (omega arith) (omega arith)))
   paths (suc n) D v e =
-      let child : (j u w : ℕ) → (j < 4) × (u ≡ 4 * v + j) → suc u ≡ w → Lists P (λ k. k) (u * 4 ^ n) (w * 4 ^ n) (holders n (childDets j D) u) =
+      let child : (j u w : ℕ) → (j < 4) × (u ≡ 4 * v + j) → suc u ≡ w
+      → Lists P (λ k. k) (u * 4 ^ n) (w * 4 ^ n) (holders n (childDets j D) u) =
       λ j u w h f. between refl (ap (λ (x : ℕ). x * 4 ^ n) f) (paths n (childDets j D) u (child-means n D u v j h e)) in
       let c0 = child 0 (4 * v) (4 * v + 1) (omega arith) (omega arith) in
       let c1 = child 1 (4 * v + 1) (4 * v + 2) (omega arith) (omega arith) in
       let c2 = child 2 (4 * v + 2) (4 * v + 3) (omega arith) (omega arith) in
       let c3 = child 3 (4 * v + 3) (4 * v + 4) (omega arith) (omega arith) in
-      between (omega (arith, four-more n v)) (omega (arith, four-more n (suc v))) (and-then (and-then (and-then c0 c1) c2) c3)
+      between (omega (arith, four-more n v)) (omega (arith, four-more n (suc v)))
+      (and-then (and-then (and-then c0 c1) c2) c3)
 
 -- ---- the words of the sides
 
@@ -183,7 +198,8 @@ module _ (n : ℕ) (d : Direction) (low : n ≤ 24) where
       let q : 4 + ((s - 4) * 4 ^ n + v) / 4 ^ n ≡ s = ap (λ (x : ℕ). 4 + x) (digits-div (s - 4) k) ∙ omega arith in
       λ i. codeOf (wordOf (q i) n (digits-mod (s - 4) k i))
 
-  side-means : (s v : ℕ) → IsSide s → v < 4 ^ n → AllNonNeg (below (sideDets d s) (digitsOf n v)) ↔ Held (codeAt n ((s - 4) * 4 ^ n + v))
+  side-means : (s v : ℕ) → IsSide s → v < 4 ^ n → AllNonNeg (below (sideDets d s) (digitsOf n v))
+      ↔ Held (codeAt n ((s - 4) * 4 ^ n + v))
   unfolding sideDets
   side-means s v h k =
       let e = at-side s v (h .0) k in
@@ -196,17 +212,20 @@ module _ (n : ℕ) (d : Direction) (low : n ≤ 24) where
       let next : (suc s - 4) * 4 ^ n ≡ suc (s - 4) * 4 ^ n = ap (λ (x : ℕ). x * 4 ^ n) (omega (arith, h .0)) in
       let here = paths n (sideDets d s) 0 (λ v a b. (λ p. p, λ p. p)) in
       between (omega arith) (omega arith)
-      (moved ((s - 4) * 4 ^ n) (wordOf s n) (λ v a b. (side-means s v h (omega arith), λ i. sym (at-side s v (h .0) (omega arith)) i .0)) here)
+      (moved ((s - 4) * 4 ^ n) (wordOf s n)
+      (λ v a b. (side-means s v h (omega arith), λ i. sym (at-side s v (h .0) (omega arith)) i .0)) here)
 
   all-words : Words 0 (20 * 4 ^ n) (allWords d n 4)
   unfolding allWords
-  all-words = between (omega arith) (omega arith) (parts (λ s. (s - 4) * 4 ^ n) (sideWords d n) 20 4 (λ s a b. side-words s (a, b)))
+  all-words = between (omega arith) (omega arith) (parts (λ s. (s - 4) * 4 ^ n) (sideWords d n) 20 4
+      (λ s a b. side-words s (a, b)))
 
   -- the list of all holders
   pub all-holders : AreHolders n d (allWords d n 4)
   all-holders = record {
     rising = rising (λ i j. codes-rise n i j low) all-words;
-    codes = λ m h. let r = listed all-words m h in subst (IsCode n) (λ i. codeOf (sym (r .is) i)) (code-at n (r .number) low (r .high));
+    codes = λ m h. let r = listed all-words m h in subst (IsCode n) (λ i. codeOf (sym (r .is) i))
+        (code-at n (r .number) low (r .high));
     hold = λ m h. let r = listed all-words m h in subst Held (λ i. codeOf (sym (r .is) i)) (r .has);
     complete = λ t c h.
         let e = at-place c in
@@ -242,7 +261,8 @@ module _ (x : ℕ) (xs : List ℕ) where
   not-first y l (suc k, h, e) = (k, omega arith, e)
 
 tail-among : (x y : ℕ) (xs ys : List ℕ) → x ≡ y → Rising (x ∷ xs) → Among (x ∷ xs) (y ∷ ys) → Among xs ys
-tail-among x y xs ys p r a m h = not-first y ys (getD xs m 0) (omega (arith, above x xs r m h)) (a (suc m) (omega arith))
+tail-among x y xs ys p r a m h = not-first y ys (getD xs m 0) (omega (arith, above x xs r m h))
+    (a (suc m) (omega arith))
 
 same-list : (xs ys : List ℕ) → Rising xs → Rising ys → Among xs ys → Among ys xs → xs ≡ ys
 same-list [] [] r s a b = refl
@@ -250,7 +270,8 @@ same-list [] (y ∷ ys) r s a b = absurd (omega (arith, b 0 (omega arith) .1))
 same-list (x ∷ xs) [] r s a b = absurd (omega (arith, a 0 (omega arith) .1))
 same-list (x ∷ xs) (y ∷ ys) r s a b =
     let p : x ≡ y = omega (arith, first-least y ys x s (a 0 (omega arith)), first-least x xs y r (b 0 (omega arith))) in
-    let q = same-list xs ys (tail-rises x xs r) (tail-rises y ys s) (tail-among x y xs ys p r a) (tail-among y x ys xs (sym p) s b) in
+    let q = same-list xs ys (tail-rises x xs r) (tail-rises y ys s) (tail-among x y xs ys p r a)
+    (tail-among y x ys xs (sym p) s b) in
     λ i. p i ∷ q i
 
 pub one-list : {n : ℕ} {d : Direction} {ts us : List ℕ} → AreHolders n d ts → AreHolders n d us → ts ≡ us

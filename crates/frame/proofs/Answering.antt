@@ -6,8 +6,8 @@ use mathlib.Core.List.{List}
 use Prim.Native.Nat.{ℕ, zero, suc}
 use native.Mathlib.Omega.{arith}
 use lib.ListN.{length}
-use Rattle.frame.specs.Answers.{Answer, Listed, over}
-use Rattle.frame.specs.Promises.{Gives, Keeps, _gives_}
+use Rattle.frame.specs.Answers.{Answer, Known, Listed, over}
+use Rattle.frame.specs.Promises.{Gives, Keeps, Says, _gives_}
 
 -- a call answers or refuses
 pub answers-or-not : (f : ℕ) → (f ≡ 0) ⊎ (f ≡ 0 → ⊥)
@@ -39,10 +39,10 @@ module _ {A : Type 0} (f : ℕ) (Good : A → Type 0) (zeros : ℕ → A) where
 
 -- where what is answered is one value v
 module _ {A : Type 0} (f : ℕ) (v : A) (zeros : ℕ → A) where
-  pub known-one : (r r′ : A) → Answer f (λ s. s ≡ v) zeros r → Answer f (λ s. s ≡ v) zeros r′ → r ≡ r′
+  pub known-one : (r r′ : A) → Known f v zeros r → Known f v zeros r′ → r ≡ r′
   known-one r r′ = answer-one (λ z x y. x ∙ sym y)
 
-  pub known-some : (r : A) × Answer f (λ s. s ≡ v) zeros r
+  pub known-some : (r : A) × Known f v zeros r
   known-some = answer-some f (λ s. s ≡ v) zeros (λ z. (v, refl))
 
 -- a count with its list, where the list is one
@@ -81,7 +81,14 @@ module _ {A : Type 0} {f : ℕ} {Good : A → Type 0} {zeros : ℕ → A} (numbe
     refused = λ r a n. a .refused n;
   }
 
--- ---- a promise that is an equation
+-- ---- a promise of one value
+
+pub keeps-known : {A : Type 0} (f : ℕ) (v : A) (zeros : ℕ → A) (number : A → ℕ) → number v ≡ 0
+    → number (zeros f) ≡ f → Keeps f (Known f v zeros) number zeros
+keeps-known f v zeros number e z =
+    keeps number z (λ r g. ap number g ∙ e) (known-some f v zeros) (known-one f v zeros)
+
+-- the same where a refusal is told by an equation too
 
 pub keeps-is : {A : Type 0} {f : ℕ} {number : A → ℕ} {zeros : ℕ → A} (v : A) → number v ≡ f
     → ((f ≡ 0 → ⊥) → v ≡ zeros f) → Keeps f (λ r. r ≡ v) number zeros
@@ -97,3 +104,9 @@ keeps-is {number = number} v h k = record {
 pub gives-one : {A : Type 0} {P : A → Type 0} {r : A} → ((s s′ : A) → P s → P s′ → s ≡ s′) → P r
     → P gives r
 gives-one {r = r} one is = record { meets = is; only = λ s a. one s r a is }
+
+-- ---- contracts
+
+-- a function without `requires` that ensures just the promise
+pub says-itself : {P : Type 0} → Says (Unit {0}) P P
+says-itself = record { nothing = tt; just = (λ p. p, λ p. p) }

@@ -72,7 +72,8 @@ absent-given : (k : ℕ) (rs : List Row) → T (absent k (numbers rs)) → given
 absent-given k [] t = refl
 absent-given k (r ∷ rs) t = go (eqb k (r .number)) refl (absent-given k rs)
   where
-    go : (e : Bool) → eqb k (r .number) ≡ e → (T (absent k (numbers rs)) → given k rs ≡ false) → given k (r ∷ rs) ≡ false
+    go : (e : Bool) → eqb k (r .number) ≡ e → (T (absent k (numbers rs)) → given k rs ≡ false)
+        → given k (r ∷ rs) ≡ false
     go true e ih = absurd (rw e at t)
     go false e ih = rw e (ih (rw e at t))
 
@@ -113,7 +114,8 @@ or-assoc (suc a) b c = refl
 
 pub turn-append : (xs ys : List Row) → inTurn (xs ++ ys) ≡ inTurn xs or inTurn ys
 turn-append [] ys = refl
-turn-append (x ∷ xs) ys = ap (λ (k : ℕ). alone x or k) (turn-append xs ys) ∙ sym (or-assoc (alone x) (inTurn xs) (inTurn ys))
+turn-append (x ∷ xs) ys = ap (λ (k : ℕ). alone x or k) (turn-append xs ys)
+    ∙ sym (or-assoc (alone x) (inTurn xs) (inTurn ys))
 
 -- the refusal of a call that checks by another first, each in its own order; both tests are `tt` at closed numbers
 pub refusal-append : (os os′ : List ℕ) (xs ys : List Row) → T (inOrder os (numbers xs))
@@ -186,7 +188,8 @@ named-order [] [] t = tt
 named-order [] (k ∷ ks) t = absurd t
 named-order (zero ∷ os) ks t = absurd t
 named-order (suc o ∷ os) ks t =
-    named-past o ks (named-order os (past (suc o) ks) (both (absent (suc o) (past (suc o) ks)) (inOrder os (past (suc o) ks)) t .1))
+    named-past o ks (named-order os (past (suc o) ks) (both (absent (suc o) (past (suc o) ks))
+    (inOrder os (past (suc o) ks)) t .1))
 
 not-so : (b : Bool) (k : ℕ) (ks : List ℕ) → T (named (k ∷ ks)) → cond b k 0 ≡ 0 → (b ≡ false) × T (named ks)
 not-so true zero ks t e = absurd t
@@ -214,7 +217,8 @@ none-so os rs t = (
 
 split : (xs ys : List Row) → NoneSo (xs ++ ys) ↔ (NoneSo xs × NoneSo ys)
 split [] ys = (λ n. (tt, n), λ n. n .1)
-split (x ∷ xs) ys = let ih = split xs ys in (λ n. ((n .0, ih .0 (n .1) .0), ih .0 (n .1) .1), λ n. (n .0 .0, ih .1 (n .0 .1, n .1)))
+split (x ∷ xs) ys = let ih = split xs ys in
+    (λ n. ((n .0, ih .0 (n .1) .0), ih .0 (n .1) .1), λ n. (n .0 .0, ih .1 (n .0 .1, n .1)))
 
 -- the same for a call that checks by another first, each in its own order
 pub none-after : (os os′ : List ℕ) (xs ys : List Row) → T (inOrder os (numbers xs))

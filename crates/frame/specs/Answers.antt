@@ -9,6 +9,10 @@ pub record Answer {A : Type 0} (f : ℕ) (Good : A → Type 0) (zeros : ℕ → 
   pub answered : f ≡ 0 → Good r
   pub refused : (f ≡ 0 → ⊥) → r ≡ zeros f
 
+-- The same where what is answered is one value.
+abbrev pub Known : {A : Type 0} → (f : ℕ) (value : A) (zeros : ℕ → A) (r : A) → Type 0
+Known f v zeros r = Answer f (λ s. s ≡ v) zeros r
+
 -- "lent memory keeps its contents": the same of an answer together with lent memory, which comes as `old` and is left
 -- as `new`. The memory is of any type: a list, or several.
 abbrev pub Lent : {A M : Type 0} → (f : ℕ) (Good : A → M → Type 0) (zeros : ℕ → A) (old : M) (r : A) (new : M)

@@ -15,7 +15,9 @@ use Rattle.grid.specs.Writing.{decimals, written}
 use Rattle.grid.specs.Examples.{Bounds}
 
 pub bounds : Bounds
-unfolding firstOf checkCode refuseParent refuseChild checkName lesserHas placeOf codeAt refuseNumbered refuseWeights refuseNameWeights refuseBack refuseRing refuseFile refuseList decimals written path wordOf digits corner cornerOf triangleAt unitAt cornerVertex sum
+unfolding firstOf checkCode refuseParent refuseChild checkName lesserHas placeOf codeAt refuseNumbered refuseWeights
+    refuseNameWeights refuseBack refuseRing refuseFile refuseList decimals written path wordOf digits corner cornerOf
+    triangleAt unitAt cornerVertex sum
 bounds = record {
   word-0 = refl;
   word-0-name = refl;

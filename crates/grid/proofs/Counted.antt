@@ -1,5 +1,5 @@
--- "There are 20·4^N triangles, 30·4^N edges and 10·4^N + 2 corners", at every degree 0 to 24, and as many canonical corner names as corners. That
--- different codes, corners and edges are different is Differing.antt. Assumes nothing.
+-- "There are 20·4^N triangles, 30·4^N edges and 10·4^N + 2 corners", at every degree 0 to 24, and as many canonical
+-- corner names as corners. That different codes, corners and edges are different is Differing.antt. Assumes nothing.
 use mathlib.Core.Path.{_≡_, _∙_, refl, sym, ap, subst}
 use mathlib.Core.List.{List, []}
 use Prim.Native.Nat.{ℕ, zero, suc, _+_, _*_, _^_, _≤_, _<_}
@@ -24,7 +24,8 @@ use Rattle.net.proofs.Names.{one-name}
 use Rattle.net.proofs.SharedVertices.{vertex-small}
 use Rattle.net.proofs.Table.{_then_, below, same, some, sound, three}
 use Rattle.grid.specs.Counts.{Count, Counts, IsCorner, IsEdge}
-use Rattle.grid.proofs.CornerSteps.{IsKept, IsMiddle, kept-corner, kept-once, kept-or-middle, middle-corner, middle-once, middleOf, not-both}
+use Rattle.grid.proofs.CornerSteps.{IsKept, IsMiddle, kept-corner, kept-once, kept-or-middle, middle-corner}
+use Rattle.grid.proofs.CornerSteps.{middle-once, middleOf, not-both}
 use Rattle.grid.proofs.CountLaws.{as-many, mapped, matched, together}
 use Rattle.grid.proofs.EdgeHalves.{half-edges}
 
@@ -72,11 +73,23 @@ vertices = record {
       let s = 4 + p .0 in
       let i = 1 + p .2 .0 in
       let hs : IsSide s = omega (arith, p .1) in
-      let l : OneToThree i = omega (arith, p .2 .1) in
-      (codeFor s [], for-code s [] hs none (omega arith), (i, l, for-corner s [] hs none (omega arith) i ∙ first-corner s i l ∙ ap unitAt (p .2 .2)));
+      let l : OneToThree i = omega (arith, p .2 .1) in (
+        codeFor s [],
+        for-code s [] hs none (omega arith),
+        (
+          i,
+          l,
+          for-corner s [] hs none (omega arith) i
+              ∙ first-corner s i l ∙ ap unitAt (p .2 .2),
+        ),
+      );
   every = λ p (t, c, (i, l, e)).
-      let s = sideOf (t .0) in
-      (cornerVertex s i, vertex-small s (code-side c) i l, sym (first-corner s i l) ∙ ap (λ (ds : List ℕ). cornerOf s ds i) (sym (no-digits c)) ∙ sym (corner-at t i) ∙ e);
+      let s = sideOf (t .0) in (
+        cornerVertex s i,
+        vertex-small s (code-side c) i l,
+        sym (first-corner s i l)
+            ∙ ap (λ (ds : List ℕ). cornerOf s ds i) (sym (no-digits c)) ∙ sym (corner-at t i) ∙ e,
+      );
   once = λ u v h k e. units-differ u h v k (ap (λ (w : Weights). getD w u 0) e);
 }
 
@@ -85,7 +98,8 @@ pub corners : (n : ℕ) → n ≤ 24 → Count (10 * 4 ^ n + 2) (IsCorner n)
 corners zero h = vertices
 corners (suc n) h =
     as-many (omega (arith, pow-suc 4 n)) (together {P = IsKept n} {Q = IsMiddle n} {S = IsCorner (suc n)}
-    (λ p (q, c, e). subst (IsCorner (suc n)) e (kept-corner h q c)) (λ p (f, x, e). subst (IsCorner (suc n)) e (middle-corner h f x))
+    (λ p (q, c, e). subst (IsCorner (suc n)) e (kept-corner h q c)) (λ p (f, x, e). subst (IsCorner (suc n)) e
+    (middle-corner h f x))
     (kept-or-middle h) not-both
     (mapped kept (λ q c. (q, c, refl)) (λ p k. k) kept-once (corners n (omega arith)))
     (mapped middleOf (λ f x. (f, x, refl)) (λ p k. k) middle-once (edges n (omega arith))))

@@ -6,12 +6,13 @@ use Prim.Native.Nat.{ℕ, _≤_}
 use native.Mathlib.Omega.{arith}
 use lib.ListN.{length, take, drop, length-append}
 use lib.Seq.{take-append-seam}
-use Rattle.frame.specs.Answers.{Answer, Lent, over}
+use Rattle.frame.specs.Answers.{Known, Lent, over}
 use Rattle.frame.specs.Promises.{_gives_}
-use Rattle.frame.proofs.Answering.{answering, good, keeps, keeps-is, known-one, known-some, passed}
+use Rattle.frame.proofs.Answering.{answering, good, keeps, keeps-is, keeps-known, passed}
 use Rattle.words.specs.Words.{cornerNumber, degreeOf, digitOf, digits, sideOf}
 use Rattle.words.specs.Refusals.{IsCode}
-use Rattle.words.specs.Family.{codeAnswer, noCode, refuseParent, refuseChild, parentOf, childOf, ParentAnswer, ChildAnswer}
+use Rattle.words.specs.Family.{codeAnswer, noCode, refuseParent, refuseChild, parentOf, childOf, ParentAnswer}
+use Rattle.words.specs.Family.{ChildAnswer}
 use Rattle.words.specs.declared.TriangleCode.{TriangleCode}
 use Rattle.words.specs.declared.CodeAnswer.{CodeAnswer}
 use Rattle.words.proofs.Codes.{code-degree}
@@ -50,12 +51,11 @@ pub demand-1 : Demand1
 demand-1 = record {
   check = λ t. keeps-is _ refl (λ n. refl);
   checkNames = λ q. keeps-is _ refl (λ n. refl);
-  parent = λ t. keeps (λ r. r .refusal) refl (λ r g. ap (λ (s : CodeAnswer). s .refusal) g)
-      (known-some _ _ _) (known-one _ _ _);
-  child = λ t d. keeps (λ r. r .refusal) refl (λ r g. ap (λ (s : CodeAnswer). s .refusal) g)
-      (known-some _ _ _) (known-one _ _ _);
+  parent = λ t. keeps-known _ _ _ (λ r. r .refusal) refl refl;
+  child = λ t d. keeps-known _ _ _ (λ r. r .refusal) refl refl;
   cross = λ t k. keeps (λ r. r .refusal) refl (λ r g. g .number) (corners.cross-some t k) (corners.cross-one t k);
-  weights = λ t i out. keeps (λ x. x .0) refl (λ x g. g .0) (corners.weights-some t i out) (corners.weights-one t i out);
+  weights = λ t i out. keeps (λ x. x .0) refl (λ x g. g .0) (corners.weights-some t i out)
+      (corners.weights-one t i out);
   nameWeights = λ q out. keeps (λ x. x .0) refl (λ x g. g .0) (corners.name-weights-some q out)
       (corners.name-weights-one q out);
   coordinates = λ t i. keeps (λ r. r .refusal) refl (λ r g. g .number) (points.place-some t i) (points.place-one t i);
@@ -99,7 +99,7 @@ child-corners t d z =
     ∙ ap (divide d) (sym (triangle-at t))
 
 -- an answered parent or child
-was-answered : {r : CodeAnswer} (f : ℕ) (t : TriangleCode) → Answer f (λ s. s ≡ codeAnswer 0 t) noCode r
+was-answered : {r : CodeAnswer} (f : ℕ) (t : TriangleCode) → Known f (codeAnswer 0 t) noCode r
     → r .refusal ≡ 0 → (f ≡ 0) × (r .code ≡ t)
 was-answered f t a z =
     let e = passed (λ r. r .refusal) refl (λ r g. ap (λ (s : CodeAnswer). s .refusal) g) a z in

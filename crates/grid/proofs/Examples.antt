@@ -28,7 +28,8 @@ use Rattle.corners.specs.Refusals.{refuseNumbered, refuseWeights, refuseBack, r
 use Rattle.directions.specs.Refusals.{refuseFile, refuseList}
 use Rattle.grid.specs.Writing.{decimals, written, cornerIn, minus, up, ticks, point}
 use Rattle.grid.specs.Examples.{Examples, Crossings, Family, Weighed, Rings, Places, Points}
-use Rattle.grid.proofs.Showing.{gives-code, refuses-code, files, lists, lists-refused, crosses, crosses-refused, names, backs}
+use Rattle.grid.proofs.Showing.{gives-code, refuses-code, files, lists, lists-refused, crosses, crosses-refused}
+use Rattle.grid.proofs.Showing.{names, backs}
 use Rattle.grid.proofs.Showing.{weighs, weighs-name}
 use Rattle.grid.proofs.Showing.{weighs-refused, rings-by, rings-refused, passes-by, placed, ticked, pointed}
 use Rattle.grid.proofs.Showing.{placed-name, ticked-name, pointed-name, not-placed, not-pointed}

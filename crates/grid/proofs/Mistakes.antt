@@ -193,7 +193,8 @@ mistakes = record {
   then-zeros = no-other (λ r. r .code .0) (examples .e3) refl;
   also-holds = test-holds (dets (written 500) up) refl;
   not-least = no-other (λ r. r .code .0) (files 0 up (written 100) refl refl) refl;
-  holder-count = λ k out new l n a. n (ap (λ (r : CountAnswer). r .count) (λ i. examples .whole out l .only (_, new) a i .0));
+  holder-count = λ k out new l n a. n
+      (ap (λ (r : CountAnswer). r .count) (λ i. examples .whole out l .only (_, new) a i .0));
   ring-count = λ k out new l n a. n (ap (λ (r : CountAnswer). r .count) (λ i. rings .five out l .only (_, new) a i .0));
   written-on = λ r out new l n a.
       n (λ i. a .refused (λ z.

@@ -8,7 +8,7 @@ use lib.IntN.{ℤ, natAbs}
 use lib.Ieee.{Float, binary64, fits}
 use lib.Ieee.Exact.{HasValue}
 use lib.ListN.{length, take}
-use Rattle.frame.specs.Answers.{over, Answer}
+use Rattle.frame.specs.Answers.{Known, over}
 use Rattle.frame.specs.Promises.{_gives_, _leaves_}
 use Rattle.frame.proofs.Answering.{answering, gives-one, known-one, refusing}
 use Rattle.golden.specs.Drawing.{IsT, quantity}
@@ -65,11 +65,11 @@ use Rattle.directions.proofs.OneFiling.{file-one, list-one}
 -- ---- parent and child: f is the refusal, u the code that they promise
 
 pub gives-code : (f : ℕ) (u t : TriangleCode) → f ≡ 0 → u ≡ t
-    → Answer f (λ s. s ≡ codeAnswer 0 u) noCode gives codeAnswer 0 t
+    → Known f (codeAnswer 0 u) noCode gives codeAnswer 0 t
 gives-code f u t z e = gives-one (known-one f (codeAnswer 0 u) noCode) (answering z (ap (codeAnswer 0) (sym e)))
 
 pub refuses-code : (f : ℕ) (u : TriangleCode) (k : ℕ) → suc k ≡ f
-    → Answer f (λ s. s ≡ codeAnswer 0 u) noCode gives noCode (suc k)
+    → Known f (codeAnswer 0 u) noCode gives noCode (suc k)
 refuses-code f u k e = gives-one (known-one f (codeAnswer 0 u) noCode) (refusing e (λ z. omega arith))
 
 -- ---- filing and listing

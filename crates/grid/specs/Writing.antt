@@ -65,4 +65,11 @@ place a b c = record { refusal = 0; at = coordinates a b c }
 
 -- a point by its refusal and the bits of its coordinates
 abbrev pub point : (refusal x y z : ℕ) → PointAnswer
-point f a b c = record { refusal = f; at = record { x = ofBits binary64 a; y = ofBits binary64 b; z = ofBits binary64 c } }
+point f a b c = record {
+  refusal = f;
+  at = record {
+    x = ofBits binary64 a;
+    y = ofBits binary64 b;
+    z = ofBits binary64 c;
+  };
+}

@@ -54,22 +54,37 @@ some-below (suc m) f = go (some-below m f)
 -- equal weights
 same-weights-is : (p q : Weights) → (sameWeights p q ≡ true) ↔ (p ≡ q)
 same-weights-is [] [] = (λ e. refl, λ e. refl)
-same-weights-is [] (y ∷ ys) = (λ e. absurd (true≢false (sym e)), λ e. let z : _≡_ {A = ℕ} 0 1 = cc in absurd (omega arith))
-same-weights-is (x ∷ xs) [] = (λ e. absurd (true≢false (sym e)), λ e. let z : _≡_ {A = ℕ} 0 1 = cc in absurd (omega arith))
+same-weights-is [] (y ∷ ys) = (
+  λ e. absurd (true≢false (sym e)),
+  λ e. let z : _≡_ {A = ℕ} 0 1 = cc in absurd (omega arith),
+)
+same-weights-is (x ∷ xs) [] = (
+  λ e. absurd (true≢false (sym e)),
+  λ e. let z : _≡_ {A = ℕ} 0 1 = cc in absurd (omega arith),
+)
 same-weights-is (x ∷ xs) (y ∷ ys) = (
-  λ e. let p = and-true (eqb x y) (sameWeights xs ys) .0 e in let a = eqb-true x y (p .0) in let b = same-weights-is xs ys .0 (p .1) in cc,
-  λ e. let a : x ≡ y = cc in let b : xs ≡ ys = cc in and-true (eqb x y) (sameWeights xs ys) .1 (eq-eqb x y a, same-weights-is xs ys .1 b),
+  λ e.
+      let p = and-true (eqb x y) (sameWeights xs ys) .0 e in
+      let a = eqb-true x y (p .0) in
+      let b = same-weights-is xs ys .0 (p .1) in
+      cc,
+  λ e.
+      let a : x ≡ y = cc in
+      let b : xs ≡ ys = cc in
+      and-true (eqb x y) (sameWeights xs ys) .1 (eq-eqb x y a, same-weights-is xs ys .1 b),
 )
 
 pub has-corner : (t : TriangleCode) (p : Weights) → (hasCorner t p ≡ true) ↔ HasCorner t p
 has-corner t p = (
   λ e. ⊎-elim (λ a. (1, omega arith, same-weights-is _ p .0 a))
-      (λ q. ⊎-elim (λ a. (2, omega arith, same-weights-is _ p .0 a)) (λ a. (3, omega arith, same-weights-is _ p .0 a)) (or-true (sameWeights (corner t 2) p) (sameWeights (corner t 3) p) .0 q))
+      (λ q. ⊎-elim (λ a. (2, omega arith, same-weights-is _ p .0 a)) (λ a. (3, omega arith, same-weights-is _ p .0 a))
+      (or-true (sameWeights (corner t 2) p) (sameWeights (corner t 3) p) .0 q))
       (or-true (sameWeights (corner t 1) p) (sameWeights (corner t 2) p either sameWeights (corner t 3) p) .0 e),
   λ h. three (λ i. corner t i ≡ p → hasCorner t p ≡ true)
       (λ e. or-true _ _ .1 (inl (same-weights-is _ p .1 e)))
       (λ e. or-true (sameWeights (corner t 1) p) _ .1 (inr (or-true _ _ .1 (inl (same-weights-is _ p .1 e)))))
-      (λ e. or-true (sameWeights (corner t 1) p) _ .1 (inr (or-true (sameWeights (corner t 2) p) _ .1 (inr (same-weights-is _ p .1 e))))) (h .0) (h .1) (h .2),
+      (λ e. or-true (sameWeights (corner t 1) p) _ .1
+      (inr (or-true (sameWeights (corner t 2) p) _ .1 (inr (same-weights-is _ p .1 e))))) (h .0) (h .1) (h .2),
 )
 
 -- ---- canonical names
@@ -122,5 +137,10 @@ pub name-passes-all : {n : ℕ} {p : Weights} {r : CornerName} → IsName n p r 
 name-passes-all {n} {p} {r} x =
     let f = code-name r (x .code .passes) (x .number .0) (x .number .1) in
     let d : degreeOf (r .0) ≡ n = f .1 ∙ x .code .degreeIs in
-    let own : IsName n (named r) r = record { code = x .code; number = x .number; there = refl; least = λ t c h. x .least t c (h .0, h .1, h .2 ∙ x .there) } in
+    let own : IsName n (named r) r = record {
+      code = x .code;
+      number = x .number;
+      there = refl;
+      least = λ t c h. x .least t c (h .0, h .1, h .2 ∙ x .there);
+    } in
     (name-means r .1 (f .0, subst (λ (m : ℕ). IsName m (named r) r) (sym d) own), d)

@@ -62,7 +62,7 @@ onSide s v (x ∷ xs) = (eqb x 0 either isCornerOf s v) && onSide s (suc v) xs
 abbrev pub onOneSide : Weights → Bool
 onOneSide p = someBelow 20 (λ i. onSide (4 + i) 0 p)
 
--- "Refusal 11 is given exactly when the weights do not add to 2^N or the vertices with non-zero weights are not all corners of one side." "its sum is
--- meant exactly, never wrapped"; "only its first 12 .. places are used"
+-- "Refusal 11 is given exactly when the weights do not add to 2^N or the vertices with non-zero weights are not all
+-- corners of one side." "its sum is meant exactly, never wrapped"; "only its first 12 .. places are used"
 abbrev pub weightRows : ℕ → List ℕ → List Row
 weightRows n list = 11 when (not (eqb (sum (take 12 list)) (2 ^ n)) either not (onOneSide (take 12 list))) ∷ []

@@ -139,5 +139,9 @@ pub fn seam_side(s: u64, k: u64) -> u64
 pub fn seam_kept(s: u64, k: u64) -> u64
     ensures { λ r. ⌜ r ≡ seamKept s k ⌝ }
 {
-    if s % 2 == 0 { 1 } else { k }
+    let q = s % 2;
+    match q {
+        0 => 1,
+        _ => k,
+    }
 }

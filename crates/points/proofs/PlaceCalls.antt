@@ -60,7 +60,8 @@ pub record Serves (f g : ℕ) (p out : List ℕ) : Type 0 where
   pub twelve : f ≡ 0 → Twelve p
   pub room : length out ≡ 12
 
-pub numbered-serves : (t : TriangleCode) (i : ℕ) (out : List ℕ) → length out ≡ 12 → Serves (refuseNumbered t i) (refuseWeights t i out) (corner t i) out
+pub numbered-serves : (t : TriangleCode) (i : ℕ) (out : List ℕ) → length out ≡ 12
+    → Serves (refuseNumbered t i) (refuseWeights t i out) (corner t i) out
 numbered-serves t i out l = record {
   passes = λ z. weights-passes t i out .1 (z, omega (arith, l));
   first = weights-first t i out refl;
@@ -68,7 +69,8 @@ numbered-serves t i out l = record {
   room = l;
 }
 
-pub name-serves : (q : CornerName) (out : List ℕ) → length out ≡ 12 → Serves (checkName q) (refuseNameWeights q out) (named q) out
+pub name-serves : (q : CornerName) (out : List ℕ) → length out ≡ 12 → Serves (checkName q) (refuseNameWeights q out)
+    (named q) out
 name-serves q out l = record {
   passes = λ z. name-weights-passes q out .1 (z, omega (arith, l));
   first = name-weights-first q out refl;
@@ -79,7 +81,8 @@ name-serves q out l = record {
 over-all : (xs out : List ℕ) → length xs ≡ length out → over xs out ≡ xs
 over-all xs out e = ap (λ (n : ℕ). xs ++ drop n out) e ∙ ap (λ (l : List ℕ). xs ++ l) (drop-length out) ∙ append-nil xs
 
-module _ {f g : ℕ} {p out : List ℕ} (s : Serves f g p out) {k : ℕ} {new : List ℕ} (w : Lent g (Put p out) (λ m. m) out k new) where
+module _ {f g : ℕ} {p out : List ℕ} (s : Serves f g p out) {k : ℕ} {new : List ℕ}
+    (w : Lent g (Put p out) (λ m. m) out k new) where
   number-found : k ≡ f
   number-found = ⊎-elim (λ z. w .answered (s .passes z) .0 ∙ sym z)
       (λ n. ap (λ (x : ℕ × List ℕ). x .0) (w .refused (λ e. n (s .first n ∙ e))) ∙ sym (s .first n)) (answers-or-not f)
@@ -90,10 +93,15 @@ module _ {f g : ℕ} {p out : List ℕ} (s : Serves f g p out) {k : ℕ} {new : 
   pub weights-twelve : k ≡ 0 → Twelve new
   weights-twelve e = let z : f ≡ 0 = sym number-found ∙ e in subst Twelve (sym (written z)) (s .twelve z)
 
-  pub place-answers : {r : CoordinatesAnswer} → Answer k (Placed (exact new)) noCoordinates r → Answer f (Placed (exact p)) noCoordinates r
+  pub place-answers : {r : CoordinatesAnswer} → Answer k (Placed (exact new)) noCoordinates r
+      → Answer f (Placed (exact p)) noCoordinates r
   place-answers {r} a =
-      let b : Answer f (Placed (exact new)) noCoordinates r = subst (λ (m : ℕ). Answer m (Placed (exact new)) noCoordinates r) number-found a in
-      record { answered = λ z. subst (λ (q : Weights). Placed (exact q) r) (written z) (b .answered z); refused = b .refused }
+      let b : Answer f (Placed (exact new)) noCoordinates r =
+      subst (λ (m : ℕ). Answer m (Placed (exact new)) noCoordinates r) number-found a in
+      record {
+        answered = λ z. subst (λ (q : Weights). Placed (exact q) r) (written z) (b .answered z);
+        refused = b .refused;
+      }
 
 -- ---- t and drawn points, from the coordinates
 
@@ -107,13 +115,18 @@ module _ {f : ℕ} {e : Coordinates} {c : CoordinatesAnswer} (a : Answer f (Plac
       (λ n. subst (λ (r : CoordinatesAnswer). Small (r .at)) (sym (a .refused n)) origin-small) (answers-or-not f)
 
   -- what is answered of the coordinates that were found is answered of the corner's
-  of-place : {A : Type 0} (Good : Coordinates → A → Type 0) {zeros : ℕ → A} {r : A} → Answer (c .refusal) (Good (c .at)) zeros r → Answer f (Good e) zeros r
+  of-place : {A : Type 0} (Good : Coordinates → A → Type 0) {zeros : ℕ → A} {r : A}
+      → Answer (c .refusal) (Good (c .at)) zeros r → Answer f (Good e) zeros r
   of-place {A} Good {zeros} {r} x =
       let y : Answer f (Good (c .at)) zeros r = subst (λ (m : ℕ). Answer m (Good (c .at)) zeros r) refusal-is x in
-      record { answered = λ z. subst (λ (k : Coordinates). Good k r) (a .answered z .is) (y .answered z); refused = y .refused }
+      record {
+        answered = λ z. subst (λ (k : Coordinates). Good k r) (a .answered z .is) (y .answered z);
+        refused = y .refused;
+      }
 
   pub ticks-answers : {r : TicksAnswer} → Answer (c .refusal) (Ticked (c .at)) noTicks r → Answer f (Ticked e) noTicks r
   ticks-answers = of-place Ticked
 
-  pub point-answers : {n : ℕ} {r : PointAnswer} → Answer (c .refusal) (Pointed n (c .at)) noPoint r → Answer f (Pointed n e) noPoint r
+  pub point-answers : {n : ℕ} {r : PointAnswer} → Answer (c .refusal) (Pointed n (c .at)) noPoint r
+      → Answer f (Pointed n e) noPoint r
   point-answers {n} = of-place (Pointed n)

@@ -95,7 +95,8 @@ places-rise {n} {t} {u} c d =
       λ h. rw (place-is c, place-is d) (l .1 (⊎-elim (λ s. inl (omega (arith, s, code-side c .0)))
           (λ p. inr (ap (λ (m : ℕ). m - 4) (p .0), p .1)) (o .0 h))),
       λ h. o .1 (⊎-elim (λ s. inl (omega (arith, s)))
-          (λ p. inr (omega (arith, p .0, code-side c .0, code-side d .0), p .1)) (l .0 (rw (place-is c, place-is d) at h))),
+          (λ p. inr (omega (arith, p .0, code-side c .0, code-side d .0), p .1))
+          (l .0 (rw (place-is c, place-is d) at h))),
     )
 
 pub codes-rise : (n i j : ℕ) → n ≤ 24 → i < j → j < 20 * 4 ^ n → codeAt n i .0 < codeAt n j .0

@@ -77,7 +77,8 @@ pub code-passes : (t : TriangleCode) → (checkCode t ≡ 0) ↔ (Fields (t .0) 
 unfolding checkCode
 code-passes t =
     let w = t .0 in (
-      λ e. let n = none-after order order (wordRows w) _ tt tt .0 e in (word-passes w .0 (n .0), low-zero w .0 (n .1 .0)),
+      λ e. let n = none-after order order (wordRows w) _ tt tt .0 e in
+          (word-passes w .0 (n .0), low-zero w .0 (n .1 .0)),
       λ p. none-after order order (wordRows w) _ tt tt .1 (word-passes w .1 (p .0), (low-zero w .1 (p .1), tt)),
     )
 

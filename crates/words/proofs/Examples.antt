@@ -1,5 +1,5 @@
--- Fields at numbers, and the test of the order of refusals. (The words of document 01's examples, and each refusal at its bound, are in the crate grid.)
--- Assumes nothing.
+-- Fields at numbers, and the test of the order of refusals. (The words of document 01's examples, and each refusal at
+-- its bound, are in the crate grid.) Assumes nothing.
 use mathlib.Core.Path.{_≡_, refl}
 use mathlib.Core.Bool.{true, false}
 use mathlib.Core.List.{[], _∷_}

@@ -1,9 +1,8 @@
 -- Document 01, "Parent, child and crossing take a triangle code": parent and child. Assumes nothing.
-use mathlib.Core.Path.{_≡_}
 use Prim.Native.Nat.{ℕ, suc, _-_}
 use mathlib.Core.List.{_∷_, _++_}
 use Rattle.frame.specs.Refusals.{refusal}
-use Rattle.frame.specs.Answers.{Answer}
+use Rattle.frame.specs.Answers.{Known}
 use Rattle.words.specs.Words.{degreeOf, digits, sideOf, path, wordOf}
 use Rattle.words.specs.Refusals.{codeRows, digitRows, parentRows, childRows}
 use Rattle.words.specs.declared.TriangleCode.{TriangleCode}
@@ -35,7 +34,7 @@ childOf t d = let w = t .0 in codeOf (wordOf (sideOf w) (suc (degreeOf w)) (path
 
 -- The complete answers, for every input: what the contracts cite.
 abbrev pub ParentAnswer : TriangleCode → CodeAnswer → Type 0
-ParentAnswer t r = Answer (refuseParent t) (λ s. s ≡ codeAnswer 0 (parentOf t)) noCode r
+ParentAnswer t r = Known (refuseParent t) (codeAnswer 0 (parentOf t)) noCode r
 
 abbrev pub ChildAnswer : TriangleCode → ℕ → CodeAnswer → Type 0
-ChildAnswer t d r = Answer (refuseChild t d) (λ s. s ≡ codeAnswer 0 (childOf t d)) noCode r
+ChildAnswer t d r = Known (refuseChild t d) (codeAnswer 0 (childOf t d)) noCode r

@@ -19,7 +19,8 @@ wordRows w =
     degreeRows (degreeOf w)
     ++ (2 when (eqb (aOf w) 0 either ltb 5 (aOf w)) ∷ 3 when not (eqb (beyond w (degreeOf w)) 0) ∷ [])
 
--- "4: the four zero bits are not zero, or the corner number does not fit the kind of word": "A triangle code has corner number 0."
+-- "4: the four zero bits are not zero, or the corner number does not fit the kind of word": "A triangle code has corner
+-- number 0."
 abbrev pub codeRows : TriangleCode → List Row
 codeRows t = wordRows (t .0) ++ (4 when (not (eqb (zeroBits (t .0)) 0) either not (eqb (cornerNumber (t .0)) 0)) ∷ [])
 

@@ -16,15 +16,19 @@ coordinates-of-requires c κs = search needs
 
 point-answer-requires : tie.Need-point-answer-requires
 point-answer-requires c κs =
-    let a = c .coordinates-of .ensures in
-    (λ z. subst (λ (n : ℕ). n ≤ 24) (sym (c .before .degree-of .ensures)) (numbered-degree _ _ (sym (refusal-is a) ∙ z)), place-small a (numbered-small _ _))
+    let a = c .coordinates-of .ensures in (
+      λ z. subst (λ (n : ℕ). n ≤ 24) (sym (c .before .degree-of .ensures)) (numbered-degree _ _ (sym (refusal-is a)
+          ∙ z)),
+      place-small a (numbered-small _ _),
+    )
 
 returns : tie.Need-returns
 returns c =
     let d = c .before .before .degree-of in
     let r = c .point-answer .result in
     let e = c .before .coordinates-of .result in
-    point-answers (c .before .coordinates-of .ensures) (subst (λ (n : ℕ). Answer (e .refusal) (Pointed n (e .at)) noPoint r) (d .ensures) (c .point-answer .ensures))
+    point-answers (c .before .coordinates-of .ensures)
+    (subst (λ (n : ℕ). Answer (e .refusal) (Pointed n (e .at)) noPoint r) (d .ensures) (c .point-answer .ensures))
 
 pub drawn-of-spec : {M : Type 1} → statement M
 drawn-of-spec =

@@ -16,15 +16,18 @@ coordinates-of-name-requires c κs = search needs
 
 point-answer-requires : tie.Need-point-answer-requires
 point-answer-requires c κs =
-    let a = c .coordinates-of-name .ensures in
-    (λ z. subst (λ (n : ℕ). n ≤ 24) (sym (c .before .degree-of .ensures)) (name-degree _ (sym (refusal-is a) ∙ z)), place-small a (name-small _))
+    let a = c .coordinates-of-name .ensures in (
+      λ z. subst (λ (n : ℕ). n ≤ 24) (sym (c .before .degree-of .ensures)) (name-degree _ (sym (refusal-is a) ∙ z)),
+      place-small a (name-small _),
+    )
 
 returns : tie.Need-returns
 returns c =
     let d = c .before .before .degree-of in
     let r = c .point-answer .result in
     let e = c .before .coordinates-of-name .result in
-    point-answers (c .before .coordinates-of-name .ensures) (subst (λ (n : ℕ). Answer (e .refusal) (Pointed n (e .at)) noPoint r) (d .ensures) (c .point-answer .ensures))
+    point-answers (c .before .coordinates-of-name .ensures)
+    (subst (λ (n : ℕ). Answer (e .refusal) (Pointed n (e .at)) noPoint r) (d .ensures) (c .point-answer .ensures))
 
 pub drawn-of-name-spec : {M : Type 1} → statement M
 drawn-of-name-spec =

@@ -1,4 +1,5 @@
--- The rows of both kinds of word first, and then the zero bits and the corner number (Refusing, Codes). Assumes nothing.
+-- The rows of both kinds of word first, and then the zero bits and the corner number (Refusing, Codes). Assumes
+-- nothing.
 use mathlib.Core.Path.{ap, sym}
 use mathlib.Core.Bool.{not}
 use native.Mathlib.Omega.{arith}
@@ -18,19 +19,22 @@ check-word-requires c κs = search needs
 
 returns : tie.Need-returns
 unfolding checkNameFields
-returns c = refuse-before order order (wordRows (c .before .before .args .r .0)) _ tt tt (c .before .check-word .ensures) (c .if1 .taken)
+returns c = refuse-before order order (wordRows (c .before .before .args .r .0)) _ tt tt
+    (c .before .check-word .ensures) (c .if1 .taken)
 
 returns-2 : tie.Need-returns-2
 unfolding checkNameFields
 returns-2 c =
     let w = c .before .before .before .args .r .0 in
-    refuse-after order order (wordRows w) _ tt tt (omega arith) (here (either-left _ _ (ap not (ne-eqb (zeroBits w) 0 (c .if2 .taken)))))
+    refuse-after order order (wordRows w) _ tt tt (omega arith)
+    (here (either-left _ _ (ap not (ne-eqb (zeroBits w) 0 (c .if2 .taken)))))
 
 returns-3 : tie.Need-returns-3
 unfolding checkNameFields
 returns-3 c =
     let w = c .before .before .before .before .args .r .0 in
-    refuse-after order order (wordRows w) _ tt tt (omega arith) (here (either-right (not (eqb (zeroBits w) 0)) _ (eq-eqb (cornerNumber w) 0 (c .if3 .taken))))
+    refuse-after order order (wordRows w) _ tt tt (omega arith)
+    (here (either-right (not (eqb (zeroBits w) 0)) _ (eq-eqb (cornerNumber w) 0 (c .if3 .taken))))
 
 returns-4 : tie.Need-returns-4
 returns-4 c =

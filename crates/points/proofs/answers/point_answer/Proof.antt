@@ -14,7 +14,8 @@ point-at-requires c κs = let s = c .before .before in (s .pre .0 (c .if1 .left)
 returns-2 : tie.Need-returns-2
 returns-2 c =
     let s = c .before .before .before in
-    answering (c .before .if1 .left) (pointed _ (s .pre .0 (c .before .if1 .left)) (s .pre .1) refl (c .point-at .ensures))
+    answering (c .before .if1 .left) (pointed _ (s .pre .0 (c .before .if1 .left)) (s .pre .1) refl
+    (c .point-at .ensures))
 
 pub point-answer-spec : {M : Type 1} → statement M
 point-answer-spec = tie.close (tie.spec returns point-at-requires returns-2)

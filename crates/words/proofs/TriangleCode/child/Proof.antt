@@ -1,4 +1,5 @@
--- The check first, then the digit, then the degree; the digits of a code with one more fit (Refusing, Answers, Codes). Assumes nothing.
+-- The check first, then the digit, then the degree; the digits of a code with one more fit (Refusing, Answers, Codes).
+-- Assumes nothing.
 use Prim.Native.Nat.{_≤_, _<_, _^_}
 use native.Mathlib.Omega.{arith}
 use native.Mathlib.Numerals.{add-one}
@@ -25,7 +26,8 @@ returns : tie.Need-returns
 unfolding refuseChild checkCode
 returns c =
     let some = c .before .if1 .taken in
-    refuse _ _ (c .refused .ensures) (refuse-before order order (codeRows (c .before .before .before .args .self)) _ tt tt (c .before .before .check .ensures) some) some
+    refuse _ _ (c .refused .ensures) (refuse-before order order (codeRows (c .before .before .before .args .self)) _ tt
+    tt (c .before .before .check .ensures) some) some
 
 refused-requires-2 : tie.Need-refused-requires-2
 refused-requires-2 c κs = search needs
@@ -34,7 +36,8 @@ returns-2 : tie.Need-returns-2
 unfolding refuseChild checkCode
 returns-2 c =
     let a = c .before .before .before .before .args in
-    refuse _ _ (c .refused2 .ensures) (refuse-after order order (codeRows (a .self)) _ tt tt (omega arith) (here (lt-ltb 3 (a .digit) (omega arith)))) (omega arith)
+    refuse _ _ (c .refused2 .ensures) (refuse-after order order (codeRows (a .self)) _ tt tt (omega arith)
+    (here (lt-ltb 3 (a .digit) (omega arith)))) (omega arith)
 
 degree-of-requires : tie.Need-degree-of-requires
 degree-of-requires c κs = search needs
@@ -77,7 +80,9 @@ unfolding path
 word-of-requires c κs = (
   omega arith,
   omega (arith, small (c .before .before)),
-  rw (add-one, c .path-of .ensures) (path-lt (more {d = c .before .before .before .before .before .before .before .args .digit} (omega arith) (digits-are _ _))),
+  rw (add-one, c .path-of .ensures)
+      (path-lt (more {d = c .before .before .before .before .before .before .before .args .digit} (omega arith)
+      (digits-are _ _))),
 )
 
 answered-requires : tie.Need-answered-requires

@@ -24,7 +24,8 @@ returns : tie.Need-returns
 unfolding refuseParent checkCode
 returns c =
     let some = c .before .if1 .taken in
-    refuse _ _ (c .refused .ensures) (refuse-before order order (codeRows (c .before .before .before .args .self)) _ tt tt (c .before .before .check .ensures) some) some
+    refuse _ _ (c .refused .ensures) (refuse-before order order (codeRows (c .before .before .before .args .self)) _ tt
+    tt (c .before .before .check .ensures) some) some
 
 degree-of-requires : tie.Need-degree-of-requires
 degree-of-requires c κs = search needs
@@ -36,7 +37,8 @@ returns-2 : tie.Need-returns-2
 unfolding refuseParent checkCode
 returns-2 c =
     let t = c .before .before .before .before .before .args .self in
-    refuse _ _ (c .refused2 .ensures) (refuse-after order order (codeRows t) _ tt tt (omega arith) (here (eq-eqb (degreeOf (t .0)) 0 (omega arith)))) (omega arith)
+    refuse _ _ (c .refused2 .ensures) (refuse-after order order (codeRows t) _ tt tt (omega arith)
+    (here (eq-eqb (degreeOf (t .0)) 0 (omega arith)))) (omega arith)
 
 small : (c : tie.Else2) → c .before .degree-of .result ≤ 24
 small c = omega (arith, code-passes (c .before .before .before .before .args .self) .0 (omega arith) .0 .degree)
@@ -54,7 +56,11 @@ path-of-requires : tie.Need-path-of-requires
 path-of-requires c κs = omega (arith, small (c .before))
 
 word-of-requires : tie.Need-word-of-requires
-word-of-requires c κs = (omega arith, omega (arith, small (c .before .before)), rw (c .path-of .ensures) (path-lt (digits-are _ _)))
+word-of-requires c κs = (
+  omega arith,
+  omega (arith, small (c .before .before)),
+  rw (c .path-of .ensures) (path-lt (digits-are _ _)),
+)
 
 answered-requires : tie.Need-answered-requires
 answered-requires c κs = search needs
@@ -63,7 +69,8 @@ returns-3 : tie.Need-returns-3
 unfolding refuseParent checkCode parentOf
 returns-3 c =
     let t = c .before .before .before .before .before .before .before .before .args .self in
-    accept _ _ (c .answered .ensures) (refuse-after order order (codeRows t) _ tt tt (omega arith) (next (ne-eqb (degreeOf (t .0)) 0 (omega arith)) nothing)) (cc)
+    accept _ _ (c .answered .ensures) (refuse-after order order (codeRows t) _ tt tt (omega arith)
+    (next (ne-eqb (degreeOf (t .0)) 0 (omega arith)) nothing)) (cc)
 
 pub parent-spec : {M : Type 1} → statement M
 parent-spec =

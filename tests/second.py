@@ -1,11 +1,12 @@
 #!/usr/bin/env python3
-"""A second program for the grid of document 01, "The grid, its words and its rules", written from that paper and the requests of
-document 02 alone.
+"""A second program for the grid of document 01, "The grid, its words and its rules", written from that paper and the
+requests of document 02 alone.
 
-It answers by literal search, in whole numbers: corners by the division rule on twelve weights; neighbours, names and rings by
-comparing corners over the triangles of the degree; holders by the three determinants. To degree 5 every triangle is compared
-(to degree 3 for directions). Below that the search comes down from all twenty sides, and leaves out only triangles that can not
-have the corner, or do not hold the direction. There are no rules for steps, seams or names here.
+It answers by literal search, in whole numbers: corners by the division rule on twelve weights; neighbours, names and
+rings by comparing corners over the triangles of the degree; holders by the three determinants. To degree 5 every
+triangle is compared (to degree 3 for directions). Below that the search comes down from all twenty sides, and leaves
+out only triangles that can not have the corner, or do not hold the direction. There are no rules for steps, seams or
+names here.
 
     second.py CALLS ANSWERS    writes the calls, one a line, and the answers that the console must give to them
     second.py --answer         answers the call lines of standard input, all but help
@@ -107,7 +108,8 @@ def children(triangle):
 
 @lru_cache(maxsize=1 << 17)
 def exact(weights):
-    # "The exact coordinate is the weighted sum of the vertex directions, kept on each axis as two signed whole numbers u, v"
+    # "The exact coordinate is the weighted sum of the vertex directions, kept on each axis as two signed whole numbers
+    # u, v"
     at = [[0, 0], [0, 0], [0, 0]]
     for vertex, k in zip(ORDER, weights):
         if k:
@@ -121,8 +123,8 @@ def exact(weights):
 
 
 def make_code(side, digits):
-    # "a (3 bits), p (1), q (1), degree (5), twenty-four digits of 2 bits with the first digit first, four zero bits, corner
-    # number (2). A triangle code has corner number 0."
+    # "a (3 bits), p (1), q (1), degree (5), twenty-four digits of 2 bits with the first digit first, four zero bits,
+    # corner number (2). A triangle code has corner number 0."
     a, p, q = side
     code = a << 61 | p << 60 | q << 59 | len(digits) << 54
     for place, digit in enumerate(digits):
@@ -190,7 +192,8 @@ def whole_degree(n):
 
 @lru_cache(maxsize=None)
 def whole_index(n):
-    """The search over all triangles of a degree, indexed: each corner, with every (code, number) that has it, rising."""
+    """The search over all triangles of a degree, indexed: each corner, with every (code, number) that has it,
+    rising."""
     index = {}
     for code, triangle in whole_degree(n).items():
         for number in (1, 2, 3):
@@ -215,7 +218,8 @@ def with_numbers(level, p):
 
 
 def come_down(level, left, keep):
-    """The triangles `left` degrees below those of the level, through triangles that `keep`, asked with the degrees then left."""
+    """The triangles `left` degrees below those of the level, through triangles that `keep`, asked with the degrees then
+    left."""
     level = [(code, triangle) for code, triangle in level if keep(triangle, left)]
     while left > 0:
         left -= 1
@@ -225,9 +229,9 @@ def come_down(level, left, keep):
 
 
 def deep_search(n, p):
-    """Every triangle of degree n that has the corner p, by coming down from all sides. A corner below a triangle is reached by
-    middles of middles, so each of its weights lies between the least and the greatest of the three corners', doubled as often as
-    there are degrees between."""
+    """Every triangle of degree n that has the corner p, by coming down from all sides. A corner below a triangle is
+    reached by middles of middles, so each of its weights lies between the least and the greatest of the three corners',
+    doubled as often as there are degrees between."""
 
     def can_have(triangle, left):
         return all(min(x, y, z) << left <= w <= max(x, y, z) << left for x, y, z, w in zip(*triangle, p))
@@ -280,7 +284,8 @@ def above_zero(x):
 
 
 def crossed(y, z):
-    """The three two-by-two determinants of y and z, so that the determinant of x, y, z is x times them, axis by axis."""
+    """The three two-by-two determinants of y and z, so that the determinant of x, y, z is x times them, axis by
+    axis."""
     return (
         minus(times(y[1], z[2]), times(y[2], z[1])),
         minus(times(y[2], z[0]), times(y[0], z[2])),
@@ -298,8 +303,8 @@ def determinant(x, y, z):
 
 @lru_cache(maxsize=1 << 12)
 def neighbour(code, edge):
-    # "Edge k lies opposite corner k." "Crossing an edge answers the neighbour's code and the number of the shared edge there."
-    # The neighbour is the other triangle that has both corners of the edge.
+    # "Edge k lies opposite corner k." "Crossing an edge answers the neighbour's code and the number of the shared edge
+    # there." The neighbour is the other triangle that has both corners of the edge.
     one, two = (p for number, p in enumerate(corners(code), 1) if number != edge)
     have_two = {other for other, _ in having(degree_of(code), two)}
     others = [other for other, _ in having(degree_of(code), one) if other in have_two and other != code]
@@ -310,8 +315,8 @@ def neighbour(code, edge):
 
 def both_numbers(code, edge):
     """The edge's two corners in rising number, each as (number here, number in the neighbour)."""
-    # Document 02, 2026-06: "for the shared edge's two corners in rising number, their numbers in the neighbour". Document 01:
-    # "Two corners of one degree are the same point exactly when all twelve weights agree."
+    # Document 02, 2026-06: "for the shared edge's two corners in rising number, their numbers in the neighbour".
+    # Document 01: "Two corners of one degree are the same point exactly when all twelve weights agree."
     other, _ = neighbour(code, edge)
     ours = [(here, p) for here, p in enumerate(corners(code), 1) if here != edge]
     pairs = [(here, there) for here, p in ours for there, q in enumerate(corners(other), 1) if p == q]
@@ -328,8 +333,8 @@ def ends_round(p, triangle):
 
 @lru_cache(maxsize=1 << 12)
 def round_corner(name):
-    # "its triangles, 5 if the corner has only one non-zero weight, else 6, anticlockwise seen from outside, beginning with the
-    # triangle inside the corner's own name"
+    # "its triangles, 5 if the corner has only one non-zero weight, else 6, anticlockwise seen from outside, beginning
+    # with the triangle inside the corner's own name"
     start = name - corner_number(name)
     p = corners(start)[corner_number(name) - 1]
     ends = {code: ends_round(p, corners(code)) for code, _ in having(degree_of(name), p)}
@@ -348,7 +353,8 @@ def round_corner(name):
 @lru_cache(maxsize=1 << 13)
 def walls(triangle):
     # "put the direction in place of corner 1, 2 or 3 among the triangle's three exact corner coordinates in order": the
-    # determinants of (d, b, c), (a, d, c), (a, b, d) are d times these, axis by axis. For each: the three u, and the three v.
+    # determinants of (d, b, c), (a, d, c), (a, b, d) are d times these, axis by axis. For each: the three u, and the
+    # three v.
     a, b, c = map(exact, triangle)
     return [tuple(zip(*n)) for n in (crossed(b, c), crossed(c, a), crossed(a, b))]
 
@@ -373,7 +379,8 @@ def deep_holders(n, d):
     if n == 0:
         found = list(whole_degree(0).items())
     else:
-        found = [(child_code(c, k), x) for c, triangle in deep_holders(n - 1, d) for k, x in enumerate(children(triangle))]
+        above = deep_holders(n - 1, d)
+        found = [(child_code(code, k), x) for code, triangle in above for k, x in enumerate(children(triangle))]
     return [(code, triangle) for code, triangle in found if holds(triangle, d)]
 
 
@@ -532,8 +539,8 @@ def back_refusals(n, weights):
     if not r:
         p = tuple(weights[:12])
         r = when(11, not having(n, p))
-        # "Refusal 11 is given exactly when the weights do not add to 2^N or the vertices with non-zero weights are not all
-        # corners of one side."
+        # "Refusal 11 is given exactly when the weights do not add to 2^N or the vertices with non-zero weights are not
+        # all corners of one side."
         used = {vertex for vertex, w in zip(ORDER, p) if w != 0}
         must((not r) == (sum(p) == 2**n and any(used <= one for one in SIDE_SETS)), "row 11", n, p)
     return r
@@ -729,7 +736,8 @@ def read_places(text):
     return within(read_number(text), 0, 16)
 
 
-READERS = {"CODE": read_code, "NAME": read_hex, "X": read_signed, "Y": read_signed, "Z": read_signed, "[PLACES]": read_places}
+SIGNED = dict.fromkeys("XYZ", read_signed)
+READERS = {"CODE": read_code, "NAME": read_hex, **SIGNED, "[PLACES]": read_places}
 
 ANSWERS = {
     "check CODE": call_check,
@@ -790,10 +798,12 @@ def check_crossing(code, edge):
     must(neighbour(other, shared) == (code, edge), "there and back", code, edge)
     # Document 02, 2026-06: "Tell me how the corners turned."
     pairs = both_numbers(code, edge)
-    must(sorted((there, here) for here, there in pairs) == both_numbers(other, shared), "the pairs turned round", code, edge)
+    turned = sorted((there, here) for here, there in pairs)
+    must(turned == both_numbers(other, shared), "the pairs turned round", code, edge)
     must({1, 2, 3} - {there for _, there in pairs} == {shared}, "the third number is the edge's", code, edge)
     for here, there in pairs:
-        must((other, there) in having(degree_of(code), corners(code)[here - 1]), "the same corner", code, edge, here, there)
+        p = corners(code)[here - 1]
+        must((other, there) in having(degree_of(code), p), "the same corner", code, edge, here, there)
 
 
 def check_degree(n):
@@ -816,7 +826,8 @@ def check_degree(n):
 
 
 def search_by_determinants(n, p):
-    """Every triangle of degree n that has the corner p, by coming down through triangles that hold its exact coordinate."""
+    """Every triangle of degree n that has the corner p, by coming down through triangles that hold its exact
+    coordinate."""
     at = exact(p)
 
     def holds_it(triangle, left):
@@ -847,7 +858,8 @@ def literal_holds(triangle, d):
 
 
 def check_holders(directions):
-    """Coming down against the search over all triangles of degrees 0 to 4, with determinants written out for a share."""
+    """Coming down against the search over all triangles of degrees 0 to 4, with determinants written out for a
+    share."""
     for at, d in enumerate(directions):
         for n in range(FULL + 2):
             must(full_holders(n, d) == sorted(code for code, _ in deep_holders(n, d)), "coming down", n, d)
@@ -910,8 +922,8 @@ def check_examples():
     must(answer("file 3 -1 -1 -1") == code_text(word("410000")), "E5")
     must(answer("file 2 1 0 0") == code_text(word("11102")), "E6")
     must(answer("file 2 0 0 -1") == code_text(word("21003")), "E7")
-    # Document 02, 2026-06: "For E8 corners 1 and 3 become 1 and 2." By the division rule corners 2 and 3 of E9 are 2·V(10) and
-    # V(10) + V(20), there 3 and 2; corners 1 and 3 of E10 are 2·V(11) and V(10) + V(11), there 3 and 1.
+    # Document 02, 2026-06: "For E8 corners 1 and 3 become 1 and 2." By the division rule corners 2 and 3 of E9 are
+    # 2·V(10) and V(10) + V(20), there 3 and 2; corners 1 and 3 of E10 are 2·V(11) and V(10) + V(11), there 3 and 1.
     must(answer("cross 1001 2") == code_text(word("2001")) + " edge 3 corners 1 2", "E8")
     must(answer("cross 1002 1") == code_text(word("1013")) + " edge 1 corners 3 2", "E9")
     must(answer("cross 1011 2") == code_text(word("5113")) + " edge 2 corners 3 1", "E10")
@@ -944,7 +956,8 @@ MOST = 2**64 - 1
 
 
 def example_calls():
-    yield from ["check 0x2000000000000000", "check 100", "check 1001", "check 0x2050000000000000", "child 100 1", "parent 1001"]
+    yield from ["check 0x2000000000000000", "check 100", "check 1001", "check 0x2050000000000000"]
+    yield from ["child 100 1", "parent 1001"]
     yield from ["file 2 0 0 1", "file 3 1 1 1", "file 3 -1 -1 -1", "file 2 1 0 0", "file 2 0 0 -1"]
     yield from ["cross 1001 2", "cross 1002 1", "cross 1011 2", "name 100 3", "t 410 3", "name-t 0x2000000000000003"]
     yield from ["list 0 0 0 1", "list 0 0 0 1 6", "list 0 0 0 1 8"]
@@ -985,7 +998,7 @@ def every_corner():
 
 
 def other_words():
-    """Words that pass 1 to 4 as a corner name and are not the canonical one: all to degree 2, and a share of the others."""
+    """Words that pass 1 to 4 as a corner name and are not the canonical one: all to degree 2, a share of the others."""
     for n in range(WHOLE + 1):
         at = 0
         for found in whole_index(n).values():
@@ -1040,7 +1053,8 @@ def small_directions():
 
 def far_directions():
     ends = itertools.product((-FAR, 0, FAR), repeat=3)
-    near = [(FAR, FAR - 1, -FAR), (-FAR, 1, FAR), (1, -FAR, -1), (FAR - 1, FAR, FAR), (0, 1, FAR), (1, 0, -FAR), (FAR, -1, -1)]
+    near = [(FAR, FAR - 1, -FAR), (-FAR, 1, FAR), (1, -FAR, -1), (FAR - 1, FAR, FAR)]
+    near += [(0, 1, FAR), (1, 0, -FAR), (FAR, -1, -1)]
     return [d for d in ends if any(d)] + near
 
 
@@ -1068,8 +1082,9 @@ def plain_crossed(y, z):
 
 
 def on_edges(chance):
-    """Whole directions on edges inside a side. A line of degree n through a side runs between a point of one edge and a point of
-    another; a whole direction lies in its plane exactly when its products with the u and the v of the plane are both zero."""
+    """Whole directions on edges inside a side. A line of degree n through a side runs between a point of one edge and a
+    point of another; a whole direction lies in its plane exactly when its products with the u and the v of the plane
+    are both zero."""
     found = []
     for n in (n for n in range(1, 15) for _ in range(30)):
         side = side_triangle(chance.choice(SIDES))
@@ -1103,7 +1118,8 @@ def close_to(at):
 
 
 def close_directions(chance):
-    """Close to vertices, to corners and to points of edges, as close as the bounds allow and less, and one step beside."""
+    """Close to vertices, to corners and to points of edges, as close as the bounds allow and less, and one step
+    beside."""
     points = [vertex_weights(v) for v in ORDER]
     for n in (1, 2, 3, 4, 5, 6, 8, 10):
         for _ in range(2):
@@ -1137,7 +1153,8 @@ def all_directions():
 
 
 def direction_calls():
-    """The list for degrees 0 to 4, and list and file for a share of all degrees; for some directions both for all degrees."""
+    """The list for degrees 0 to 4, and list and file for a share of all degrees; for some directions both for all
+    degrees."""
     chance = random.Random(3)
     for at, (x, y, z) in enumerate(all_directions()):
         every = at % 14 == 0
@@ -1313,14 +1330,16 @@ def fixed_words():
 
 
 def list_lengths():
-    # "list lengths 5 and 6, 11 and 12", and others, for a corner with 5 and one with 6 triangles, and directions with 1, 2, 6.
+    # "list lengths 5 and 6, 11 and 12", and others, for a corner with 5 and one with 6 triangles, and directions with
+    # 1, 2, 6.
     names = [0x2000000000000001, 0x2000000000000002, 0x2040000000000001, 0x2600000000000001]
     names.append(canonical(3, corners(read_triangle("210123"))[0]))
+    codes = ["100", "511", "3010123", "2113120312", "100111111111111111111111111", "000", "600", "0x2000000000000001"]
     for places in (0, 1, 5, 6, 7, 8, 11, 12, 13, 15, 16):
         for one in names:
             yield f"ring {word_text(one)} {places}"
             yield f"name-weights {word_text(one)} {places}"
-        for code in ("100", "511", "3010123", "2113120312", "100111111111111111111111111", "000", "600", "0x2000000000000001"):
+        for code in codes:
             for i in (0, 1, 3, 4):
                 yield f"weights {code} {i} {places}"
         for n in (0, 1, 7, 24, 25):
@@ -1346,7 +1365,8 @@ def spread(parts):
 
 
 def wrong_weights(n, chance):
-    """Weights that do not add up, add up only modulo 2^64 or 2^32, or lie on no common side; and lists of other lengths."""
+    """Weights that do not add up, add up only modulo 2^64 or 2^32, or lie on no common side; and lists of other
+    lengths."""
     one = 2**n
     a, b, c = side_vertices(*chance.choice(SIDES))
     good = spread({a: one})
@@ -1410,12 +1430,14 @@ def refusal_calls():
 
 
 def good_arguments(kinds):
-    good = {"CODE": "100", "NAME": "0x2000000000000001", "DEGREE": "0", "WEIGHTS": "1 0 0 0 0 0 0 0 0 0 0 0", "[PLACES]": "12"}
+    good = {"CODE": "100", "NAME": "0x2000000000000001", "DEGREE": "0", "[PLACES]": "12"}
+    good["WEIGHTS"] = "1 0 0 0 0 0 0 0 0 0 0 0"
     return [good.get(kind, "1") for kind in kinds]
 
 
 BAD_NUMBERS = """
-    18446744073709551616 99999999999999999999999999 0x10000000000000000 0x00000000000000001 -1 +1 1.0 0x x1 1x 1, 0xG 1_0 ٣
+    18446744073709551616 99999999999999999999999999 0x10000000000000000 0x00000000000000001 -1 +1 1.0 0x x1 1x 1, 0xG
+    1_0 ٣
 """.split()
 BAD_CODES = """
     10 1 800 120 102 1004 10O 100- -100 1000000000000000000000000000 0x 0xg1 0x20000000000000000 0X2000000000000000 100,
@@ -1443,8 +1465,9 @@ def written(text):
 
 # What can not be read is said before any refusal.
 UNREADABLE_AND_REFUSED = """
-    child 600 x; child 000 18446744073709551616; weights 000 9 17; weights 100 4 x; ring 0x0 17; ring 0xFFFFFFFFFFFFFFFF -1
-    file 25 0 0 2147483648; file 25 0 0; list 25 0 0 0 17; list 99 -2147483649 0 0; name-weights 0x0 17; cross 700 0 1; back 25 x
+    child 600 x; child 000 18446744073709551616; weights 000 9 17; weights 100 4 x; ring 0x0 17
+    ring 0xFFFFFFFFFFFFFFFF -1; file 25 0 0 2147483648; file 25 0 0; list 25 0 0 0 17; list 99 -2147483649 0 0
+    name-weights 0x0 17; cross 700 0 1; back 25 x
     back 25 0 0 0 0 0 0 0 0 0 0 0 0 0 0 0 0 0; parent 100 1; check-name 100
 """
 
@@ -1452,6 +1475,7 @@ UNREADABLE_AND_REFUSED = """
 def unreadable_calls():
     """Every call with arguments missing, one too many, and each argument unreadable."""
     chance = random.Random(9)
+    with_all = ("check", "check-name", "child", "file", "list", "ring")
     for call, (_, kinds, _) in FORMS.items():
         good = good_arguments(kinds)
         least = len(kinds) - (kinds[-1] in ("[PLACES]", "WEIGHTS"))
@@ -1461,7 +1485,7 @@ def unreadable_calls():
         yield " ".join([call] + good + ["# note"])
         for at, kind in enumerate(kinds):
             bad = BAD.get(kind, BAD_NUMBERS)
-            for word in bad if call in ("check", "check-name", "child", "file", "list", "ring") else chance.sample(bad, 4):
+            for word in bad if call in with_all else chance.sample(bad, 4):
                 yield as_bytes(" ".join([call] + good[:at] + [word] + good[at + 1 :]))
     for at, word in enumerate(BAD_NUMBERS):
         yield as_bytes("back 1 " + " ".join(["0"] * at + [word] + ["0"] * (13 - at)))
@@ -1469,40 +1493,43 @@ def unreadable_calls():
 
 
 UNKNOWN = """
-    foo; Check 100; CHECK 100; checks 100; chec 100; check100; check:100; 100; 0x2000000000000000; -; --help; Help; HELP; helpme
-    ?; exit; quit; check_name 0x2000000000000001; name_weights 1; names 100 1; names; crossing 1001 2; T 100 1; t1 100 1; tt
-    rings; Ring 0x2000000000000001; filed 0 1 1 1; lists 0 1 1 1; weight 100 1; backs 0 1; bit 100 1; drawn-name 100 1
-    exact-name 100 1; name-; -name; name-name 1; check#; check, 100; chéck 100; check\u00a0100; \u2003check 100
-    \ufeffcheck 100; φ
+    foo; Check 100; CHECK 100; checks 100; chec 100; check100; check:100; 100; 0x2000000000000000; -; --help; Help; HELP
+    helpme; ?; exit; quit; check_name 0x2000000000000001; name_weights 1; names 100 1; names; crossing 1001 2; T 100 1
+    t1 100 1; tt; rings; Ring 0x2000000000000001; filed 0 1 1 1; lists 0 1 1 1; weight 100 1; backs 0 1; bit 100 1
+    drawn-name 100 1; exact-name 100 1; name-; -name; name-name 1; check#; check, 100; chéck 100; check\u00a0100
+    \u2003check 100; \ufeffcheck 100; φ
 """
 
 
 def unknown_calls():
     """Only spaces, tabs and carriage returns stand between words; any other byte belongs to a word."""
     yield from written(UNKNOWN)
-    yield from ["check\x0b100", "\x0bcheck 100", "check\x0c 100", "check\x00 100", "\x00", "\x1acheck 100", "\x7f", "\xff\xfe"]
-    yield from ["\x80check 100", "check 100\x0b", "check \x0c100", "check 100\x00", "file 0 1 1 1\x0c", "child 100 \x001"]
+    yield from ["check\x0b100", "\x0bcheck 100", "check\x0c 100", "check\x00 100", "\x00", "\x1acheck 100"]
+    yield from ["\x7f", "\xff\xfe", "\x80check 100", "check 100\x0b", "check \x0c100", "check 100\x00"]
+    yield from ["file 0 1 1 1\x0c", "child 100 \x001"]
     yield as_bytes("check 100\u00a0")
 
 
 def empty_lines():
     yield from ["", " ", "\t", "\r", "  \t \r ", "\r\r", " " * 80, "", "", "\t\t\t"]
-    yield from ["#", "# a note", "#check 100", "  # check 100", "\t#\t", "\r# x", "##", "#\x00", "# 100 1", "#error", "   #"]
-    yield from ["# " + "x" * 500, " \t# 0x2000000000000000 \r", "#\xff", "\r \t#"]
+    yield from ["#", "# a note", "#check 100", "  # check 100", "\t#\t", "\r# x", "##", "#\x00", "# 100 1"]
+    yield from ["#error", "   #", "# " + "x" * 500, " \t# 0x2000000000000000 \r", "#\xff", "\r \t#"]
 
 
 READABLE = """
-    child 100 0x1; child 100 0x0000000000000003; child 100 000000000000000000000000000000000003; child 100 0x4; cross 1001 0x2
-    cross 1001 00002; cross 0x2050000000000000 2; name 100 03; weights 100 1 0x0c; weights 100 0x2 0x0C; weights 100 1 0012
-    ring 0x2000000000000001 0x06; ring 0x2000000000000001 0x10; ring 0x2000000000000001 016; ring 0x2000000000000001 0x5
-    ring 0x2000000000000001 0x0000000000000005; file 0x2 0 0 1; file 0x18 0 0 1; file 0x19 0 0 1; file 024 0 0 1
+    child 100 0x1; child 100 0x0000000000000003; child 100 000000000000000000000000000000000003; child 100 0x4
+    cross 1001 0x2; cross 1001 00002; cross 0x2050000000000000 2; name 100 03; weights 100 1 0x0c; weights 100 0x2 0x0C
+    weights 100 1 0012; ring 0x2000000000000001 0x06; ring 0x2000000000000001 0x10; ring 0x2000000000000001 016
+    ring 0x2000000000000001 0x5; ring 0x2000000000000001 0x0000000000000005
+    file 0x2 0 0 1; file 0x18 0 0 1; file 0x19 0 0 1; file 024 0 0 1
     file 2 -0 -000 0001; file 2 -0 0 -0; file 2 00 -0001 0; list 2 000 0 -00001 0x7; file 2 -0000000002147483648 0 0
     file 18446744073709551615 1 1 1; file 0xFFFFFFFFFFFFFFFF 1 1 1; file 0xffffffffffffffff 0 0 0
-    list 018446744073709551615 1 1 1 5; file 0000000000000000000000000025 1 1 1; check 0x0; check 0x1; check 0xa000000000000000
-    check 0xA000000000000000; check 0xaBcDeF0123456789; check-name 0x3; check-name 0x0; check-name 0xbE00000000000003
-    check 000; check 0003; check 6001; check 711; check 711333333333333333333333333; check 511333333333333333333333333
-    parent 600; parent 7013; child 000 4; back 0 0x1 0 0 0 0 0 0 0 0 0 0 0x0; back 0x0 01 00 0 0 0 0 0 0 0 0 0 0; back 0; back 25
-    back 0x18; back 1 2 0 0 0 0 0 0 0 0 0 0 0 0xFFFFFFFFFFFFFFFF; weights 100 18446744073709551615
+    list 018446744073709551615 1 1 1 5; file 0000000000000000000000000025 1 1 1; check 0x0; check 0x1
+    check 0xa000000000000000; check 0xA000000000000000; check 0xaBcDeF0123456789; check-name 0x3; check-name 0x0
+    check-name 0xbE00000000000003; check 000; check 0003; check 6001; check 711; check 711333333333333333333333333
+    check 511333333333333333333333333
+    parent 600; parent 7013; child 000 4; back 0 0x1 0 0 0 0 0 0 0 0 0 0 0x0; back 0x0 01 00 0 0 0 0 0 0 0 0 0 0; back 0
+    back 25; back 0x18; back 1 2 0 0 0 0 0 0 0 0 0 0 0 0xFFFFFFFFFFFFFFFF; weights 100 18446744073709551615
     weights 100 0xFFFFFFFFFFFFFFFF 3; name-drawn 0x2000000000000003
 """
 

@@ -3,10 +3,15 @@
 requests of document 02 alone.
 
 It answers by literal search, in whole numbers: corners by the division rule on twelve weights; neighbours, names and
-rings by comparing corners over the triangles of the degree; holders by the three determinants. To degree 5 every
-triangle is compared (to degree 3 for directions). Below that the search comes down from all twenty sides, and leaves
-out only triangles that can not have the corner, or do not hold the direction. There are no rules for steps, seams or
-names here.
+rings by comparing corners over the triangles of the degree; holders by the three determinants. A corner is compared
+with those of every triangle of its degree to degree 5, a direction is tried in every triangle to degree 3. Below that
+the search comes down from all twenty sides, and leaves out only triangles that can not have the corner, or do not hold
+the direction. There are no rules for steps, seams or names here.
+
+It calls for "every triangle to degree 5": check and parent; child, as far as degree 5 is the answer; cross, name,
+weights, exact, t, drawn and bits with each number; file and list for a direction in its middle, and for one on each
+edge and each corner that has a whole direction at all. Likewise every call on a name for every corner to degree 5. The
+calls below that, and those to be refused, are a choice.
 
     second.py CALLS ANSWERS    writes the calls, one a line, and the answers that the console must give to them
     second.py --answer         answers the call lines of standard input, all but help
@@ -350,32 +355,53 @@ def round_corner(name):
 # ==== Document 01, "Filing a direction"
 
 
-@lru_cache(maxsize=1 << 13)
+def determinants(triangle, d):
+    # "put the direction in place of corner 1, 2 or 3 among the triangle's three exact corner coordinates in order"
+    a, b, c = map(exact, triangle)
+    return determinant(d, b, c), determinant(a, d, c), determinant(a, b, d)
+
+
+def whole_direction(d):
+    """The direction as an exact coordinate."""
+    return tuple((x, 0) for x in d)
+
+
+@lru_cache(maxsize=1 << 15)
 def walls(triangle):
-    # "put the direction in place of corner 1, 2 or 3 among the triangle's three exact corner coordinates in order": the
-    # determinants of (d, b, c), (a, d, c), (a, b, d) are d times these, axis by axis. For each: the three u, and the
-    # three v.
+    """The determinants, with the direction left open: they are d times these, axis by axis. For each of the three: the
+    three u, and the three v."""
     a, b, c = map(exact, triangle)
     return [tuple(zip(*n)) for n in (crossed(b, c), crossed(c, a), crossed(a, b))]
 
 
-def holds(triangle, d):
+def within_walls(three, d):
     # "the three determinants, each a u + vφ, are all at least 0"
     x, y, z = d
-    for (xu, yu, zu), (xv, yv, zv) in walls(triangle):
+    for (xu, yu, zu), (xv, yv, zv) in three:
         if not at_least_zero(x * xu + y * yu + z * zu, x * xv + y * yv + z * zv):
             return False
     return True
 
 
+def holds(triangle, d):
+    return within_walls(walls(triangle), d)
+
+
+@lru_cache(maxsize=None)
+def whole_walls(n):
+    return [(code, walls(triangle)) for code, triangle in whole_degree(n).items()]
+
+
 def full_holders(n, d):
     """Every triangle of the degree is asked."""
-    return [code for code, triangle in whole_degree(n).items() if holds(triangle, d)]
+    return [code for code, three in whole_walls(n) if within_walls(three, d)]
 
 
 @lru_cache(maxsize=1 << 14)
 def deep_holders(n, d):
-    """What a child holds its parent holds, so only children of holders are asked."""
+    """A child's corners are sums of its parent's, so what is "a sum of the three corner directions with multipliers
+    that are zero or more" for the child is one for the parent: what a child holds its parent holds, and only children
+    of holders are asked."""
     if n == 0:
         found = list(whole_degree(0).items())
     else:
@@ -828,11 +854,9 @@ def check_degree(n):
 def search_by_determinants(n, p):
     """Every triangle of degree n that has the corner p, by coming down through triangles that hold its exact
     coordinate."""
-    at = exact(p)
 
     def holds_it(triangle, left):
-        a, b, c = map(exact, triangle)
-        return all(at_least_zero(*determinant(*three)) for three in ((at, b, c), (a, at, c), (a, b, at)))
+        return all(at_least_zero(*x) for x in determinants(triangle, exact(p)))
 
     return with_numbers(come_down(whole_degree(0).items(), n, holds_it), p)
 
@@ -852,20 +876,23 @@ def check_search():
 
 
 def literal_holds(triangle, d):
-    a, b, c = map(exact, triangle)
-    at = tuple((x, 0) for x in d)
-    return all(at_least_zero(*determinant(*three)) for three in ((at, b, c), (a, at, c), (a, b, at)))
+    return all(at_least_zero(*x) for x in determinants(triangle, whole_direction(d)))
 
 
-def check_holders(directions):
-    """Coming down against the search over all triangles of degrees 0 to 4, with determinants written out for a
-    share."""
-    for at, d in enumerate(directions):
-        for n in range(FULL + 2):
+def check_holders():
+    """Coming down against the search over all triangles: for directions of all kinds to degree 4, and for a share of
+    them and of those in the middle of triangles and on edges at degrees 4 and 5, where all answers come from coming
+    down. And the determinants written out."""
+    chance = random.Random(15)
+    for n in range(WHOLE + 1):
+        some = all_directions() if n <= FULL + 1 else chance.sample(all_directions(), 30)
+        if n > FULL:
+            some = some + chance.sample(list(middle_directions(n).values()), 30) + list(edge_directions(n))[::9]
+        for d in some:
             must(full_holders(n, d) == sorted(code for code, _ in deep_holders(n, d)), "coming down", n, d)
-        if at % 8 == 0:
-            for code, triangle in whole_degree(2).items():
-                must(literal_holds(triangle, d) == holds(triangle, d), "the determinants", code, d)
+    for d in all_directions()[::8]:
+        for code, triangle in whole_degree(2).items():
+            must(literal_holds(triangle, d) == holds(triangle, d), "the determinants", code, d)
 
 
 def check_signs():
@@ -944,10 +971,61 @@ def internal_checks():
     for n in range(WHOLE + 1):
         check_degree(n)
     check_search()
-    check_holders(all_directions())
+    check_holders()
     check_opposites()
     check_closest()
     check_examples()
+
+
+# ==== Internal checks of what file and list are answered to degree 5
+
+
+def directions_answered(calls, answers):
+    """The codes answered to file and to list, each by degree and direction, for degrees to 5."""
+    found = {"file": {}, "list": {}}
+    for line, text in zip(calls, answers):
+        if line.startswith(("file ", "list ")) and not text.startswith(("refused", "error")):
+            call, n, x, y, z = line.split()[:5]
+            if read_number(n) <= WHOLE:
+                codes = [int(word, 16) for word in re.findall("0x[0-9A-F]{16}", text.split("|")[0])]
+                found[call][read_number(n), (read_signed(x), read_signed(y), read_signed(z))] = codes
+    return found["file"], found["list"]
+
+
+def zeros(code, d):
+    """The numbers of the determinants that are 0: the direction lies on the edges with these numbers."""
+    three = determinants(corners(code), whole_direction(d))
+    return {number for number, x in enumerate(three, 1) if x == (0, 0)}
+
+
+def check_middles(n, filed, listed):
+    """Each triangle is an answer of file and of list: to a direction strictly inside, that no other triangle holds."""
+    for code, d in middle_directions(n).items():
+        must(all(map(above_zero, determinants(corners(code), whole_direction(d)))), "strictly inside", code, d)
+        must(filed[n, d] == listed[n, d] == [code], "the triangle is the answer", code, d)
+
+
+def check_edges(n, filed, listed):
+    """To a whole direction on an edge or a corner list answers the triangles that have it, and file the least. No
+    direction of any other call lies on an edge that was held to have none."""
+    for d, places in edge_directions(n).items():
+        must(all(edge in zeros(code, d) for code, edge in places), "on the edge", n, d)
+    for d, places in corner_directions(n).items():
+        must(all(zeros(code, d) == {1, 2, 3} - {number} for code, number in places), "on the corner", n, d)
+    for d, places in [*edge_directions(n).items(), *corner_directions(n).items()]:
+        codes = sorted({code for code, _ in places})
+        must(all(literal_holds(corners(code), d) for code in codes), "the triangles hold it", n, d)
+        must(listed[n, d] == codes and filed[n, d] == codes[:1], "the triangles are the answer", n, d)
+    known = set(itertools.chain.from_iterable(edge_directions(n).values()))
+    for d in (d for m, d in listed if m == n and len(listed[m, d]) > 1):
+        must({(code, edge) for code in listed[n, d] for edge in zeros(code, d)} <= known, "on other edges", n, d)
+
+
+def check_answers(calls, answers):
+    filed, listed = directions_answered(calls, answers)
+    for n in range(WHOLE + 1):
+        check_middles(n, filed, listed)
+        check_edges(n, filed, listed)
 
 
 # ==== The calls: examples, and every triangle to degree 5
@@ -1012,24 +1090,22 @@ def other_words():
 
 
 def every_drawing():
-    """All triangles to degree 3 and all corners to degree 2, and a share of the others to degree 5."""
     for n in range(WHOLE + 1):
         for at, code in enumerate(whole_degree(n)):
-            if n <= 3 or at % 41 == 0:
-                for i in (1, 2, 3) if n <= 3 else (at % 3 + 1,):
-                    yield f"drawn {some_form(code, at)} {i}"
-                    yield f"bits {some_form(code, at + 1)} {i}"
-        for at, p in enumerate(whole_index(n)):
-            if n <= 2 or at % 61 == 0:
-                yield f"name-drawn {word_text(canonical(n, p))}"
-                yield f"name-bits {word_text(canonical(n, p))}"
+            for i in (1, 2, 3):
+                yield f"drawn {some_form(code, at)} {i}"
+                yield f"bits {some_form(code, at + 1)} {i}"
+        for p in whole_index(n):
+            yield f"name-drawn {word_text(canonical(n, p))}"
+            yield f"name-bits {word_text(canonical(n, p))}"
 
 
 def every_step():
-    for n in range(WHOLE):
+    """Each triangle of degree 5 is asked for its parent, and is the answer to a child of degree 4."""
+    for n in range(WHOLE + 1):
         for at, code in enumerate(whole_degree(n)):
             yield f"parent {some_form(code, at)}"
-            for digit in range(4):
+            for digit in range(4) if n < WHOLE else ():
                 yield f"child {some_form(code, at)} {digit}"
 
 
@@ -1062,23 +1138,24 @@ def random_directions(chance):
     return [tuple(chance.randint(-most, most) for _ in range(3)) for most in [10] * 20 + [10**5] * 20 + [FAR] * 50]
 
 
-def on_corners():
-    """The corners to degree 5 whose direction is whole: the u and the v of the three axes are in proportion."""
-    found = []
-    for p in itertools.chain.from_iterable(whole_index(n) for n in range(WHOLE + 1)):
-        u, v = zip(*exact(p))
-        if plain_crossed(u, v) == (0, 0, 0):
-            d = shortened(u if any(u) else v)
-            found += [e for e in (d, tuple(-x for x in d)) if holds(corners(having(degree_for(p), p)[0][0]), e)]
-    return list(dict.fromkeys(found))
-
-
-def degree_for(p):
-    return sum(p).bit_length() - 1
-
-
 def plain_crossed(y, z):
     return y[1] * z[2] - y[2] * z[1], y[2] * z[0] - y[0] * z[2], y[0] * z[1] - y[1] * z[0]
+
+
+def both_ways(d):
+    return d, tuple(-x for x in d)
+
+
+def on_corner(triangle, number):
+    """The whole direction of the corner, if there is one: the u and the v of the three axes are in proportion."""
+    u, v = zip(*exact(triangle[number - 1]))
+    if plain_crossed(u, v) != (0, 0, 0):
+        return []
+    return [d for d in both_ways(shortened(u if any(u) else v)) if fits(d) and holds(triangle, d)]
+
+
+def on_corners():
+    return list(dict.fromkeys(itertools.chain.from_iterable(corner_directions(n) for n in range(WHOLE + 1))))
 
 
 def on_edges(chance):
@@ -1092,7 +1169,7 @@ def on_edges(chance):
         j = chance.randrange(1, 2**n, 2)
         p, q = (tuple((2**n - j) * x + j * y for x, y in zip(a, end)) for end in (b, c))
         d = shortened(plain_crossed(*zip(*crossed(exact(p), exact(q)))))
-        found += [e for e in (d, tuple(-x for x in d)) if fits(e) and holds(side, e)]
+        found += [e for e in both_ways(d) if fits(e) and holds(side, e)]
     return list(dict.fromkeys(found))
 
 
@@ -1163,6 +1240,78 @@ def direction_calls():
                 yield f"list {n} {x} {y} {z}" + chance.choice(["", "", " 6", " 9"])
             if every or chance.random() < 0.15:
                 yield f"file {n} {x} {y} {z}"
+
+
+# ==== The calls: directions in, on the edges and on the corners of every triangle to degree 5
+
+FIBONACCI = list(fibonacci_pairs())
+
+
+def closest_to(at):
+    """The last, and so the closest, of the directions close to it."""
+    return next(d for d in (tuple(u * a + v * b for u, v in at) for a, b in reversed(FIBONACCI)) if fits(d))
+
+
+@lru_cache(maxsize=None)
+def middle_directions(n):
+    """For each triangle, by its code, a whole direction close to the sum of its three corners."""
+
+    def in_middle(triangle):
+        return closest_to(tuple(plus(plus(x, y), z) for x, y, z in zip(*map(exact, triangle))))
+
+    return {code: in_middle(triangle) for code, triangle in whole_degree(n).items()}
+
+
+def on_edge(triangle, edge):
+    """A whole direction on the edge, its ends included, if there is one within the bounds. In the edge's plane the
+    determinant with its number, a u + vφ, is 0. φ is irrational, so u and v are both 0: two equations for three whole
+    numbers. They leave one ray and its opposite, unless both say the same. Then the plane's one equation is in whole
+    numbers. It is true of the u and of the v of the edge's middle, and so of the directions close to the middle."""
+    u, v = walls(triangle)[edge - 1]
+    ray = shortened(plain_crossed(u, v))
+    if any(ray):
+        return [d for d in both_ways(ray) if fits(d) and holds(triangle, d)]
+    p, q = (p for number, p in enumerate(triangle, 1) if number != edge)
+    return [closest_to(exact(middle(p, q)))]
+
+
+def places_on(n, some_on):
+    """The directions that are found on a number of a triangle of degree n, each with all (code, number)."""
+    found = {}
+    for code, triangle in whole_degree(n).items():
+        for number in (1, 2, 3):
+            for d in some_on(triangle, number):
+                found.setdefault(d, []).append((code, number))
+    return found
+
+
+@lru_cache(maxsize=None)
+def edge_directions(n):
+    return places_on(n, on_edge)
+
+
+@lru_cache(maxsize=None)
+def corner_directions(n):
+    return places_on(n, on_corner)
+
+
+def file_and_list(n, directions):
+    for x, y, z in directions:
+        yield f"file {n} {x} {y} {z}"
+        yield f"list {n} {x} {y} {z}"
+
+
+def every_middle():
+    for n in range(WHOLE + 1):
+        yield from file_and_list(n, middle_directions(n).values())
+
+
+def every_edge():
+    """On every edge and every corner that has a whole direction, and one step beside."""
+    chance = random.Random(16)
+    for n in range(WHOLE + 1):
+        found = list(dict.fromkeys([*corner_directions(n), *edge_directions(n)]))
+        yield from file_and_list(n, found + beside_edges(chance, found))
 
 
 # ==== The calls: degrees 6 to 24
@@ -1653,8 +1802,10 @@ SECTIONS = {
     "every corner to degree 5": every_corner,
     "other words than names": other_words,
     "drawing to degree 5": every_drawing,
-    "parent and child to degree 4": every_step,
+    "parent to degree 5, child to degree 4": every_step,
     "directions": direction_calls,
+    "in the middle of every triangle to degree 5": every_middle,
+    "on edges and corners to degree 5": every_edge,
     "degrees 6 to 24": deep_calls,
     "refusals": refusal_calls,
     "unreadable arguments": unreadable_calls,
@@ -1682,9 +1833,10 @@ def write_files(calls_path, answers_path):
         print(f"{len(lines):8} {section}")
     print(f"{len(calls):8} lines")
     must(not any("\n" in line for line in calls), "one line each")
-    answers = "".join(answer(line) + "\n" for line in calls)
+    answers = [answer(line) for line in calls]
+    check_answers(calls, answers)
     write_bytes(calls_path, "\n".join(calls))
-    write_bytes(answers_path, answers)
+    write_bytes(answers_path, "".join(text + "\n" for text in answers))
 
 
 def answer_input():

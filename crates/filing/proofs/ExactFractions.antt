@@ -86,7 +86,7 @@ round-power s a k h l =
 
 -- ---- a whole number as a float
 
-of-int : (t : ℤ) → natAbs t ≤ 2 ^ 53 → HasValue (ofInt binary64 t) (isNeg t) (natAbs t) 1
+pub of-int : (t : ℤ) → natAbs t ≤ 2 ^ 53 → HasValue (ofInt binary64 t) (isNeg t) (natAbs t) 1
 unfolding ofInt
 of-int (pos n) h = round-whole binary64 false n h
 of-int (negsuc n) h = round-whole binary64 true (suc n) h

@@ -14,7 +14,7 @@ use Rattle.words.specs.Refusals.{IsCode}
 use Rattle.words.specs.Words.{cornerNumber, digits, sideOf}
 use Rattle.words.specs.declared.CornerName.{CornerName}
 use Rattle.words.specs.declared.TriangleCode.{TriangleCode}
-use Rattle.net.specs.Corners.{nameOf, codeInside, named}
+use Rattle.net.specs.Corners.{nameOf, codeInside, corner, named}
 use Rattle.net.specs.Division.{Weights, cornerOf, kept, triangleAt, unitAt}
 use Rattle.net.specs.Names.{IsName}
 use Rattle.net.specs.Sides.{IsSide, OneToThree, cornerVertex}
@@ -55,7 +55,7 @@ unfolding cornerVertex
 vertex-there = sound (below 12 λ v. some 20 λ s. some 3 λ i. same (cornerVertex (4 + s) (1 + i)) v) refl
 
 -- different vertices have different weights
-units-differ : (u : ℕ) → u < 12 → (v : ℕ) → v < 12 → getD (unitAt u) u 0 ≡ getD (unitAt v) u 0 → u ≡ v
+pub units-differ : (u : ℕ) → u < 12 → (v : ℕ) → v < 12 → getD (unitAt u) u 0 ≡ getD (unitAt v) u 0 → u ≡ v
 unfolding unitAt
 units-differ = sound (below 12 λ u. below 12 λ v. same (getD (unitAt u) u 0) (getD (unitAt v) u 0) then same u v) refl
 
@@ -63,6 +63,13 @@ units-differ = sound (below 12 λ u. below 12 λ v. same (getD (unitAt u) u 0) (
 no-digits : {t : TriangleCode} → IsCode 0 t → digitsIn t ≡ []
 unfolding digits
 no-digits {t} c = ap (digits (t .0)) (c .degreeIs)
+
+-- its corners are the vertices of its side
+pub side-corner : {t : TriangleCode} → IsCode 0 t → (i : ℕ) → OneToThree i
+    → corner t i ≡ unitAt (cornerVertex (sideOf (t .0)) i)
+side-corner {t} c i l =
+    corner-at t i ∙ ap (λ (ds : List ℕ). cornerOf (sideOf (t .0)) ds i) (no-digits c)
+    ∙ first-corner (sideOf (t .0)) i l
 
 -- twelve of them, each a corner of some side, and no other
 vertices : Count 12 (IsCorner 0)
@@ -84,12 +91,8 @@ vertices = record {
         ),
       );
   every = λ p (t, c, (i, l, e)).
-      let s = sideOf (t .0) in (
-        cornerVertex s i,
-        vertex-small s (code-side c) i l,
-        sym (first-corner s i l)
-            ∙ ap (λ (ds : List ℕ). cornerOf s ds i) (sym (no-digits c)) ∙ sym (corner-at t i) ∙ e,
-      );
+      let s = sideOf (t .0) in
+      (cornerVertex s i, vertex-small s (code-side c) i l, sym (side-corner c i l) ∙ e);
   once = λ u v h k e. units-differ u h v k (ap (λ (w : Weights). getD w u 0) e);
 }
 

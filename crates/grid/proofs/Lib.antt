@@ -1,6 +1,7 @@
 -- What is promised of the calls together, and the laws behind it.
 pub mod Demands
 pub mod Contracts
+pub mod Sentences
 pub mod Turns
 pub mod Nearest
 pub mod Showing

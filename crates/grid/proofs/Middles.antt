@@ -164,7 +164,7 @@ module _ (s v x y z : ℕ) where
   down-leans = three Down-leans (omega (arith, more 2 y, more 3 z)) (omega (arith, more 1 x, more 3 z)) (omega (arith, more 1 x, more 2 y))
 
 -- the two ends have different numbers
-ends-apart : (k : ℕ) → OneToThree k → next k ≡ prev k → ⊥
+pub ends-apart : (k : ℕ) → OneToThree k → next k ≡ prev k → ⊥
 ends-apart = three (λ k. next k ≡ prev k → ⊥) (λ e. omega arith) (λ e. omega arith) (λ e. omega arith)
 
 -- the ends of an edge lean to each other

@@ -42,7 +42,7 @@ use Rattle.grid.specs.Nearest.{Nearest, Opposed, OpposedPoints, negative
 -- ---- opposite corners
 
 -- the code and the number of a name
-name-corner : (p : CornerName) → checkName p ≡ 0
+pub name-corner : (p : CornerName) → checkName p ≡ 0
     → IsCode (degreeOf (p .0)) (codeInside p) × OneToThree (cornerNumber (p .0))
 name-corner p z = let x = name-means p .0 z .1 in (x .code, x .number)
 

@@ -1,4 +1,5 @@
--- The middle of an edge has odd weights at just two vertices, so that it is no kept corner and tells the edge's two ends. Assumes nothing.
+-- The middle of an edge has odd weights at just two vertices, so that it is no kept corner and tells the edge's two
+-- ends. Assumes nothing.
 use mathlib.Core.Path.{_≡_, _∙_, refl, sym, ap}
 use mathlib.Core.Bool.{Bool, true, false}
 use mathlib.Core.List.{[], _∷_}
@@ -52,14 +53,16 @@ same-places : (p q : Weights) → length p ≡ length q → ((v : ℕ) → v < l
 same-places [] [] l f = refl
 same-places [] (y ∷ ys) l f = absurd (omega arith)
 same-places (x ∷ xs) [] l f = absurd (omega arith)
-same-places (x ∷ xs) (y ∷ ys) l f = let e = f 0 (omega arith) in λ i. e i ∷ same-places xs ys (omega arith) (λ v h. f (suc v) (omega arith)) i
+same-places (x ∷ xs) (y ∷ ys) l f = let e = f 0 (omega arith) in λ i. e i ∷ same-places xs ys (omega arith)
+    (λ v h. f (suc v) (omega arith)) i
 
 same-twelve : (p q : Weights) → Twelve p → Twelve q → ((v : ℕ) → v < 12 → getD p v 0 ≡ getD q v 0) → p ≡ q
 same-twelve p q l m f = same-places p q (l ∙ sym m) (λ v h. f v (omega (arith, l)))
 
 -- a kept corner tells the corner
 pub kept-one : (p q : Weights) → Twelve p → Twelve q → kept p ≡ kept q → p ≡ q
-kept-one p q l m e = same-twelve p q l m (λ v h. omega (arith, at-kept p v, at-kept q v, ap (λ (w : Weights). getD w v 0) e))
+kept-one p q l m e = same-twelve p q l m
+    (λ v h. omega (arith, at-kept p v, at-kept q v, ap (λ (w : Weights). getD w v 0) e))
 
 -- ---- the two ends of an edge
 
@@ -79,7 +82,8 @@ bit-small v u = ⊎-elim (λ e. omega (arith, bit-own v u e)) (λ f. omega (arit
 -- v is at most one of two vertices
 bits-apart : (u w : ℕ) → (u ≡ w → ⊥) → (v : ℕ) → bit v u + bit v w ≤ 1
 bits-apart u w f v =
-    ⊎-elim (λ e. omega (arith, bit-own v u e, bit-other v w (λ z. f (sym e ∙ z)))) (λ g. omega (arith, bit-other v u g, bit-small v w)) (either-way (same v u))
+    ⊎-elim (λ e. omega (arith, bit-own v u e, bit-other v w (λ z. f (sym e ∙ z))))
+    (λ g. omega (arith, bit-other v u g, bit-small v w)) (either-way (same v u))
 
 -- p has 1 more than q at the vertex u, q has 1 more than p at the vertex w, and all else is the same
 pub record Leans (p q : Weights) : Type 0 where
@@ -109,31 +113,57 @@ middle-not-kept p q c h e =
 module _ (p q p′ q′ : Weights) (h : Leans p q) (k : Leans p′ q′) (e : middle p q ≡ middle p′ q′) where
   -- the sums agree at each vertex, and so do their odd places
   sums : (v : ℕ) → getD p v 0 + getD q v 0 ≡ getD p′ v 0 + getD q′ v 0
-  sums v = sym (at-middle p q (h .twelve ∙ sym (h .twelve′)) v) ∙ ap (λ (w : Weights). getD w v 0) e ∙ at-middle p′ q′ (k .twelve ∙ sym (k .twelve′)) v
+  sums v = sym (at-middle p q (h .twelve ∙ sym (h .twelve′)) v) ∙ ap (λ (w : Weights). getD w v 0) e
+      ∙ at-middle p′ q′ (k .twelve ∙ sym (k .twelve′)) v
 
   odds : (v : ℕ) → v < 12 → bit v (h .u) + bit v (h .w) ≡ bit v (k .u) + bit v (k .w)
-  odds v l = omega (arith, sums v, h .leans v l, k .leans v l, bits-apart (h .u) (h .w) (h .differ) v, bits-apart (k .u) (k .w) (k .differ) v)
+  odds v l = omega (
+    arith,
+    sums v,
+    h .leans v l,
+    k .leans v l,
+    bits-apart (h .u) (h .w) (h .differ) v,
+    bits-apart (k .u)
+        (k .w) (k .differ) v,
+  )
 
   -- where the first vertices agree, and where they are exchanged
   straight : h .u ≡ k .u → SameTwo p q p′ q′
-  straight z = inl (same-twelve p p′ (h .twelve) (k .twelve) (λ v l. go v l .0), same-twelve q q′ (h .twelve′) (k .twelve′) (λ v l. go v l .1))
+  straight z = inl (
+    same-twelve p p′ (h .twelve) (k .twelve) (λ v l. go v l .0),
+    same-twelve q q′ (h .twelve′)
+        (k .twelve′) (λ v l. go v l .1),
+  )
     where
       go : (v : ℕ) → v < 12 → (getD p v 0 ≡ getD p′ v 0) × (getD q v 0 ≡ getD q′ v 0)
       go v l = omega (arith, sums v, odds v l, h .leans v l, k .leans v l, ap (bit v) z)
 
   turned : h .u ≡ k .w → SameTwo p q p′ q′
-  turned z = inr (same-twelve p q′ (h .twelve) (k .twelve′) (λ v l. go v l .0), same-twelve q p′ (h .twelve′) (k .twelve) (λ v l. go v l .1))
+  turned z = inr (
+    same-twelve p q′ (h .twelve) (k .twelve′) (λ v l. go v l .0),
+    same-twelve q p′ (h .twelve′)
+        (k .twelve) (λ v l. go v l .1),
+  )
     where
       go : (v : ℕ) → v < 12 → (getD p v 0 ≡ getD q′ v 0) × (getD q v 0 ≡ getD p′ v 0)
       go v l = omega (arith, sums v, odds v l, h .leans v l, k .leans v l, ap (bit v) z)
 
   pub middle-one : SameTwo p q p′ q′
-  middle-one = ⊎-elim straight (λ f. ⊎-elim turned (λ g. absurd (none f g)) (either-way (same (h .u) (k .w)))) (either-way (same (h .u) (k .u)))
+  middle-one = ⊎-elim straight (λ f. ⊎-elim turned (λ g. absurd (none f g)) (either-way (same (h .u) (k .w))))
+      (either-way (same (h .u) (k .u)))
     where
       none : (h .u ≡ k .u → ⊥) → (h .u ≡ k .w → ⊥) → ⊥
-      none f g = let v = h .u in omega (arith, odds v (h .u-small), bit-own v v refl, bit-other v (k .u) f, bit-other v (k .w) g)
+      none f g = let v = h .u in omega (
+        arith,
+        odds v (h .u-small),
+        bit-own v v refl,
+        bit-other v (k .u) f,
+        bit-other v
+            (k .w) g,
+      )
+          -- ---- the corners of a triangle inside a side
 
--- ---- the corners of a triangle inside a side: an up one has 1 more than its floor at the corner's own vertex, a down one at the other two
+-- an up one has 1 more than its floor at the corner's own vertex, a down one at the other two
 
 load-suc : (b : Bool) (x : ℕ) → load b (suc x) ≡ load b 1 + load b x
 load-suc true x = omega arith
@@ -157,18 +187,21 @@ module _ (s v x y z : ℕ) where
 
   up-leans : (k : ℕ) → OneToThree k → Up-leans k
   unfolding weightAt
-  up-leans = three Up-leans (omega (arith, more 2 y, more 3 z)) (omega (arith, more 1 x, more 3 z)) (omega (arith, more 1 x, more 2 y))
+  up-leans = three Up-leans (omega (arith, more 2 y, more 3 z)) (omega (arith, more 1 x, more 3 z))
+      (omega (arith, more 1 x, more 2 y))
 
   down-leans : (k : ℕ) → OneToThree k → Down-leans k
   unfolding weightAt
-  down-leans = three Down-leans (omega (arith, more 2 y, more 3 z)) (omega (arith, more 1 x, more 3 z)) (omega (arith, more 1 x, more 2 y))
+  down-leans = three Down-leans (omega (arith, more 2 y, more 3 z)) (omega (arith, more 1 x, more 3 z))
+      (omega (arith, more 1 x, more 2 y))
 
 -- the two ends have different numbers
 pub ends-apart : (k : ℕ) → OneToThree k → next k ≡ prev k → ⊥
 ends-apart = three (λ k. next k ≡ prev k → ⊥) (λ e. omega arith) (λ e. omega arith) (λ e. omega arith)
 
 -- the ends of an edge lean to each other
-pub state-leans : (s : ℕ) → IsSide s → (k : ℕ) → OneToThree k → (a : State) → Leans (spread s (pointOf (next k) a)) (spread s (pointOf (prev k) a))
+pub state-leans : (s : ℕ) → IsSide s → (k : ℕ) → OneToThree k → (a : State)
+    → Leans (spread s (pointOf (next k) a)) (spread s (pointOf (prev k) a))
 state-leans s hs k l (Up x y z) = record {
   twelve = spread-length s _;
   twelve′ = spread-length s _;
@@ -176,7 +209,13 @@ state-leans s hs k l (Up x y z) = record {
   w = cornerVertex s (prev k);
   u-small = vertex-small s hs (next k) (next-three k l);
   differ = λ e. ends-apart k l (vertices-differ s hs (next k) (next-three k l) (prev k) (prev-three k l) e);
-  leans = λ v h. omega (arith, up-leans s v x y z k l, at-vertex s (pointOf (next k) (Up x y z)) v h, at-vertex s (pointOf (prev k) (Up x y z)) v h);
+  leans = λ v h. omega (
+    arith,
+    up-leans s v x y z k l,
+    at-vertex s (pointOf (next k) (Up x y z)) v h,
+    at-vertex s
+        (pointOf (prev k) (Up x y z)) v h,
+  );
 }
 state-leans s hs k l (Down x y z) = record {
   twelve = spread-length s _;
@@ -185,5 +224,11 @@ state-leans s hs k l (Down x y z) = record {
   w = cornerVertex s (next k);
   u-small = vertex-small s hs (prev k) (prev-three k l);
   differ = λ e. ends-apart k l (vertices-differ s hs (next k) (next-three k l) (prev k) (prev-three k l) (sym e));
-  leans = λ v h. omega (arith, down-leans s v x y z k l, at-vertex s (pointOf (next k) (Down x y z)) v h, at-vertex s (pointOf (prev k) (Down x y z)) v h);
+  leans = λ v h. omega (
+    arith,
+    down-leans s v x y z k l,
+    at-vertex s (pointOf (next k) (Down x y z)) v h,
+    at-vertex s
+        (pointOf (prev k) (Down x y z)) v h,
+  );
 }

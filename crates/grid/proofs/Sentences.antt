@@ -1,6 +1,6 @@
 -- The sentences of document 01 hold as specs/Sentences.antt says them. Assumes nothing.
 use mathlib.Core.Path.{_≡_, _∙_, refl, sym, ap, subst}
-use mathlib.Core.Logic.{_⊎_, _↔_, inl, inr, ⊎-elim}
+use mathlib.Core.Logic.{_↔_, inl, inr, ⊎-elim}
 use mathlib.Core.Bool.{Bool, true, false, not, cond}
 use mathlib.Core.List.{List, [], _∷_}
 use Prim.Native.Nat.{ℕ, zero, suc, _-_, _^_, _≤_, _<_}
@@ -38,7 +38,7 @@ use Rattle.net.specs.Division.{Weights, sum, unitAt}
 use Rattle.net.specs.Corners.{corner, named}
 use Rattle.net.specs.Names.{IsName}
 use Rattle.net.specs.Refusals.{checkName, onOneSide}
-use Rattle.net.specs.Steps.{IsRing, SameTwo, Turn}
+use Rattle.net.specs.Steps.{IsRing, IsWhole, SameTwo, Turn}
 use Rattle.net.proofs.Canonical.{and-true, name-means}
 use Rattle.net.proofs.Demand3.{add-up, one-ring}
 use Rattle.net.proofs.RingCodes.{ring-whole}
@@ -72,7 +72,7 @@ use Rattle.directions.proofs.OneFiling.{how-many, how-many-sides}
 use Rattle.directions.proofs.Refused.{list-passes}
 use Rattle.filing.specs.Filing.{AreHolders}
 use Rattle.grid.specs.Counts.{IsCorner}
-use Rattle.grid.specs.Sentences.{AllBelow, AreDigits, Onward, SameVertices, Sentences, Spans, Whole}
+use Rattle.grid.specs.Sentences.{AllBelow, AreDigits, Onward, SameVertices, Sentences, Spans, TurnsInSpace}
 use Rattle.grid.proofs.Counted.{counted, side-corner, units-differ}
 use Rattle.grid.proofs.Differing.{codes-differ, corners-differ, edge-there, edges-differ}
 use Rattle.grid.proofs.Middles.{ends-apart}
@@ -211,16 +211,15 @@ onward {p = p} {t = t} {t′ = t′} c c′ x = record {
       (spans c′ (x .j) (x .j-ok) (x .has′));
 }
 
-whole : (q : CornerName) (ts : List ℕ) → checkName q ≡ 0 → IsRing q ts → Whole q ts
-whole q ts z x =
+whole : (q : CornerName) (ts : List ℕ) → checkName q ≡ 0 → IsRing q ts → IsWhole q ts
+whole q ts z x = let y = name-corner q z in ring-whole q (y .0) (y .1) x
+
+in-space : (q : CornerName) (ts : List ℕ) → checkName q ≡ 0 → IsRing q ts → TurnsInSpace q ts
+in-space q ts z x =
     let y = name-corner q z in
-    let w = ring-whole q (y .0) (y .1) x in
+    let w = whole q ts z x in
     let some : 0 < length ts = omega (arith, w .all _ (y .0) (_, y .1, refl) .1) in
     record {
-      differ = w .differ;
-      each = w .has;
-      complete = w .all;
-      closes = w .closes;
       onward = λ m h. onward (x .codes m (omega arith)) (x .codes (suc m) h) (x .turns m h);
       around = onward (x .codes (length ts - 1) (omega arith)) (x .codes 0 some) (w .closes);
     }
@@ -300,6 +299,7 @@ sentences = record {
         let x = one-ring q (y .0) (y .1) in
         (x .0, record { meets = x .1; only = x .3 });
     wholeRing = whole;
+    ringInSpace = in-space;
   };
   filing = record {
     multipliers = holds-means;

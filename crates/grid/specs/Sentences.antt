@@ -24,7 +24,7 @@ use Rattle.net.specs.Division.{Weights, kept, middle, sum}
 use Rattle.net.specs.Corners.{corner, HasCorner, named}
 use Rattle.net.specs.Names.{IsName}
 use Rattle.net.specs.Refusals.{checkName, onOneSide}
-use Rattle.net.specs.Steps.{Across, Turn, IsRing}
+use Rattle.net.specs.Steps.{Across, IsRing, IsWhole}
 use Rattle.filing.specs.Coordinates.{direction, _+ᵛ_, times, exact}
 use Rattle.filing.specs.Holding.{along, determinant, Holds}
 use Rattle.filing.specs.Multiples.{IsSum}
@@ -154,24 +154,19 @@ pub record Onward (p : Weights) (t t′ : TriangleCode) : Type 0 where
 abbrev pub place : List ℕ → ℕ → TriangleCode
 place ts m = codeOf (getD ts m 0)
 
--- The list ts is the whole ring of the corner that q names.
-pub record Whole (q : CornerName) (ts : List ℕ) : Type 0 where
-  -- its triangles are different, each has the corner, and each triangle of the degree that has it is there
-  pub differ : (m k : ℕ) → m < k → k < length ts → getD ts m 0 ≡ getD ts k 0 → ⊥
-  pub each : (m : ℕ) → m < length ts → HasCorner (place ts m) (named q)
-  pub complete : (t : TriangleCode) → IsCode (degreeOf (q .0)) t → HasCorner t (named q)
-      → (m : ℕ) × (m < length ts) × (getD ts m 0 ≡ t .0)
-  -- from the last the same step leads to the first
-  pub closes : Turn (named q) (place ts (length ts - 1)) (place ts 0)
-  -- "anticlockwise seen from outside", in space: from each to the next, and from the last to the first
+-- The ring ts of the corner that q names turns anticlockwise in space: from each triangle to the next, and from the last
+-- to the first.
+pub record TurnsInSpace (q : CornerName) (ts : List ℕ) : Type 0 where
   pub onward : (m : ℕ) → suc m < length ts → Onward (named q) (place ts m) (place ts (suc m))
   pub around : Onward (named q) (place ts (length ts - 1)) (place ts 0)
 
 pub record StepsAndRings : Type 0 where
-  -- "The ring answers a count and its triangles, 5 .., else 6, anticlockwise seen from outside, beginning with the
-  -- triangle inside the corner's own name": there is one and no other, and it is whole
+  -- "The ring answers a count and its triangles, 5 .., else 6, .. beginning with the triangle inside the corner's own
+  -- name": there is one and no other, and it is whole
   pub oneRing : (q : CornerName) → checkName q ≡ 0 → One (IsRing q)
-  pub wholeRing : (q : CornerName) (ts : List ℕ) → checkName q ≡ 0 → IsRing q ts → Whole q ts
+  pub wholeRing : (q : CornerName) (ts : List ℕ) → checkName q ≡ 0 → IsRing q ts → IsWhole q ts
+  -- "anticlockwise seen from outside"
+  pub ringInSpace : (q : CornerName) (ts : List ℕ) → checkName q ≡ 0 → IsRing q ts → TurnsInSpace q ts
 
 -- ---- Filing a direction
 

@@ -17,7 +17,7 @@ use Rattle.net.specs.Corners.{HasCorner, codeInside, corner, named}
 use Rattle.net.specs.Division.{Weights, cornerOf}
 use Rattle.net.specs.Means.Walks.{Place, around, ringAt, ringWords, stepOf, wordAt}
 use Rattle.net.specs.Sides.{OneToThree, next, prev}
-use Rattle.net.specs.Steps.{IsRing, Turn, nonZeros, ringSize}
+use Rattle.net.specs.Steps.{IsRing, IsWhole, nonZeros, ringSize, Turn}
 use Rattle.net.proofs.CodePlaces.{code-for, codeFor, digitsIn}
 use Rattle.net.proofs.Crossing.{codeAcross, corner-one, ends-only}
 use Rattle.net.proofs.LeastName.{around-first, place-code, place-corner, place-digits, place-in, place-side}
@@ -181,19 +181,8 @@ module _ (r : CornerName) (c : IsCode (degreeOf (r .0)) (codeInside r)) (l : One
       (sym (place-side (at i) low) ∙ ap (λ (t : TriangleCode). sideOf (t .0)) e ∙ place-side (at j) low)
       (sym (place-digits (at i) low) ∙ ap digitsIn e ∙ place-digits (at j) low)
 
--- What every ring of a name is known for.
-pub record Whole (r : CornerName) (ts : List ℕ) : Type 0 where
-  -- the triangles listed are different
-  pub differ : (i j : ℕ) → i < j → j < length ts → getD ts i 0 ≡ getD ts j 0 → ⊥
-  -- they have the corner, and every triangle of the degree that has it is listed
-  pub has : (i : ℕ) → i < length ts → HasCorner (codeOf (getD ts i 0)) (named r)
-  pub all : (t : TriangleCode) → IsCode (degreeOf (r .0)) t → HasCorner t (named r)
-      → (i : ℕ) × (i < length ts) × (getD ts i 0 ≡ t .0)
-  -- from the last the same step leads to the first
-  pub closes : Turn (named r) (codeOf (getD ts (length ts - 1) 0)) (codeOf (getD ts 0 0))
-
 module _ (r : CornerName) (c : IsCode (degreeOf (r .0)) (codeInside r)) (l : OneToThree (cornerNumber (r .0))) where
-  walk-whole : Whole r (ringWords (size r c l) (q r c l))
+  walk-whole : IsWhole r (ringWords (size r c l) (q r c l))
   walk-whole =
       let len = ring-length (size r c l) (q r c l) in
       let pos = size-pos (nonZeros (named r)) in
@@ -216,5 +205,5 @@ module _ (r : CornerName) (c : IsCode (degreeOf (r .0)) (codeInside r)) (l : One
             (closes r c l)));
       }
 
-  pub ring-whole : {ts : List ℕ} → IsRing r ts → Whole r ts
-  ring-whole x = subst (Whole r) (ring-one (ring-is r c l) x) walk-whole
+  pub ring-whole : {ts : List ℕ} → IsRing r ts → IsWhole r ts
+  ring-whole x = subst (IsWhole r) (ring-one (ring-is r c l) x) walk-whole

@@ -1,9 +1,8 @@
 // The grid: every call of document 01, for any number and any lent list. None has a `requires`; each states its
-// complete answer where it is defined.
+// complete answer where it is defined, and specs/Contracts.antt holds it to that.
 //
 // Checking a code, parent and child are methods by value of `TriangleCode`: `check`, `parent`, `child`. (No calls of
-// document 01 are `CornerName::check_fields`, which does not look whether a name is canonical, as `check_name` does;
-// and the methods of `Golden`, which ask that their numbers are small.)
+// document 01 are the methods of `Golden`, which ask that their numbers are small.)
 pub use corners::CountAnswer;
 pub use corners::NameAnswer;
 pub use corners::StepAnswer;

@@ -32,6 +32,11 @@ pub struct CountAnswer {
     pub count: u64,
 }
 
+// The places that a lent list must have.
+const WEIGHTS: usize = 12;
+
+const TRIANGLES: usize = 6;
+
 // ---- a code with an edge or corner number
 
 // Of a code with an edge or corner number: 0, or 1 to 5.
@@ -114,7 +119,7 @@ pub fn weights_of(t: TriangleCode, corner: u64, out: &mut [u64]) -> u64
     if f != 0 {
         return f;
     }
-    if out.len() < 12 {
+    if out.len() < WEIGHTS {
         return 9;
     }
     net::write_corner(t, corner, out);
@@ -130,7 +135,7 @@ pub fn weights_of_name(r: CornerName, out: &mut [u64]) -> u64
     if f != 0 {
         return f;
     }
-    if out.len() < 12 {
+    if out.len() < WEIGHTS {
         return 9;
     }
     net::write_corner(net::code_inside(r), w % 4, out);
@@ -167,7 +172,7 @@ pub fn name_back(degree: u64, weights: &[u64]) -> NameAnswer
             name: none,
         };
     }
-    if weights.len() < 12 {
+    if weights.len() < WEIGHTS {
         return NameAnswer {
             refusal: 9,
             name: none,
@@ -209,7 +214,7 @@ pub fn ring(r: CornerName, out: &mut [u64]) -> CountAnswer
             count: 0,
         };
     }
-    if out.len() < 6 {
+    if out.len() < TRIANGLES {
         return CountAnswer {
             refusal: 9,
             count: 0,

@@ -1,36 +1,40 @@
 #!/usr/bin/env python3
 """Tries wrong definitions: each must be refused by some proof.
 
-What a reader must believe stands in crates/*/specs/*.antt. A definition there that could be changed with every proof still
-passing would be tied to nothing. So each entry of the table spec_mutations.txt, beside this program, changes one operand of one
-definition; the changed repository is then proved again, and some proof has to refuse it. An entry that survives shows a gap: no
-contract, law or example depends on that operand.
+What a reader must believe stands in crates/*/specs/*.antt. A definition there that could be changed with every proof
+still passing would be tied to nothing. So each entry of the table spec_mutations.txt, beside this program, changes one
+operand of one definition; the changed repository is then proved again, and some proof has to refuse it. An entry that
+survives shows a gap: no contract, law or example depends on that operand.
 
-The table. A line `crate:` or `file:` holds for all entries after it; the file stands in the crate's specs/. An entry is a line
-`old:` and a line `new:`; the text of `old:` must stand exactly once in the file. In both, \\n is the end of a line. Lines that
-begin with `#` are comments; one above an entry says what the wrong definition would mean, where that is not plain. What stands
-in specs/Means/ is only a means of proof, and has no entries.
+The table. A line `crate:` or `file:` holds for all entries after it; the file stands in the crate's specs/. An entry is
+a line `old:` and a line `new:`; the text of `old:` must stand exactly once in the file. In both, \\n is the end of a
+line. Lines that begin with `#` are comments; one above an entry says what the wrong definition would mean, where that
+is not plain. An entry changes what is meant: one that says the same in other words has no place here. What stands in
+specs/Means/ is only a means of proof, and has no entries.
 
-How an entry is tried. The repository (crates.txt, crates/ and target/) is copied to a temporary folder; nothing is written to
-the repository itself. There the entry is applied and `rt dev CRATE` run, which builds no library. If the crate is still proved,
-`rt check` is run for each crate above it, in dependency order, until one is refused (for a program `rt dev`: it is not run). Then
-the copy is made as it was: the file and the crate's incremental folder, and after `rt check` the whole of target/.
+How an entry is tried. The repository (crates.txt, crates/ and target/) is copied to a temporary folder; nothing is
+written to the repository itself. There the entry is applied and `rt dev CRATE` run, which builds no library. If the
+crate is still proved, `rt check` is run for each crate above it, in dependency order, until one is refused (for a
+program `rt dev`: it is not run). Then the copy is made as it was: the file and the crate's incremental folder, and
+after `rt check` the whole of target/.
 
 What is printed. A line for each entry, with its number, the place of the change, and one of
     refused by CRATE at FILE:LINE    the place of the first error
     SURVIVED                         the crate and every crate above it are still proved
-    BAD: ..                          no proof was asked: the changed definition does not type-check (an error in specs/), `old:`
-                                     is not in the file once, or the prover gave no verdict; the entry has to be mended
+    BAD: ..                          no proof was asked: the changed definition does not type-check (an error in
+                                     specs/), `old:` is not in the file once, or the prover gave no verdict; the entry
+                                     has to be mended
 and a last line 'N tried, M refused, K survived', with the number of BAD ones if there are any.
 
-Exit status: 0 if every entry was refused; 1 if one survived; else 2: one is BAD, the table cannot be read, or the repository is
-not proved to begin with.
+Exit status: 0 if every entry was refused; 1 if one survived; else 2: one is BAD, the table cannot be read, or the
+repository is not proved to begin with.
 
 It takes from seconds to two minutes an entry, so it is run by hand and is no part of the gate:
 
     python3 tests/mutate_specs.py                         # all
     python3 tests/mutate_specs.py golden net/Sides.antt   # the entries of a crate, of a file
     python3 tests/mutate_specs.py --range 40-60,7         # entries by number, in this order; also 40- and -60
+    python3 tests/mutate_specs.py --without console       # that crate, and those above it, are neither proved nor asked
     python3 tests/mutate_specs.py --jobs 2                # two copies at a time
     python3 tests/mutate_specs.py --list                  # the entries, and nothing is tried
     python3 tests/mutate_specs.py --keep DIR              # what the prover said of entry N goes to DIR/N.out
@@ -126,12 +130,20 @@ def read_crates(root):
     return crates
 
 
+def left_out(crates, named):
+    """Of these crates those that are named, and those that rest on one of them at any depth."""
+    out = set(named)
+    while more := {c for c in crates if c not in out and any(d in out for d in crates[c])}:
+        out |= more
+    return out
+
+
 def is_program(root, crate):
     return (root / "crates" / crate / "src" / "main.rt").is_file()
 
 
 def crates_above(root, crates, crate):
-    """The crates that rest on `crate`, at any depth, each after all that it rests on; of two that could be next, the smaller."""
+    """The crates that rest on `crate`, at any depth, each after all that it rests on; the smallest that can be next."""
     above, left = [], [c for c in crates if c != crate]
     while left:
         ready = [c for c in left if not any(d in left for d in crates[c])]
@@ -264,8 +276,11 @@ def main():
     parser = argparse.ArgumentParser(description="Tries wrong definitions: each must be refused by some proof.")
     parser.add_argument("only", nargs="*", metavar="CRATE[/FILE]", help="only the entries of this crate or file")
     parser.add_argument("--range", metavar="FROM-TO", help="only the entries of these numbers, in this order")
-    parser.add_argument("--jobs", type=int, default=1, metavar="N", help="how many copies to work in at a time (default 1)")
-    parser.add_argument("--limit", type=float, default=900, metavar="SECONDS", help="the longest time for one run of rt (default 900)")
+    parser.add_argument("--without", metavar="CRATE,..", help="neither prove nor ask these crates and those above them")
+    parser.add_argument("--jobs", type=int, default=1, metavar="N", help="how many copies at a time (default 1)")
+    parser.add_argument(
+        "--limit", type=float, default=900, metavar="SECONDS", help="the longest time for one run of rt (default 900)"
+    )
     parser.add_argument("--keep", type=Path, metavar="DIR", help="a folder for what the prover said of each entry")
     parser.add_argument("--list", action="store_true", help="print the entries, and try none")
     options = parser.parse_args()
@@ -274,8 +289,18 @@ def main():
     entries = selected(read_table(TABLE), options.only, options.range)
     if options.list:
         for e in entries:
-            print(f"{e.number} {e.place(ROOT)}\n    {e.old!r}\n    {e.new!r}" + (f"\n    BAD: {e.fault(ROOT)}" if e.fault(ROOT) else ""))
+            fault = e.fault(ROOT)
+            print(f"{e.number} {e.place(ROOT)}\n    {e.old!r}\n    {e.new!r}")
+            if fault:
+                print(f"    BAD: {fault}")
         return 0
+    named = options.without.split(",") if options.without else []
+    for crate in named:
+        if crate not in crates:
+            fail(f"--without: there is no crate {crate}")
+    out = left_out(crates, named)
+    crates = {c: rests_on for c, rests_on in crates.items() if c not in out}
+    entries = [e for e in entries if e.crate not in out]
     if not entries:
         fail("no entry of the table is meant")
     if not shutil.which("rt"):
@@ -338,7 +363,8 @@ def main():
                     os.killpg(group, signal.SIGKILL)
 
     bad = f", {tally['BAD']} BAD" if tally["BAD"] else ""
-    print(f"{sum(tally.values())} tried, {tally['refused']} refused, {tally['SURVIVED']} survived{bad}")
+    asked = f" (without {', '.join(sorted(out))})" if out else ""
+    print(f"{sum(tally.values())} tried, {tally['refused']} refused, {tally['SURVIVED']} survived{bad}{asked}")
     if failures:
         return 2
     if tally["SURVIVED"]:

@@ -13,10 +13,11 @@ After a record, struct or type the names without a dot may be its own fields or 
 Instead of a path DECISIONS.md also has a crate, whose src/ is meant.
 
 In the tables of PROMISES.md a name without a file is one of a file that stands in the same cell; in the section 'The
-demands' it may be one of grid/specs/Demands.antt. In the table of wrong answers the second column has fields of
-`Mistakes` (grid/specs/Mistakes.antt), all of them, and the last one must-fail edits, as `crate/edit`; a crate holds for
-the edits after it in its row. In the table by calls each call of document 01 (a method of words/src/lib.rt's
-TriangleCode, or what grid/src/lib.rt hands on) has its row, with two edits or more of code. Every edit stands in a row.
+demands' it may be one of grid/specs/Demands.antt, and above its table one that is imported there. In the table of wrong
+answers the second column has fields of `Mistakes` (grid/specs/Mistakes.antt), all of them, and the last one must-fail
+edits, as `crate/edit`; a crate holds for the edits after it in its row. In the table by calls each call of document 01
+(a method of words/src/lib.rt's TriangleCode, or what grid/src/lib.rt hands on) has its row, with two edits or more of
+code. Every edit stands in a row.
 
 The crates in the tables of README.md and ARCHITECTURE.md are the libraries of crates.txt, and the modules that
 ARCHITECTURE.md names stand in their crates. LANDINGS.md tells what was, and is not read.
@@ -56,10 +57,10 @@ NUMBERS = (
 
 
 class Names:
-    """The names of a file: `tops`, and for each record, struct or type its own fields and methods."""
+    """The names of a file: `tops`, for each record, struct or type its own fields and methods, and what is imported."""
 
     def __init__(self):
-        self.tops, self.parts = set(), {}
+        self.tops, self.parts, self.imported = set(), {}, set()
 
     def find(self, names, owner=None):
         """What is wrong with these cited names, and the record or type whose own the names after them may be."""
@@ -122,7 +123,9 @@ def antt_block(lines, names, only_pub):
             for field in items(below_where(item)):
                 m = re.match(r"\s*(?:pub )?([^:]+?) :(?:\s|$)", field[0])
                 parts.update((".", f) for f in (m[1].split() if m else ()))
-        elif word not in ("use", "mod", "unfolding"):
+        elif word == "use":
+            names.imported.update(re.findall(r"[^\s,{}]+", " ".join(item).partition("{")[2]))
+        elif word not in ("mod", "unfolding"):
             # a name, or several, and a colon; a clause has an `=` or a bracket before its first colon
             m = re.match(r"([^(){}=;,:]+?) :(?:\s|$)", word + rest)
             names.tops.update(m[1].split() if m else ())
@@ -274,16 +277,16 @@ class Documents:
                 other.append(line)
         return found
 
-    def check_bare(self, doc, cell, default):
-        """The names of a cell that have no file of their own: they are those of a file of the cell, or of `default`."""
+    def check_bare(self, doc, cell, default=(), imported=()):
+        """The names of a cell that have no file of their own: of a file of the cell, of `default`, or `imported`."""
         codes = CODE.findall(cell)
-        files = [m[1] for c in codes if (m := PLACE.fullmatch(c))] + default
+        files = [m[1] for c in codes if (m := PLACE.fullmatch(c))] + list(default)
         place, owner = None, None
         for code in codes:
             if m := PLACE.fullmatch(code):
                 place, names = m[1], file_names(m[1])
                 owner = names.find(m[2].split(", "))[1] if names and m[2] else None
-            elif code in KEYWORDS or code in self.crates or not NAMES.fullmatch(code) or code.endswith(".md"):
+            elif not NAMES.fullmatch(code) or code.endswith(".md") or code in (*KEYWORDS, *self.crates, *imported):
                 continue
             else:
                 # the file before it first, where it may be of the record before it
@@ -333,7 +336,7 @@ class Documents:
                     self.check_bare(PROMISES, row[1], [DEMANDS] if title == ASKED else [])
             if title == ASKED:
                 for line in other:
-                    self.check_bare(PROMISES, line, [DEMANDS])
+                    self.check_bare(PROMISES, line, [DEMANDS], file_names(DEMANDS).imported)
         for title in (ASKED, WRONG_ANSWERS, BY_CALL):
             if title not in titles:
                 self.say(PROMISES, f"no section '{title}'")

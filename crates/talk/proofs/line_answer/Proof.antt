@@ -1,10 +1,10 @@
--- `plot_main::line_answer` is safe: the first n bytes of the line are n. Assumes nothing.
+-- `talk::line_answer` is safe: the first n bytes of the line are n. Assumes nothing.
 use mathlib.Core.Path.{sym}
 use denote.Ref.{now}
 use lib.Seq.{length-take-le}
 use borrow.Author.Needs.{needs}
-use Rattle.plot_main.proofs.line_answer.Statement.{statement}
-use Rattle.plot_main.proofs.line_answer.Tie as tie
+use Rattle.talk.proofs.line_answer.Statement.{statement}
+use Rattle.talk.proofs.line_answer.Tie as tie
 
 too-long-requires : tie.Need-too-long-requires
 too-long-requires c κs = search needs
@@ -19,7 +19,9 @@ returns-2 : tie.Need-returns-2
 returns-2 c = search needs
 
 slice-aggregate-answer : tie.Need-slice-aggregate-answer
-slice-aggregate-answer c = let s = c .before .before .before .before .before in sym (length-take-le (s .args .n) (now (s .args .line)) (c .before .if2 .left))
+slice-aggregate-answer c =
+    let s = c .before .before .before .before .before in
+    sym (length-take-le (s .args .n) (now (s .args .line)) (c .before .if2 .left))
 
 answer-requires : tie.Need-answer-requires
 answer-requires c κs = search needs

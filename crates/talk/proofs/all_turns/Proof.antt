@@ -1,12 +1,14 @@
--- `plot_main::all_turns` is safe and ends. The loop's invariant: the three buffers have their lengths. The measure is a count of turns that no input lasts for. Assumes nothing.
+-- `talk::all_turns` is safe and ends. The loop's invariant: the three buffers have their lengths. The measure is a
+-- count of turns that no input lasts for. Assumes nothing.
 use mathlib.Core.Path.{_≡_}
 use lib.ListN.{length}
 use borrow.Author.Needs.{needs}
-use Rattle.plot_main.proofs.all_turns.Statement.{statement}
-use Rattle.plot_main.proofs.all_turns.Tie as tie
+use Rattle.talk.proofs.all_turns.Statement.{statement}
+use Rattle.talk.proofs.all_turns.Tie as tie
 
 abbrev Inv-loop : tie.InvT-loop
-Inv-loop chunk₀ line₀ answers₀ n₀ turns₀ chunk line answers n turns = (length chunk ≡ length chunk₀) × (length line ≡ length line₀) × (length answers ≡ length answers₀)
+Inv-loop chunk₀ line₀ answers₀ n₀ turns₀ chunk line answers n turns =
+    (length chunk ≡ length chunk₀) × (length line ≡ length line₀) × (length answers ≡ length answers₀)
 
 abbrev μ-loop : tie.MeasureT-loop
 μ-loop chunk₀ line₀ answers₀ n₀ turns₀ chunk line answers n turns = turns
@@ -16,6 +18,9 @@ loop-holds c = search needs
 
 turn-requires : tie.Need-turn-requires Inv-loop μ-loop
 turn-requires c κs = search needs
+
+enum-known-t : tie.Need-enum-known-t Inv-loop μ-loop
+enum-known-t c = search needs
 
 same-length : tie.Need-same-length Inv-loop μ-loop
 same-length c = search needs
@@ -58,6 +63,7 @@ all-turns-spec =
     μ-loop
     loop-holds
     turn-requires
+    enum-known-t
     same-length
     same-length-2
     same-length-3

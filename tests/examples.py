@@ -1,0 +1,128 @@
+#!/usr/bin/env python3
+"""Every example of README.md, of docs/CONSOLE.md and of the console's help is compared by the gate.
+
+`rt ci` runs the console on the calls of crates/plot_main/stdin and holds what it writes to crates/plot_main/stdout. The
+first call is help; every line after it has one line as its answer. Here each example must stand there with just that
+answer, or, where a document cuts the answer short by ` ..`, with one that begins so. Each call must have one form, in
+the console's table, in the help and in the table of docs/CONSOLE.md, and all but help an example in the help.
+"""
+import pathlib
+import re
+import sys
+
+ROOT = pathlib.Path(__file__).resolve().parent.parent
+CONSOLE = ROOT / "crates" / "console" / "src"
+PAIR = ROOT / "crates" / "plot_main"
+wrong = []
+
+
+def constant(file, name):
+    """The text of a constant of the console."""
+    return re.search(rf'const {name}: \[u8; \d+\] = \*b"(.*?)";', (CONSOLE / file).read_text(), re.S)[1]
+
+
+HELP = constant("help.rt", "HELP")
+FORMS = constant("tables.rt", "CALLS").splitlines()
+NAMES = [form.split()[0] for form in FORMS]
+
+
+def stored():
+    """The answer to each call of the pair, but for help."""
+    calls = (PAIR / "stdin").read_text().splitlines()
+    text = (PAIR / "stdout").read_text()
+    answers = text[len(HELP) + 1 :].splitlines()
+    if calls[:1] != ["help"] or "help" in calls[1:] or not text.startswith(HELP + "\n"):
+        wrong.append("plot_main: stdin begins with its one call help, stdout with all of HELP of console/src/help.rt")
+    if len(calls) != len(answers) + 1:
+        wrong.append(f"plot_main: stdin has {len(calls) - 1} lines after help, and stdout {len(answers)}")
+    return dict(zip(calls[1:], answers))
+
+
+STORED = stored()
+
+
+def compare(place, call, answer):
+    known = STORED.get(call)
+    cut = answer.endswith(" ..")
+    if known is None:
+        wrong.append(f"{place}: plot_main/stdin has no line {call!r}")
+    elif not (known.startswith(answer[:-2]) if cut else known == answer):
+        wrong.append(f"{place}: {call!r} is said to answer {answer!r}, and in plot_main/stdout its answer is {known!r}")
+
+
+def compare_forms(place, forms):
+    for form in sorted(set(forms) ^ set(FORMS)):
+        wrong.append(f"{place}: the form {form!r} is {'not in tables.rt' if form in forms else 'missing'}")
+    if len(forms) != len(set(forms)):
+        wrong.append(f"{place}: a form stands there twice")
+
+
+# ---- the help: a paragraph for each call, which begins with its form; an example is indented by two
+
+def check_help():
+    paragraphs = [p.splitlines() for p in HELP.split("\n\n") if p.split()[0] in NAMES]
+    compare_forms("help", [lines[0].split("  ")[0] for lines in paragraphs])
+    count = 0
+    for lines in paragraphs:
+        examples = [re.fullmatch(r"  (\S.*?)  +(\S.*)", line) for line in lines[1:]]
+        examples = [found for found in examples if found]
+        if not examples and lines[0].split()[0] != "help":
+            wrong.append(f"help: {lines[0].split()[0]} has no example")
+        for found in examples:
+            compare("help", found[1], found[2])
+        count += len(examples)
+    return count
+
+
+# ---- docs/CONSOLE.md: `CALL` answers `ANSWER`; the forms in the first column of the table
+
+def check_console():
+    place = "docs/CONSOLE.md"
+    text = (ROOT / place).read_text()
+    rows = [row.split("|")[1] for row in text.splitlines() if row.startswith("| `")]
+    compare_forms(place, [form for row in rows for form in re.findall(r"`([^`]+)`", row)])
+    examples = re.findall(r"`([^`\n]+)`\s+answers\s+`([^`\n]+)`", text)
+    for call, answer in examples:
+        compare(place, call, answer)
+    # No call and no answer stands there in another way, where nothing would compare it.
+    compared = {part for example in examples for part in example} | set(FORMS) | set(STORED.values())
+    for code in re.findall(r"`([^`\n]+)`", text):
+        is_call = code.split()[:1] and code.split()[0] in NAMES
+        is_answer = re.match(r"(refused|error:) .", code) and not code.endswith(" ")
+        if (is_call or is_answer) and code not in compared:
+            wrong.append(f"{place}: nothing compares {code!r}")
+    return len(examples)
+
+
+# ---- README.md: `$ ./plot CALL`, a remark after #, and the answer in the next line that is no remark
+
+def check_readme():
+    place = "README.md"
+    lines = [line.strip() for line in (ROOT / place).read_text().splitlines()]
+    count = 0
+    for k, line in enumerate(lines):
+        if line.startswith("$ ./plot "):
+            call = line[len("$ ./plot ") :].split("#")[0].strip()
+            compare(place, call, next(after for after in lines[k + 1 :] if not after.startswith("#")))
+            count += 1
+    return count
+
+
+# ---- the console's own table: a call that cannot be read is answered by its form
+
+def check_table():
+    for name, form in zip(NAMES, FORMS):
+        compare("tables.rt", "help help" if name == "help" else name, f"error: write it as {form}")
+
+
+counts = {"help": check_help(), "docs/CONSOLE.md": check_console(), "README.md": check_readme()}
+check_table()
+for place, count in counts.items():
+    if count == 0:
+        wrong.append(f"{place}: no example was found")
+for line in wrong:
+    print(f"tests/examples.py: {line}")
+if wrong:
+    sys.exit(1)
+told = ", ".join(f"{count} of {place}" for place, count in counts.items())
+print(f"examples: all stand in what the console is held to ({told})")

@@ -1,0 +1,406 @@
+#!/usr/bin/env python3
+"""How ./plot is used and how it ends: its statuses and messages, when it builds the console, and which one it runs.
+
+The gate proves and builds last, so that no console is there yet. Here a copy of ./plot stands in a checkout of its own,
+with a toolkit whose rt only says that it proves, and a console that knows three calls. `tests/plot.py --built` holds
+./plot itself, with the console that it builds, to what needs no such stand-ins.
+"""
+import os
+import pathlib
+import pty
+import re
+import shutil
+import signal
+import subprocess
+import sys
+import tempfile
+
+ROOT = pathlib.Path(__file__).resolve().parent.parent
+ANSWERS = {
+    "file 2 0 0 1": "10003 0x208C000000000000",
+    "file 25 0 0 1": "refused 1: a degree, as field or argument, is above 24",
+    "corner 200 2": "error: no such call; help shows them",
+}
+MANY = "file 2 0 0 1\n" * 6000  # More answers than a pipe holds.
+UNWRITTEN = "plot: the answers could not be written\n"
+UNREAD = "plot: the calls could not be read\n"
+NO_ERROR = {"stderr": None, "preexec_fn": lambda: os.close(2)}
+wrong = []
+
+
+def expect(what, got, wanted):
+    if got != wanted:
+        wrong.append(f"{what}: {got!r} in place of {wanted!r}")
+
+
+# ---- the stand-ins
+
+# rt counts its runs, reads what it is given, says what it proves, and leaves a program. A file in the checkout makes it
+# slow, or change the source, or fail.
+RT = """#!/bin/sh
+[ "$*" = "check plot_main" ] || exit 2
+echo run >>runs
+head -c 1 >/dev/null
+[ ! -e slow ] || sleep 0.5
+[ ! -e changes ] || echo changed >>crates/console/src/lib.rt
+mkdir -p target/bin && cp console target/bin/plot_main
+echo 'rt: lines proved (unchanged since it was last proved)'
+echo 'rt: console proved (7 s)'
+echo 'what the prover says'
+echo 'rt: plot_main proved (8 s)'
+[ ! -e fails ] || { echo 'rt: FAILED: plot_main'; exit 1; }
+echo 'rt: ok, 3 crates proved'
+"""
+
+# The console stops as the real one does. `mute` and `dies` are ways in which that one never ends.
+CONSOLE = """#!/usr/bin/env bash
+[ ! -d /dev/stdin ] || { echo 'plot: the calls could not be read' >&2; exit; }
+while IFS= read -r line || [ -n "$line" ]; do
+    answer=
+    case $line in
+    'file 2 0 0 1') answer='10003 0x208C000000000000' ;;
+    'file 25 0 0 1') answer='refused 1: a degree, as field or argument, is above 24' ;;
+    'corner 200 2') answer='error: no such call; help shows them' ;;
+    mute) exit ;;
+    dies) exit 9 ;;
+    esac
+    printf '%s\\n' "$answer" 2>/dev/null || { echo 'plot: the answers could not be written' >&2; exit; }
+done
+"""
+
+LOADER = '#!/bin/sh\nexec "$3"\n'
+EMULATOR = '#!/bin/sh\n[ -z "$QEMU_STRACE" ] || echo traced\nexec "$@"\n'
+TOOLS = "awk bash cat cp cut dirname find flock head mkdir mv readlink sed sha256sum sh sleep sort tee xargs".split()
+
+
+def write(path, text, mode=0o644):
+    path.parent.mkdir(parents=True, exist_ok=True)
+    path.write_text(text)
+    path.chmod(mode)
+
+
+class StandIn:
+    """A checkout and a toolkit for a kind of machine, in a folder of their own. Nothing else is on the PATH."""
+
+    def __init__(self, machine="x86_64"):
+        self.folder = pathlib.Path(tempfile.mkdtemp(prefix="plot-"))
+        self.folder.chmod(0o755)
+        self.home, self.kit, self.tools = (self.folder / name for name in ("checkout", "kit", "tools"))
+        write(self.home / "plot", (ROOT / "plot").read_text(), 0o755)
+        write(self.home / "console", CONSOLE, 0o755)
+        write(self.home / "crates.txt", "plot_main: console # the program\nconsole: lines\nlines:\nother:\n")
+        for crate in "lines", "console", "plot_main", "other":
+            write(self.home / "crates" / crate / "src" / "lib.rt", crate)
+        shutil.copy(ROOT / "crates" / "plot_main" / "stdout", self.home / "crates" / "plot_main")
+        write(self.kit / "KIT-ID", "a stand-in\n")
+        write(self.kit / "bin" / "rt", RT, 0o755)
+        self.toolchain = self.kit / "on" / machine / "toolchain"
+        write(self.toolchain / "lib" / "ld-linux-x86-64.so.2", LOADER, 0o755)
+        write(self.toolchain / "bin" / "qemu-x86_64", EMULATOR, 0o755)
+        write(self.tools / "uname", f"#!/bin/sh\necho {machine}\n", 0o755)
+        for tool in TOOLS:
+            (self.tools / tool).symlink_to(shutil.which(tool))
+        self.plot = self.home / "plot"
+        self.environment = {"PATH": f"{self.kit}/bin:{self.tools}"}
+
+    def __enter__(self):
+        return self
+
+    def __exit__(self, *_):
+        self.writable(True)
+        shutil.rmtree(self.folder)
+
+    def writable(self, is_writable):
+        for folder, _, files in os.walk(self.home):
+            for path in [folder, *(os.path.join(folder, name) for name in files)]:
+                os.chmod(path, os.stat(path).st_mode | 0o200 if is_writable else os.stat(path).st_mode & ~0o222)
+
+    def runs(self):
+        """How often rt was run."""
+        counted = self.home / "runs"
+        return len(counted.read_text().splitlines()) if counted.exists() else 0
+
+
+class Built:
+    """./plot itself."""
+
+    plot = ROOT / "plot"
+    environment = dict(os.environ)
+
+
+def start(place, *words, **how):
+    how = {"stdin": subprocess.DEVNULL, "stdout": subprocess.PIPE, "stderr": subprocess.PIPE, "text": True,
+           "env": place.environment, **how}
+    return subprocess.Popen([how.pop("plot", place.plot), *words], start_new_session=True, **how)
+
+
+def end(process, calls=None):
+    """The status, standard output and standard error of a ./plot, which is ended where it hangs."""
+    try:
+        out, err = process.communicate(calls, timeout=900 if "--built" in sys.argv else 60)
+    except subprocess.TimeoutExpired:
+        os.killpg(process.pid, signal.SIGKILL)
+        out, err = process.communicate()
+    return process.returncode, out, err
+
+
+def run(place, *words, calls=None, **how):
+    if calls is not None:
+        how["stdin"] = subprocess.PIPE
+    return end(start(place, *words, **how), calls)
+
+
+def quietly(place, *words, **how):
+    """The same where the console may have to be built first."""
+    status, out, err = run(place, *words, **how)
+    return status, out, "".join(line for line in err.splitlines(True) if "prov" not in line)
+
+
+# ---- what ./plot answers, and its statuses
+
+def test_calls(place):
+    for status, (call, answer) in enumerate(ANSWERS.items()):
+        expect(call, quietly(place, *call.split()), (status, answer + "\n", ""))
+        expect(f"{call} as one argument", run(place, call), (status, answer + "\n", ""))
+    expect("a remark", run(place, "#", "remark"), (0, "\n", ""))
+
+
+def test_lines(place):
+    asked, answered = "\n".join(ANSWERS), "\n".join(ANSWERS.values()) + "\n"
+    error = ANSWERS["corner 200 2"] + "\n"
+    expect("calls on standard input", run(place, calls=asked + "\n"), (0, answered, ""))
+    expect("a last line without its end", run(place, calls=asked), (0, answered, ""))
+    expect("no calls", run(place, calls=""), (0, "", ""))
+    expect("standard error closed", run(place, calls=asked, **NO_ERROR), (0, answered, None))
+    expect("a call, standard error closed", run(place, "corner 200 2", **NO_ERROR), (2, error, None))
+    expect("a call beside other input", run(place, "corner 200 2", calls=asked), (2, error, ""))
+
+
+def test_line_end(place):
+    status, out, err = run(place, "file", "2 0\n0 1")
+    expect("a line end in an argument", (status, out, err.count("\n"), "line end" in err), (2, "", 1, True))
+
+
+def test_lost(place):
+    for words, calls in ((["file 2 0 0 1"], None), ([], MANY)):
+        def lose(what, err=UNWRITTEN, **how):
+            expect(f"{'a call' if words else 'calls'}, {what}", run(place, *words, calls=calls, **how), (3, None, err))
+
+        with open("/dev/full", "w") as full:
+            lose("output full", stdout=full)
+            lose("output and standard error full", stdout=full, stderr=full, err=None)
+            lose("output full, standard error closed", stdout=full, err=None, **NO_ERROR)
+        lose("output closed", stdout=None, preexec_fn=lambda: os.close(1))
+        reading, writing = os.pipe()
+        os.close(reading)
+        lose("pipe closed", stdout=writing)
+        lose("pipe closed and SIGPIPE ignored", stdout=writing, restore_signals=False)
+        os.close(writing)
+
+
+def test_head(place):
+    """As `./plot | head -1`: the first answer is read, then none."""
+    with tempfile.TemporaryFile("w+") as calls:
+        calls.write(MANY)
+        calls.seek(0)
+        process = start(place, stdin=calls)
+        expect("the first of many answers", process.stdout.readline(), ANSWERS["file 2 0 0 1"] + "\n")
+        process.stdout.close()
+        process.stdout = None
+        expect("many answers after it", end(process), (3, None, UNWRITTEN))
+
+
+def test_unread(place):
+    folder = os.open("/", os.O_RDONLY)
+    expect("calls from a folder", run(place, stdin=folder), (3, "", UNREAD))
+    os.close(folder)
+    expect("calls, input closed", run(place, stdin=None, preexec_fn=lambda: os.close(0)), (3, "", UNREAD))
+    expect("a call, input closed", run(place, "file 2 0 0 1", stdin=None, preexec_fn=lambda: os.close(0)),
+           (0, ANSWERS["file 2 0 0 1"] + "\n", ""))
+
+
+def test_link(place):
+    with tempfile.TemporaryDirectory() as folder:
+        link = pathlib.Path(folder) / "plot"
+        link.symlink_to(os.path.relpath(place.plot, os.path.realpath(folder)))
+        answer = ANSWERS["file 2 0 0 1"] + "\n"
+        expect("a link to ./plot", run(place, "file 2 0 0 1", plot=link, cwd="/"), (0, answer, ""))
+
+
+def test_help(place):
+    shown = (ROOT / "crates" / "console" / "src" / "help.rt").read_text().split('*b"')[1].split('";')[0]
+    status, out, err = run(place, "--help")
+    expect("--help", (status, out.endswith("\n\n" + shown + "\n"), err), (0, True, ""))
+    expect("-h", run(place, "-h"), (status, out, err))
+    documented = (ROOT / "docs" / "CONSOLE.md").read_text()
+    statuses, same = (re.findall(r"^    \d    .*$", text, re.M) for text in (out, documented))
+    expect("the statuses of --help", [line.split()[0] for line in statuses], list("01234"))
+    expect("the statuses of docs/CONSOLE.md", same, statuses)
+    with open("/dev/full", "w") as full:
+        expect("--help, output full", run(place, "--help", stdout=full), (3, None, UNWRITTEN))
+
+
+# ---- what needs the stand-ins
+
+def test_console_fails(place):
+    expect("a call without an answer", run(place, "mute")[:2], (3, ""))
+    expect("a console that dies at a call", run(place, "dies")[:2], (4, ""))
+    expect("a console that dies", run(place, calls="dies\n")[:2], (4, ""))
+
+
+def one_line(what, got, *parts):
+    """Status 4, and one line that says why."""
+    status, out, err = got
+    found = (status, out, err.count("\n"), err.startswith("plot: "), [part for part in parts if part not in err])
+    expect(f"{what} ({err!r})", found, (4, "", 1, True, []))
+
+
+def test_toolkit(place):
+    def with_environment(**changed):
+        return run(place, "file 2 0 0 1", env={**place.environment, **changed})
+
+    one_line("no rt", with_environment(PATH=str(place.tools)), "rt", "PATH")
+    expect("--help without rt", run(place, "--help", env={"PATH": str(place.tools)})[0], 0)
+    one_line("a wrong RATTLE_HOME", with_environment(RATTLE_HOME="/nonsense"), "/nonsense", "RATTLE_HOME")
+    expect("the right RATTLE_HOME", with_environment(RATTLE_HOME=str(place.kit))[0], 0)
+    (place.toolchain / "bin" / "qemu-x86_64").unlink()
+    expect("x86-64 without an emulator", run(place, "file 2 0 0 1")[0], 0)
+    (place.toolchain / "lib" / "ld-linux-x86-64.so.2").unlink()
+    one_line("no loader", run(place, "file 2 0 0 1"), "loader", "ld-linux-x86-64.so.2")
+    (place.kit / "on").rename(place.kit / "off")
+    one_line("a toolkit for no machine", run(place, "file 2 0 0 1"), "x86_64", str(place.kit))
+
+
+def test_emulator():
+    with StandIn("aarch64") as place:
+        for more in {}, {"QEMU_STRACE": "1"}:
+            got = run(place, "file 2 0 0 1", env={**place.environment, **more})
+            expect(f"by the emulator {more}", got[:2], (0, ANSWERS["file 2 0 0 1"] + "\n"))
+        (place.toolchain / "bin" / "qemu-x86_64").unlink()
+        one_line("no emulator", run(place, "file 2 0 0 1"), "emulator", "qemu-x86_64")
+
+
+def test_progress():
+    said = "plot: proving and building the console first, which can take some minutes\n"
+    with StandIn() as place:
+        status, _, err = run(place, "file 2 0 0 1")
+        plain = said + "plot: crate 2 of 3: console proved (7 s)\nplot: crate 3 of 3: plot_main proved (8 s)\n"
+        expect("a build in plain lines", (status, re.sub(r"\d+ s\)\n$", "N s)\n", err)),
+               (0, plain + "plot: the console is proved and built (N s)\n"))
+        log = place.home / "target" / "plot" / "build.log"
+        expect("its log", log.exists() and "what the prover says\n" in log.read_text(), True)
+    with StandIn() as place:
+        answered = (0, ANSWERS["file 2 0 0 1"] + "\n", None)
+        expect("calls before a build", run(place, calls="file 2 0 0 1\n", **NO_ERROR), answered)
+    with StandIn() as place:
+        master, slave = pty.openpty()
+        status = run(place, "file 2 0 0 1", stderr=slave)[0]
+        os.close(slave)
+        shown = os.read(master, 10000).decode().replace("\r\n", "\n")
+        os.close(master)
+        lines = [re.sub(r" \(\d+ s so far\)", "", line) for line in shown.split("\r\033[K")]
+        expect("a build on a terminal", (status, lines[:-1]), (0, [
+            said, "plot: proving crate 1 of 3: lines", "plot: proving crate 2 of 3: console",
+            "plot: proving crate 3 of 3: plot_main", "plot: running the console on its examples"]))
+
+
+def test_staleness():
+    with StandIn() as place:
+        def runs_after(what, wanted):
+            status, out, _ = run(place, "file 2 0 0 1")
+            expect(what, (status, out, place.runs()), (0, ANSWERS["file 2 0 0 1"] + "\n", wanted))
+
+        runs_after("the first call builds", 1)
+        runs_after("the second does not", 1)
+        source = place.home / "crates" / "lines" / "src" / "lib.rt"
+        os.utime(source, (4000000000, 4000000000))
+        runs_after("a later date builds nothing", 1)
+        source.write_text("other")
+        os.utime(source, (0, 0))
+        runs_after("other contents under an old date are built", 2)
+        source.write_text("lines")
+        runs_after("the contents of before have their console", 2)
+        write(place.home / "crates" / "other" / "src" / "lib.rt", "changed")
+        runs_after("a crate that the console does not rest on changes nothing", 2)
+        write(place.home / "crates" / "plot_main" / "stdin", "help\n")
+        runs_after("other stored calls are compared", 3)
+        write(place.kit / "KIT-ID", "another\n")
+        runs_after("another toolkit builds", 4)
+
+
+def test_failed_build():
+    with StandIn() as place:
+        (place.home / "fails").touch()
+        for what in "a failed comparison", "the console that failed is not used":
+            status, out, err = run(place, "file 2 0 0 1")
+            log = str(place.home / "target" / "plot" / "build.log")
+            expect(what, (status, out, "plot: rt: FAILED: plot_main\n" in err, log in err), (4, "", True, True))
+        expect("it is built again", place.runs(), 2)
+        (place.home / "fails").unlink()
+        (place.home / "changes").touch()
+        status, out, err = run(place, "file 2 0 0 1")
+        expect("a source that changes meanwhile", (status, out, "changed" in err), (4, "", True))
+
+
+def test_two_at_a_time():
+    with StandIn() as place:
+        (place.home / "slow").touch()
+        both = [end(process) for process in [start(place, "file 2 0 0 1") for _ in range(2)]]
+        expect("two at a time", [got[:2] for got in both], [(0, ANSWERS["file 2 0 0 1"] + "\n")] * 2)
+        expect("one builds, one waits", (place.runs(), sum("waiting" in err for _, _, err in both)), (1, 1))
+
+
+def test_open_console():
+    """A console at which somebody still writes keeps nobody from building another."""
+    with StandIn() as place:
+        first = start(place, stdin=subprocess.PIPE)
+        first.stdin.write("file 2 0 0 1\n")
+        first.stdin.flush()
+        expect("an open console", first.stdout.readline(), ANSWERS["file 2 0 0 1"] + "\n")
+        write(place.home / "crates" / "lines" / "src" / "lib.rt", "changed")
+        second = start(place, "file 2 0 0 1")
+        expect("a build beside it", second.stderr.readline().split()[1:2], ["proving"])
+        end(first)
+        end(second)
+
+
+def test_read_only():
+    """Root may write where nobody else may, so root runs this as nobody."""
+    nobody = {"user": 65534, "group": 65534, "extra_groups": []} if os.geteuid() == 0 else {}
+    with StandIn() as place:
+        place.writable(False)
+        one_line("read-only, not built", run(place, "file 2 0 0 1", **nobody), "target/plot", "written")
+        place.writable(True)
+        expect("built", run(place, "file 2 0 0 1")[0], 0)
+        place.writable(False)
+        expect("read-only, built", run(place, "file 2 0 0 1", **nobody), (0, ANSWERS["file 2 0 0 1"] + "\n", ""))
+        place.writable(True)
+        (place.tools / "flock").unlink()
+        write(place.home / "crates" / "lines" / "src" / "lib.rt", "changed")
+        one_line("no flock", run(place, "file 2 0 0 1"), "flock")
+
+
+def test_answering(place):
+    for test in test_calls, test_lines, test_line_end, test_lost, test_head, test_unread, test_link, test_help:
+        test(place)
+
+
+if sys.argv[1:] == ["--built"]:
+    test_answering(Built())
+else:
+    with StandIn() as stand_in:
+        test_answering(stand_in)
+        test_console_fails(stand_in)
+        test_toolkit(stand_in)
+    test_emulator()
+    test_progress()
+    test_staleness()
+    test_failed_build()
+    test_two_at_a_time()
+    test_open_console()
+    test_read_only()
+for line in wrong:
+    print(f"tests/plot.py: {line}")
+if wrong:
+    sys.exit(1)
+print("plot: its statuses are as documented, and it builds what it must")

@@ -38,7 +38,12 @@ END
 }
 
 # What help shows stands first in what the console is held to: it can be read before the console is built.
-show_help() { put "$(usage && echo && sed '/^help /q' "$home/crates/plot_main/stdout")"; }
+show_help() {
+    local shown
+    shown=$(usage && echo && sed '/^help /q' "$home/crates/plot_main/stdout" 2>/dev/null) ||
+        die 4 "what help shows, below $home, cannot be read"
+    put "$shown"
+}
 
 # ---- the toolkit
 

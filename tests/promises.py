@@ -36,6 +36,7 @@ README, PROMISES, DECISIONS = "README.md", "docs/PROMISES.md", "docs/DECISIONS.m
 ARCHITECTURE = "docs/ARCHITECTURE.md"
 DOCS = (README, PROMISES, DECISIONS, ARCHITECTURE, "docs/FILING.md", "docs/CONSOLE.md", "docs/PERFORMANCE.md")
 DEMANDS, MISTAKES = "grid/specs/Demands.antt", "grid/specs/Mistakes.antt"
+CONTRACTS = "crates/grid/specs/Contracts.antt"
 ASKED = "The demands"
 WRONG_ANSWERS = "Wrong answers that are ruled out, as theorems"
 BY_CALL = "Wrong programs and definitions, call by call"
@@ -382,11 +383,23 @@ class Documents:
                 if value != many:
                     self.say(doc, f"it says {said} {what}, and there are {many}")
 
+    def check_contracts(self):
+        """Each call has one row of Contracts, and the rows have the names of those of Demand1."""
+        text = self.text(CONTRACTS)
+        rows = set(re.findall(r"^  pub (\w+) :", text, re.MULTILINE))
+        for name in sorted(rows ^ {name for _, name in file_names(DEMANDS).parts["Demand1"]}):
+            self.say(CONTRACTS, f"{name} is a row of Contracts or of Demand1, and not of both")
+        asked = re.findall(r"Says \((\w+)\.Asked ", text)
+        for call in calls():
+            if asked.count(call.rpartition("::")[2]) != 1:
+                self.say(CONTRACTS, f"{call} has not one row")
+
     def check(self, docs=DOCS):
         for doc in docs:
             self.check_places(doc)
             self.check_numbers(doc)
         self.check_promises()
+        self.check_contracts()
         self.check_crates()
         self.check_modules()
         return self.wrong
@@ -445,6 +458,8 @@ TAKEN = (
     ("a call's row", PROMISES, "`name_back`", "name_back has fewer than two"),
     ("a crate's line", README, "\n    golden ", "no golden"),
     ("a section", PROMISES, "## " + BY_CALL, "no section"),
+    ("a call's contract", CONTRACTS, "Says (ring.Asked", "ring has not one row"),
+    ("a row of Demand1", CONTRACTS, "  pub ring :", "ring is a row of Contracts or of Demand1"),
 )
 
 # Rows that are right, and bring no report.

@@ -7,7 +7,7 @@ use Prim.Native.Nat.{ℕ, zero, suc}
 use native.Mathlib.Omega.{arith}
 use lib.ListN.{length}
 use Rattle.frame.specs.Answers.{Answer, Known, Listed, over}
-use Rattle.frame.specs.Promises.{Gives, Keeps, Says, _gives_}
+use Rattle.frame.specs.Promises.{Keeps, Says, _gives_}
 
 -- a call answers or refuses
 pub answers-or-not : (f : ℕ) → (f ≡ 0) ⊎ (f ≡ 0 → ⊥)

@@ -1,5 +1,5 @@
--- Document 01, 'What the contracts owe', and what is asked of each call: a promise P of a call at given arguments says
--- which answers it may give. Assumes nothing.
+-- Document 01, 'What the contracts owe', and the user's demand 1 (grid/specs/Demands.antt): a promise P of a call at
+-- given arguments says which answers it may give. Assumes nothing.
 use mathlib.Core.Path.{_≡_}
 use mathlib.Core.Logic.{_↔_}
 use Prim.Native.Nat.{ℕ}
@@ -25,7 +25,7 @@ infix 3 _leaves_
 abbrev pub _leaves_ : {A M : Type 0} → (A → M → Type 0) → A × M → Type 0
 P leaves x = together P gives x
 
--- "Each call answers, or refuses by document 01's number exactly when 01 says so; a refusal returns its number and
+-- Demand 1: "Each call answers, or refuses by document 01's number exactly when 01 says so; a refusal returns its number and
 -- zeros": f is the number that document 01 gives, 0 where the call answers.
 -- "No older answer is ever repeated": the arguments alone determine the answer.
 pub record Keeps {A : Type 0} (f : ℕ) (P : A → Type 0) (number : A → ℕ) (zeros : ℕ → A) : Type 0 where

@@ -72,7 +72,7 @@ use Rattle.directions.proofs.OneFiling.{how-many, how-many-sides}
 use Rattle.directions.proofs.Refused.{list-passes}
 use Rattle.filing.specs.Filing.{AreHolders}
 use Rattle.grid.specs.Counts.{IsCorner}
-use Rattle.grid.specs.Sentences.{AllBelow, AreDigits, Onward, SameVertices, Sentences, Spans, TurnsInSpace}
+use Rattle.grid.specs.Sentences.{AllBelow, ManyDigits, Onward, SameVertices, Sentences, Spans, TurnsInSpace}
 use Rattle.grid.proofs.Counted.{counted, side-corner, units-differ}
 use Rattle.grid.proofs.Differing.{codes-differ, corners-differ, edge-there, edges-differ}
 use Rattle.grid.proofs.Middles.{ends-apart}
@@ -106,7 +106,7 @@ module _ {t u : TriangleCode} (c : IsCode 0 t) (d : IsCode 0 u) where
       )
 
 -- digits, one by one
-digits-are : (n : ℕ) (ds : List ℕ) → AreDigits n ds → digits.AreDigits n ds
+digits-are : (n : ℕ) (ds : List ℕ) → ManyDigits n ds → digits.AreDigits n ds
 digits-are zero [] a = none
 digits-are zero (d ∷ ds) a = absurd (omega (arith, a .many))
 digits-are (suc n) [] a = absurd (omega (arith, a .many))

@@ -1,7 +1,7 @@
 -- What the functions themselves say: the `ensures` of each call is just the promise that the demands speak of, and no
 -- call has a `requires`. `Asked` and `Learnt` are what the toolchain reads off a function's contract: what it asks of a
--- caller, and what a caller learns, at the arguments, the result, and the arguments as they are left. A call whose
--- contract is emptied, or says something else, has no row. Assumes nothing.
+-- caller, and what a caller learns, at the arguments, the result, and the arguments as they are left. Where a call's
+-- contract is emptied, or says something else, its row cannot be proved. Assumes nothing.
 use mathlib.Core.Path.{_≡_}
 use mathlib.Core.List.{List}
 use Prim.Native.Nat.{ℕ}

@@ -24,7 +24,7 @@ use Rattle.net.specs.Division.{Weights, kept, middle, sum}
 use Rattle.net.specs.Corners.{corner, HasCorner, named}
 use Rattle.net.specs.Names.{IsName}
 use Rattle.net.specs.Refusals.{checkName, onOneSide}
-use Rattle.net.specs.Steps.{Across, IsRing, IsWhole}
+use Rattle.net.specs.Steps.{Across, IsRing, IsWhole, SameTwo}
 use Rattle.filing.specs.Coordinates.{direction, _+ᵛ_, times, exact}
 use Rattle.filing.specs.Holding.{along, determinant, Holds}
 use Rattle.filing.specs.Multiples.{IsSum}
@@ -51,8 +51,7 @@ pub record WhatTheGridIs : Type 0 where
 -- edge k of the side s and edge m of the side s′ have the same two vertices
 abbrev pub SameVertices : (s k s′ m : ℕ) → Type 0
 SameVertices s k s′ m =
-    ((cornerVertex s (next k) ≡ cornerVertex s′ (next m)) × (cornerVertex s (prev k) ≡ cornerVertex s′ (prev m)))
-    ⊎ ((cornerVertex s (next k) ≡ cornerVertex s′ (prev m)) × (cornerVertex s (prev k) ≡ cornerVertex s′ (next m)))
+    SameTwo (cornerVertex s (next k)) (cornerVertex s (prev k)) (cornerVertex s′ (next m)) (cornerVertex s′ (prev m))
 
 pub record VerticesAndSides : Type 0 where
   -- "φ is the positive root of φ² = φ + 1."
@@ -99,7 +98,7 @@ pub record DivisionAndWeights : Type 0 where
 -- ---- The 64-bit words
 
 -- n digits from 0 to 3
-pub record AreDigits (n : ℕ) (ds : List ℕ) : Type 0 where
+pub record ManyDigits (n : ℕ) (ds : List ℕ) : Type 0 where
   pub many : length ds ≡ n
   pub each : (m : ℕ) → m < n → getD ds m 0 ≤ 3
 
@@ -108,7 +107,7 @@ pub record The64BitWords : Type 0 where
   -- and has them
   pub wordOfFields : (n : ℕ) (t : TriangleCode) → IsCode n t
       → t .0 ≡ wordOf (sideOf (t .0)) n (path (digits (t .0) n))
-  pub fieldsOfWord : (s n : ℕ) (ds : List ℕ) → IsSide s → n ≤ 24 → AreDigits n ds
+  pub fieldsOfWord : (s n : ℕ) (ds : List ℕ) → IsSide s → n ≤ 24 → ManyDigits n ds
       → let w = wordOf s n (path ds) in IsCode n (codeOf w) × (sideOf w ≡ s) × (digits w n ≡ ds)
 
 -- ---- Refusal numbers
@@ -151,14 +150,14 @@ pub record Onward (p : Weights) (t t′ : TriangleCode) : Type 0 where
   pub there : Spans p t′ b c
 
 -- the triangle at place m of a list
-abbrev pub place : List ℕ → ℕ → TriangleCode
-place ts m = codeOf (getD ts m 0)
+abbrev pub codeIn : List ℕ → ℕ → TriangleCode
+codeIn ts m = codeOf (getD ts m 0)
 
--- The ring ts of the corner that q names turns anticlockwise in space: from each triangle to the next, and from the last
--- to the first.
+-- The ring ts of the corner that q names turns anticlockwise in space: from each triangle to the next, and from the
+-- last to the first.
 pub record TurnsInSpace (q : CornerName) (ts : List ℕ) : Type 0 where
-  pub onward : (m : ℕ) → suc m < length ts → Onward (named q) (place ts m) (place ts (suc m))
-  pub around : Onward (named q) (place ts (length ts - 1)) (place ts 0)
+  pub onward : (m : ℕ) → suc m < length ts → Onward (named q) (codeIn ts m) (codeIn ts (suc m))
+  pub around : Onward (named q) (codeIn ts (length ts - 1)) (codeIn ts 0)
 
 pub record StepsAndRings : Type 0 where
   -- "The ring answers a count and its triangles, 5 .., else 6, .. beginning with the triangle inside the corner's own

@@ -13,8 +13,8 @@ use Rattle.net.specs.Sides.{OneToThree, next, prev}
 use Rattle.net.specs.Division.{Weights}
 use Rattle.net.specs.Corners.{corner, codeInside, named, HasCorner}
 
--- The same two corners, in either order.
-abbrev pub SameTwo : (p q p′ q′ : Weights) → Type 0
+-- The same two, in either order.
+abbrev pub SameTwo : {A : Type 0} → (p q p′ q′ : A) → Type 0
 SameTwo p q p′ q′ = ((p ≡ p′) × (q ≡ q′)) ⊎ ((p ≡ q′) × (q ≡ p′))
 
 -- "Crossing an edge answers the neighbour's code and the number of the shared edge there": another triangle of the
@@ -56,7 +56,8 @@ pub record IsRing (r : CornerName) (ts : List ℕ) : Type 0 where
   pub begins : getD ts 0 0 ≡ codeInside r .0
   pub turns : (m : ℕ) → suc m < length ts → Turn (named r) (codeOf (getD ts m 0)) (codeOf (getD ts (suc m) 0))
 
--- The words ts are all of the ring: no contract speaks of it, but every ring is so (grid/specs/Sentences.antt).
+-- The words ts are all of the ring. No contract speaks of it, but the ring of every name that passes is so
+-- (grid/specs/Sentences.antt).
 pub record IsWhole (r : CornerName) (ts : List ℕ) : Type 0 where
   -- its triangles are different
   pub differ : (i j : ℕ) → i < j → j < length ts → getD ts i 0 ≡ getD ts j 0 → ⊥

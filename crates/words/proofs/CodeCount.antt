@@ -25,7 +25,7 @@ four-pow (suc n) =
     ap (λ (m : ℕ). 4 ^ m) s ∙ pow-add 4 n 1 ∙ ap (λ (x : ℕ). x * 4) (four-pow n) ∙ sym (pow-add 2 (2 * n) 2)
     ∙ ap (λ (m : ℕ). 2 ^ m) (sym e)
 
-pub four-pos : (n : ℕ) → 0 < 4 ^ n
+four-pos : (n : ℕ) → 0 < 4 ^ n
 four-pos n = rw (four-pow n) (pow-pos (2 * n))
 
 module _ (n i : ℕ) (n≤ : n ≤ 24) where

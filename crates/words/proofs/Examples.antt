@@ -5,7 +5,7 @@ use mathlib.Core.Bool.{true, false}
 use mathlib.Core.List.{[], _∷_}
 use Prim.Native.Nat.{ℕ, _+_}
 use Rattle.words.specs.Words.{digits, wordOf}
-use Rattle.frame.specs.Refusals.{firstOf, order, refusal}
+use Rattle.frame.specs.Refusals.{firstOf, order}
 use Rattle.frame.proofs.Refusing.{inOrder}
 use Rattle.words.specs.Refusals.{checkCode, checkNameFields}
 use Rattle.words.specs.Family.{codeOf}

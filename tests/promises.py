@@ -488,8 +488,8 @@ def self_test():
         return head + mark + line + "\n" + rest if mark else ""
 
     def with_row(title, cells):
-        head = re.search(rf"\n## {re.escape(title)}\n(?:[^|].*\n|\n)*\|.*\n\|.*\n", original(PROMISES))
-        return original(PROMISES)[: head.end()] + f"| x | {cells} |\n" + original(PROMISES)[head.end() :]
+        head = re.compile(rf"(\n## {re.escape(title)}\n(?:[^|].*\n|\n)*\|.*\n\|.*\n)")
+        return head.sub(lambda m: f"{m[1]}| x | {cells} |\n", original(PROMISES))
 
     for what, title, cells, words in ROWS:
         if not any(words in w for w in reports(PROMISES, with_row(title, cells))):

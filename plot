@@ -103,19 +103,31 @@ name_console() {
 # Writes a line over the last one, on a terminal.
 on_terminal() { [ ! -t 2 ] || printf '\r\033[K%s' "$1" >&2; }
 
-# Tells how far rt is, by what it prints: on a terminal what is being proved, else each crate that has been.
+# What rt is at when it has proved so many crates.
+work_after() {
+    local n=${#crates[@]}
+    if [ "$1" -lt "$n" ]; then
+        echo "proving crate $(($1 + 1)) of $n: ${crates[$1]}"
+    else
+        echo "running the console on its examples"
+    fi
+}
+
+# Tells how far rt is, by what it prints: on a terminal what it is at, second by second, else each crate that it proved.
 tell_progress() {
-    local line k=0 n=${#crates[@]}
-    on_terminal "plot: proving crate 1 of $n: ${crates[0]}"
-    while IFS= read -r line; do
-        [[ $line == "rt: "*" proved ("* ]] || continue
-        k=$((k + 1))
-        [[ -t 2 || $line == *"(unchanged "* ]] || say "crate $k of $n: ${line#rt: }"
-        if [ "$k" -lt "$n" ]; then
-            on_terminal "plot: proving crate $((k + 1)) of $n: ${crates[k]} ($SECONDS s so far)"
-        else
-            on_terminal "plot: running the console on its examples ($SECONDS s so far)"
+    local part line='' proved=0 status=0
+    while [ "$status" = 0 ] || [ "$status" -gt 128 ]; do
+        on_terminal "plot: $(work_after "$proved") ($SECONDS s)"
+        status=0
+        IFS= read -r -t 1 part || status=$?
+        line+=$part
+        # A second has passed, or the input has ended, before a whole line was there.
+        [ "$status" = 0 ] || continue
+        if [[ $line == "rt: "*" proved ("* ]]; then
+            proved=$((proved + 1))
+            [[ -t 2 || $line == *"(unchanged "* ]] || say "crate $proved of ${#crates[@]}: ${line#rt: }"
         fi
+        line=
     done
     on_terminal ''
 }

@@ -5,10 +5,12 @@ The gate proves and builds last, so that no console is there yet. Here a copy of
 with a toolkit whose rt only says that it proves, and a console that knows three calls. `tests/plot.py --built` holds
 ./plot itself, with the console that it builds, to what needs no such stand-ins.
 """
+import faulthandler
 import os
 import pathlib
 import pty
 import re
+import select
 import shutil
 import signal
 import subprocess
@@ -35,16 +37,18 @@ def expect(what, got, wanted):
 
 # ---- the stand-ins
 
-# rt counts its runs, reads what it is given, says what it proves, and leaves a program. A file in the checkout makes it
-# slow, or change the source, or fail.
+# rt counts its runs, reads what it is given, says what it proves, and leaves a program. While the file waits is in the
+# checkout it stays in the middle of a line, for some ten seconds; changes makes it change the source, fails fail.
 RT = """#!/bin/sh
 [ "$*" = "check plot_main" ] || exit 2
 echo run >>runs
 head -c 1 >/dev/null
-[ ! -e slow ] || sleep 0.5
+printf 'rt: lines '
+waited=0
+while [ -e waits ] && [ "$waited" -lt 200 ]; do sleep 0.05; waited=$((waited + 1)); done
+echo 'proved (unchanged since it was last proved)'
 [ ! -e changes ] || echo changed >>crates/console/src/lib.rt
 mkdir -p target/bin && cp console target/bin/plot_main
-echo 'rt: lines proved (unchanged since it was last proved)'
 echo 'rt: console proved (7 s)'
 echo 'what the prover says'
 echo 'rt: plot_main proved (8 s)'
@@ -293,15 +297,24 @@ def test_progress():
         answered = (0, ANSWERS["file 2 0 0 1"] + "\n", None)
         expect("calls before a build", run(place, calls="file 2 0 0 1\n", **NO_ERROR), answered)
     with StandIn() as place:
-        master, slave = pty.openpty()
-        status = run(place, "file 2 0 0 1", stderr=slave)[0]
-        os.close(slave)
-        shown = os.read(master, 10000).decode().replace("\r\n", "\n")
-        os.close(master)
-        lines = [re.sub(r" \(\d+ s so far\)", "", line) for line in shown.split("\r\033[K")]
-        expect("a build on a terminal", (status, lines[:-1]), (0, [
-            said, "plot: proving crate 1 of 3: lines", "plot: proving crate 2 of 3: console",
-            "plot: proving crate 3 of 3: plot_main", "plot: running the console on its examples"]))
+        (place.home / "waits").touch()
+        terminal, other_end = pty.openpty()
+        process = start(place, "file 2 0 0 1", stderr=other_end)
+        shown = ""
+        while shown.count("crate 1 of 3") < 2 and select.select([terminal], [], [], 10)[0]:
+            shown += os.read(terminal, 10000).decode()
+        (place.home / "waits").unlink()
+        status = end(process)[0]
+        while select.select([terminal], [], [], 0)[0]:
+            shown += os.read(terminal, 10000).decode()
+        os.close(other_end)
+        os.close(terminal)
+        lines = [re.sub(r" \(\d+ s\)$", "", line) for line in shown.replace("\r\n", "\n").split("\r\033[K")]
+        first = "plot: proving crate 1 of 3: lines"
+        expect("the seconds on a terminal", lines.count(first) >= 2, True)
+        expect("a build on a terminal", (status, list(dict.fromkeys(lines))), (0, [
+            said, first, "plot: proving crate 2 of 3: console", "plot: proving crate 3 of 3: plot_main",
+            "plot: running the console on its examples", "plot: the console is proved and built\n"]))
 
 
 def test_staleness():
@@ -344,10 +357,14 @@ def test_failed_build():
 
 def test_two_at_a_time():
     with StandIn() as place:
-        (place.home / "slow").touch()
-        both = [end(process) for process in [start(place, "file 2 0 0 1") for _ in range(2)]]
-        expect("two at a time", [got[:2] for got in both], [(0, ANSWERS["file 2 0 0 1"] + "\n")] * 2)
-        expect("one builds, one waits", (place.runs(), sum("waiting" in err for _, _, err in both)), (1, 1))
+        (place.home / "waits").touch()
+        first = start(place, "file 2 0 0 1")
+        expect("the first of two", first.stderr.readline().split()[1:2], ["proving"])
+        second = start(place, "file 2 0 0 1")
+        expect("the second waits", second.stderr.readline().split()[-3:-2], ["waiting"])
+        (place.home / "waits").unlink()
+        answered = (0, ANSWERS["file 2 0 0 1"] + "\n")
+        expect("two at a time", (end(first)[:2], end(second), place.runs()), (answered, (*answered, ""), 1))
 
 
 def test_open_console():
@@ -388,6 +405,7 @@ def test_answering(place):
 if sys.argv[1:] == ["--built"]:
     test_answering(Built())
 else:
+    faulthandler.dump_traceback_later(300, exit=True)
     with StandIn() as stand_in:
         test_answering(stand_in)
         test_console_fails(stand_in)

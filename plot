@@ -139,7 +139,7 @@ prove() { (cd "$home" && rt check plot_main) </dev/null 2>&1 | tee "$log" | tell
 lock() {
     command -v flock >/dev/null || die 4 "the command flock is missing (Debian's package util-linux)"
     { mkdir -p "$work" && : >>"$work/lock"; } 2>/dev/null ||
-        die 4 "the console is not built, and $work cannot be written: run ./plot once where it can"
+        die 4 "the console is not built yet, and $work cannot be written: run ./plot once as a user who can"
     exec 9>>"$work/lock"
     flock -n 9 || {
         say "another ./plot is building the console: waiting for it"

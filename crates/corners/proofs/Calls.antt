@@ -26,9 +26,9 @@ use Rattle.net.specs.Means.Paths.{digitsOf}
 use Rattle.net.specs.Means.Spreads.{pointIn, spread}
 use Rattle.net.specs.Means.Walks.{Place, edgeThere, leastName, placeAt, stepFrom}
 use Rattle.net.specs.Names.{IsName}
-use Rattle.net.specs.Refusals.{lesserHas, canonicalRows, checkName, notCanonical, onOneSide, onSide}
+use Rattle.net.specs.Refusals.{lesserHas, checkName, notCanonical, onOneSide, onSide}
 use Rattle.net.specs.Refusals.{oneToThreeRows, weightRows}
-use Rattle.corners.specs.Refusals.{refuseBack, refuseNameWeights, refuseNumbered, refuseRing, refuseWeights}
+use Rattle.corners.specs.Refusals.{refuseBack, refuseNumbered}
 use Rattle.net.specs.Sides.{IsSide, OneToThree, nth, prev}
 use Rattle.net.specs.Sides as sides
 use Rattle.net.specs.Steps.{Across}
@@ -121,37 +121,6 @@ module _ (r : CornerName) (z : checkNameFields r ≡ 0) where
 pub name-first : (r : CornerName) {k : ℕ} → k ≡ checkNameFields r → (k ≡ 0 → ⊥) → k ≡ checkName r
 unfolding checkName checkNameFields
 name-first r e n = refuse-before order order (nameRows r) _ tt tt e n
-
--- ---- lists
-
-pub weights-first : (t : TriangleCode) (i : ℕ) (out : List ℕ) {k : ℕ} → k ≡ refuseNumbered t i
-    → (k ≡ 0 → ⊥) → k ≡ refuseWeights t i out
-unfolding refuseNumbered refuseWeights
-weights-first t i out e n = refuse-before order order (codeRows t ++ oneToThreeRows i) (listRows 12 out) tt tt e n
-
-pub weights-nine : (t : TriangleCode) (i : ℕ) (out : List ℕ) → refuseNumbered t i ≡ 0 → length out < 12
-    → 9 ≡ refuseWeights t i out
-unfolding refuseNumbered refuseWeights
-weights-nine t i out z h = refuse-after order order (codeRows t ++ oneToThreeRows i) (listRows 12 out) tt tt z
-    (here (lt-ltb (length out) 12 h))
-
-module _ (r : CornerName) (out : List ℕ) where
-  pub name-weights-first : {k : ℕ} → k ≡ checkName r → (k ≡ 0 → ⊥) → k ≡ refuseNameWeights r out
-  unfolding checkName refuseNameWeights
-  name-weights-first e n = refuse-before order order (canonicalRows r) (listRows 12 out) tt tt e n
-
-  pub name-weights-nine : checkName r ≡ 0 → length out < 12 → 9 ≡ refuseNameWeights r out
-  unfolding checkName refuseNameWeights
-  name-weights-nine z h = refuse-after order order (canonicalRows r) (listRows 12 out) tt tt z
-      (here (lt-ltb (length out) 12 h))
-
-  pub ring-first : {k : ℕ} → k ≡ checkName r → (k ≡ 0 → ⊥) → k ≡ refuseRing r out
-  unfolding checkName refuseRing
-  ring-first e n = refuse-before order order (canonicalRows r) (listRows 6 out) tt tt e n
-
-  pub ring-nine : checkName r ≡ 0 → length out < 6 → 9 ≡ refuseRing r out
-  unfolding checkName refuseRing
-  ring-nine z h = refuse-after order order (canonicalRows r) (listRows 6 out) tt tt z (here (lt-ltb (length out) 6 h))
 
 -- ---- the way back
 

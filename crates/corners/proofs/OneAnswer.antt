@@ -29,7 +29,7 @@ use Rattle.net.proofs.Crossing.{across-is, across-only, codeAcross, edgeAcross}
 use Rattle.net.proofs.Demand3.{one-name-each}
 use Rattle.net.proofs.LeastName.{least-is-name, place-in, placeIn}
 use Rattle.net.proofs.Names.{one-name}
-use Rattle.corners.proofs.Refused.{back-passes, numbered, ring-passes}
+use Rattle.corners.proofs.Refused.{back-passes, numbered, ring-then}
 use Rattle.corners.proofs.TurnedCorners.{turned-is, turned-one}
 use Rattle.net.proofs.RingCodes.{ring-is, ring-one}
 use Rattle.net.proofs.WayBack.{weights-mean}
@@ -122,7 +122,7 @@ pub ring-answer-some : (q : CornerName) (out : List ℕ)
     → (x : CountAnswer × List ℕ) × together (RingAnswer q out) x
 ring-answer-some q out =
     answer-some _ (together (Listed (IsRing q) (countAnswer 0) out)) (λ f. (noCount f, out))
-    (λ z. let n = name-means q .0 (ring-passes q out .0 z .0) in
+    (λ z. let n = name-means q .0 (ring-then q out .passes .0 z .0) in
     let c = name-code q (n .0) in
     let x = ring-is q c (n .1 .number) in
     let ts = ringWords (ringSize (nonZeros (named q))) (placeIn (codeInside q) (cornerNumber (q .0))) in

@@ -10,6 +10,7 @@ use lib.ListN.{length, take}
 use borrow.Author.Tests.{ltb-false, eqb-false, eqb-true, le-ltb, ne-eqb, eq-eqb, not-false}
 use Rattle.frame.specs.Refusals.{listRows, order}
 use Rattle.frame.proofs.Refusing.{NoneSo, either-false, none-after, none-so}
+use Rattle.frame.proofs.Lengths.{ThenNine, then-nine}
 use Rattle.words.proofs.Codes.{is-code}
 use Rattle.words.specs.Refusals.{IsCode, checkCode, codeRows, degreeRows}
 use Rattle.words.specs.Words.{degreeOf}
@@ -37,36 +38,23 @@ numbered-passes t k = (
 pub numbered : (t : TriangleCode) (k : ℕ) → refuseNumbered t k ≡ 0 → IsCode (degreeOf (t .0)) t × OneToThree k
 numbered t k z = let p = numbered-passes t k .0 z in (is-code t (p .0), p .1)
 
-long-enough : (n : ℕ) (list : List ℕ) → NoneSo (listRows n list) ↔ (n ≤ length list)
-long-enough n list = (λ e. ltb-false (length list) n (e .0), λ h. (le-ltb (length list) n h, tt))
+-- ---- a list that is too short
 
-pub weights-passes : (t : TriangleCode) (i : ℕ) (out : List ℕ)
-    → (refuseWeights t i out ≡ 0) ↔ ((refuseNumbered t i ≡ 0) × (12 ≤ length out))
+pub weights-then : (t : TriangleCode) (i : ℕ) (out : List ℕ)
+    → ThenNine (refuseNumbered t i) (refuseWeights t i out) 12 (length out)
 unfolding refuseWeights refuseNumbered
-weights-passes t i out = (
-  λ e. let n = none-after order order (codeRows t ++ oneToThreeRows i) (listRows 12 out) tt tt .0 e in
-      (n .0, long-enough 12 out .0 (n .1)),
-  λ p. none-after order order (codeRows t ++ oneToThreeRows i) (listRows 12 out) tt tt .1
-      (p .0, long-enough 12 out .1 (p .1)),
-)
+weights-then t i out = then-nine order order (codeRows t ++ oneToThreeRows i) 12 out tt tt
 
-pub name-weights-passes : (r : CornerName) (out : List ℕ)
-    → (refuseNameWeights r out ≡ 0) ↔ ((checkName r ≡ 0) × (12 ≤ length out))
+pub name-weights-then : (r : CornerName) (out : List ℕ)
+    → ThenNine (checkName r) (refuseNameWeights r out) 12 (length out)
 unfolding refuseNameWeights checkName
-name-weights-passes r out = (
-  λ e. let n = none-after order order (canonicalRows r) (listRows 12 out) tt tt .0 e in
-      (n .0, long-enough 12 out .0 (n .1)),
-  λ p. none-after order order (canonicalRows r) (listRows 12 out) tt tt .1 (p .0, long-enough 12 out .1 (p .1)),
-)
+name-weights-then r out = then-nine order order (canonicalRows r) 12 out tt tt
 
-pub ring-passes : (r : CornerName) (out : List ℕ)
-    → (refuseRing r out ≡ 0) ↔ ((checkName r ≡ 0) × (6 ≤ length out))
+pub ring-then : (r : CornerName) (out : List ℕ) → ThenNine (checkName r) (refuseRing r out) 6 (length out)
 unfolding refuseRing checkName
-ring-passes r out = (
-  λ e. let n = none-after order order (canonicalRows r) (listRows 6 out) tt tt .0 e in
-      (n .0, long-enough 6 out .0 (n .1)),
-  λ p. none-after order order (canonicalRows r) (listRows 6 out) tt tt .1 (p .0, long-enough 6 out .1 (p .1)),
-)
+ring-then r out = then-nine order order (canonicalRows r) 6 out tt tt
+
+-- ---- the way back
 
 pub back-passes : (n : ℕ) (weights : List ℕ)
     → (refuseBack n weights ≡ 0)

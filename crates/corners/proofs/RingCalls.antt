@@ -22,7 +22,7 @@ use Rattle.net.proofs.CodePlaces.{corner-at, digitsIn}
 use Rattle.net.proofs.RingCodes.{ring-is, ring-length}
 use Rattle.net.proofs.RingLists.{countOf, count-is}
 use Rattle.corners.specs.Answers.{RingAnswer, countAnswer}
-use Rattle.corners.proofs.Refused.{ring-passes}
+use Rattle.corners.proofs.Refused.{ring-then}
 
 module _ (r : CornerName) (z : checkName r ≡ 0) where
   abbrev i : ℕ
@@ -44,7 +44,7 @@ module _ (r : CornerName) (z : checkName r ≡ 0) where
       e ∙ ap countOf f
       ∙ sym (count-is (sideOf (t .0)) (digitsIn t) i (code-side (is-code t code-passes)))
       ∙ ap (λ (P : Weights). ringSize (nonZeros P)) (sym (corner-at t i)) in
-      answering (ring-passes r out .1 (z, l)) (record {
+      answering (ring-then r out .passes .1 (z, l)) (record {
         list = ringWords (ringSize (nonZeros (named r))) (placeAt (r .0));
         good = ring-is r (name-means r .0 z .1 .code) name-number;
         count = ap (countAnswer 0) (size ∙ sym (ring-length _ _));

@@ -1,27 +1,22 @@
 -- The answers of `file` and `list` from their parts. Assumes nothing.
 use mathlib.Core.Path.{_≡_, refl, ap}
-use mathlib.Core.List.{List, _++_}
-use Prim.Native.Nat.{ℕ, zero, suc, _+_, _≤_, _<_}
+use mathlib.Core.List.{List}
+use Prim.Native.Nat.{ℕ, zero, suc, _+_, _≤_}
 use native.Mathlib.Omega.{arith}
 use lib.ListN.{length, length-append}
-use borrow.Author.Tests.{lt-ltb}
-use Rattle.frame.specs.Refusals.{listRows, order}
-use Rattle.frame.proofs.Refusing.{here, refuse-before, refuse-after}
 use Rattle.frame.proofs.Answering.{answering}
 use Rattle.words.specs.Words.{wordOf}
 use Rattle.words.specs.Family.{codeOf}
-use Rattle.words.specs.Refusals.{degreeRows}
 use Rattle.corners.specs.Answers.{countAnswer}
 use Rattle.directions.specs.Answers.{FileAnswer, ListAnswer}
 use Rattle.net.proofs.Flips.{each-length}
 use Rattle.filing.specs.Filing.{IsFiled}
-use Rattle.filing.specs.Refusals.{directionRows}
-use Rattle.directions.specs.Refusals.{refuseFile, refuseList}
+use Rattle.directions.specs.Refusals.{refuseFile}
 use Rattle.filing.specs.Means.Descent.{holders}
 use Rattle.filing.specs.Means.Sides.{sideDets}
 use Rattle.filing.specs.Means.Lists.{joined, Puts, sideWords, allWords}
 use Rattle.filing.specs.declared.Direction.{Direction}
-use Rattle.directions.proofs.Refused.{allowed, list-passes}
+use Rattle.directions.proofs.Refused.{allowed, list-then}
 use Rattle.filing.proofs.AtMostSix.{sumSides, at-most-six}
 use Rattle.filing.proofs.NoVertex.{zeroDirection}
 use Rattle.filing.proofs.AllHolders.{all-holders}
@@ -33,17 +28,6 @@ pub filed-answer : (n : ℕ) (d : Direction) (w : ℕ) → refuseFile n d ≡ 0 
 filed-answer n d w z h = answering z (record { number = refl; is = h })
 
 -- ---- list
-
-module _ (n : ℕ) (d : Direction) (out : List ℕ) where
-  pub list-first : {k : ℕ} → k ≡ refuseFile n d → (k ≡ 0 → ⊥) → k ≡ refuseList n d out
-  unfolding refuseFile refuseList
-  list-first e f = refuse-before order order (degreeRows n ++ directionRows d) (listRows 6 out) tt tt e f
-
-  pub list-nine : refuseFile n d ≡ 0 → length out < 6 → 9 ≡ refuseList n d out
-  unfolding refuseFile refuseList
-  list-nine z h = refuse-after order order (degreeRows n ++ directionRows d) (listRows 6 out) tt tt z
-      (here (lt-ltb (length out)
-      6 h))
 
 -- the lists of the sides, one after the other, are as long as they are together
 side-lengths : (m j : ℕ) (f : ℕ → List ℕ) → length (joined m (4 + j) f) + sumSides j (λ s. length (f s))
@@ -82,7 +66,7 @@ pub listed-answer : (n : ℕ) (d : Direction) (out : List ℕ) (r : ℕ) (new : 
     → Puts 0 (allWords d n 4) out r new → ListAnswer n d out (countAnswer 0 r) new
 listed-answer n d out r new z l p =
     let c : r ≡ length (allWords d n 4) = omega (arith, p .count) in
-    answering (list-passes n d out .1 (z, l)) (record {
+    answering (list-then n d out .passes .1 (z, l)) (record {
       list = allWords d n 4;
       good = all-holders n d (allowed n d z .low);
       count = ap (countAnswer 0) c;

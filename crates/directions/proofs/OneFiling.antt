@@ -24,7 +24,7 @@ use Rattle.filing.proofs.AllHolders.{all-holders, one-list}
 use Rattle.filing.proofs.LeastCode.{filed-once}
 use Rattle.filing.proofs.LeastSide.{found-code}
 use Rattle.filing.proofs.OneTwoSix.{one-two-six, one-or-two}
-use Rattle.directions.proofs.Refused.{allowed, list-passes}
+use Rattle.directions.proofs.Refused.{allowed, list-then}
 use Rattle.directions.proofs.FilingCalls.{words-count, not-zero}
 
 pub file-one : (n : ℕ) (d : Direction) (r r′ : CodeAnswer) → FileAnswer n d r → FileAnswer n d r′ → r ≡ r′
@@ -48,7 +48,7 @@ list-some n d out =
     answer-some _ (together (Listed (AreHolders n d) (countAnswer 0) out)) (λ f. (noCount f, out))
     (λ z.
     let l = allWords d n 4 in
-    let h = all-holders n d (allowed n d (list-passes n d out .0 z .0) .low) in
+    let h = all-holders n d (allowed n d (list-then n d out .passes .0 z .0) .low) in
     ((countAnswer 0 (length l), over l out), record { list = l; good = h; count = refl; put = refl }))
 
 -- "so there are 1, 2 or 6 holders and never 5; at degree 0 there are 1 or 2."

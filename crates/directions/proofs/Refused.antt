@@ -1,7 +1,6 @@
 -- The refusals of filing and listing by their tests, and when there is none. Assumes nothing.
 use mathlib.Core.Path.{_≡_, refl, sym, _∙_}
 use mathlib.Core.Bool.{Bool, true, false, _&&_, true≢false}
-use mathlib.Core.Logic.{_↔_}
 use mathlib.Core.List.{List, [], _∷_, _++_}
 use Prim.Native.Nat.{ℕ, _+_, _≤_, _<_}
 use native.Mathlib.Omega.{arith}
@@ -9,8 +8,9 @@ use lib.Dec.{ltb}
 use lib.IntN.{natAbs}
 use lib.ListN.{length}
 use borrow.Author.Tests.{ltb-false, lt-ltb, le-ltb, eqb-true, eq-eqb}
-use Rattle.frame.specs.Refusals.{_either_, _when_, listRows, order}
-use Rattle.frame.proofs.Refusing.{inTurn, in-turn, none-after, none-so, either-left, either-right, either-false}
+use Rattle.frame.specs.Refusals.{_either_, _when_, order}
+use Rattle.frame.proofs.Refusing.{inTurn, in-turn, none-so, either-left, either-right, either-false}
+use Rattle.frame.proofs.Lengths.{ThenNine, then-nine}
 use Rattle.words.specs.Refusals.{degreeRows}
 use Rattle.net.proofs.Canonical.{and-true}
 use Rattle.filing.specs.Refusals.{outside, zero?, directionRows}
@@ -86,12 +86,8 @@ allowed n d e =
       some = λ f. true≢false (sym (is-none d f) ∙ x .1 .1 .0);
     }
 
-pub list-passes : (n : ℕ) (d : Direction) (out : List ℕ) → (refuseList n d out ≡ 0)
-    ↔ ((refuseFile n d ≡ 0) × (6 ≤ length out))
+-- a list that is too short
+pub list-then : (n : ℕ) (d : Direction) (out : List ℕ)
+    → ThenNine (refuseFile n d) (refuseList n d out) 6 (length out)
 unfolding refuseList refuseFile
-list-passes n d out = (
-  λ e. let k = none-after order order (degreeRows n ++ directionRows d) (listRows 6 out) tt tt .0 e in
-      (k .0, ltb-false (length out) 6 (k .1 .0)),
-  λ p. none-after order order (degreeRows n ++ directionRows d) (listRows 6 out) tt tt .1
-      (p .0, (le-ltb (length out) 6 (p .1), tt)),
-)
+list-then n d out = then-nine order order (degreeRows n ++ directionRows d) 6 out tt tt

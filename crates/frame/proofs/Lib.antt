@@ -1,3 +1,4 @@
--- The laws of refusals in order, and of answers: the crates above cite them.
+-- The laws of refusals in order, of answers, and of lent lists: the crates above cite them.
 pub mod Refusing
 pub mod Answering
+pub mod Lengths

@@ -38,7 +38,7 @@ use Rattle.corners.specs.Answers.{BackAnswer}
 use Rattle.corners.specs.declared.CountAnswer.{CountAnswer}
 use Rattle.corners.specs.declared.StepAnswer.{StepAnswer}
 use Rattle.corners.specs.declared.NameAnswer.{NameAnswer}
-use Rattle.corners.proofs.Refused.{numbered, numbered-passes, weights-passes, name-weights-passes, back-passes}
+use Rattle.corners.proofs.Refused.{numbered, numbered-passes, weights-then, name-weights-then, back-passes}
 use Rattle.corners.proofs.OneAnswer as corners
 use Rattle.points.proofs.OnePlace as points
 use Rattle.directions.proofs.OneFiling as directions
@@ -139,7 +139,7 @@ demand-2-codes = record {
       (let e = parent-then-child t (p .0) in gives-code _ _ t (e .0) (e .1));
   weights = λ t i out new a.
       let p = put (corner t i) a in
-      let c = numbered t i (weights-passes t i out .0 (p .0) .0) in
+      let c = numbered t i (weights-then t i out .passes .0 (p .0) .0) in
       ap (take 12) (p .1) ∙ front (corner t i) out (corner-twelve (c .0) i .places);
   nameWeights = λ t i s out new a z b.
       let n = naming-is t i s a z in
@@ -173,7 +173,7 @@ pub demand-2-back : Demand2Back
 demand-2-back = record {
   back = λ t i out new r s w b a.
       let p = put (corner t i) w in
-      let z = weights-passes t i out .0 (p .0) .0 in
+      let z = weights-then t i out .passes .0 (p .0) .0 in
       let c = numbered t i z in
       corners.back-one (degreeOf (t .0)) new r s b
       (subst (λ (l : List ℕ). BackAnswer (degreeOf (t .0)) l s) (sym (p .1))
@@ -181,7 +181,7 @@ demand-2-back = record {
   round = λ n weights r b z. good (λ r. r .refusal) refl (λ r g. g .number) b z .is .there;
   again = λ q out new r w b.
       let p = put (named q) w in
-      let x = name-means q .0 (name-weights-passes q out .0 (p .0) .0) .1 in
+      let x = name-means q .0 (name-weights-then q out .passes .0 (p .0) .0) .1 in
       corners.back-one (degreeOf (q .0)) new r (nameAnswer 0 q) b
       (subst (λ (l : List ℕ). BackAnswer (degreeOf (q .0)) l (nameAnswer 0 q)) (sym (p .1))
       (back-answered _ (codeInside q) (cornerNumber (q .0)) out (nameAnswer 0 q) (x .code) (x .number)

@@ -46,8 +46,7 @@ use Rattle.corners.specs.Refusals.{refuseNumbered, refuseWeights, refuseBack}
 use Rattle.corners.specs.Answers.{NamingAnswer, nameAnswer}
 use Rattle.corners.specs.declared.CountAnswer.{CountAnswer}
 use Rattle.corners.specs.declared.NameAnswer.{NameAnswer}
-use Rattle.corners.proofs.Refused.{numbered-passes}
-use Rattle.corners.proofs.Calls.{weights-nine}
+use Rattle.corners.proofs.Refused.{numbered-passes, weights-then}
 use Rattle.directions.specs.Refusals.{refuseFile}
 use Rattle.directions.specs.Answers.{FileAnswer}
 use Rattle.directions.proofs.Refused.{refuse-by}
@@ -198,7 +197,7 @@ mistakes = record {
   ring-count = λ k out new l n a. n (ap (λ (r : CountAnswer). r .count) (λ i. rings .five out l .only (_, new) a i .0));
   written-on = λ r out new l n a.
       n (λ i. a .refused (λ z.
-      let e : 9 ≡ refuseWeights (written 100) 1 out = weights-nine (written 100) 1 out refl l in
+      let e : 9 ≡ refuseWeights (written 100) 1 out = weights-then (written 100) 1 out .nine refl l in
       omega (arith, e, z)) i .1);
   wrapped-sum = λ q a.
       let e : _≡_ {A = ℕ} 0 11 =

@@ -69,7 +69,7 @@ use Rattle.points.proofs.PlaceCalls.{name-small, numbered-small}
 use Rattle.directions.specs.Answers.{ListAnswer}
 use Rattle.directions.specs.Refusals.{refuseFile}
 use Rattle.directions.proofs.OneFiling.{how-many, how-many-sides}
-use Rattle.directions.proofs.Refused.{list-passes}
+use Rattle.directions.proofs.Refused.{list-then}
 use Rattle.filing.specs.Filing.{AreHolders}
 use Rattle.grid.specs.Counts.{IsCorner}
 use Rattle.grid.specs.Sentences.{AllBelow, ManyDigits, Onward, SameVertices, Sentences, Spans, TurnsInSpace}
@@ -233,7 +233,7 @@ module _ (n : ℕ) (d : Direction) (out new : List ℕ) (r : CountAnswer) (a : L
   listed =
       let f = passed (λ x. x .0 .refusal) refl (λ x g. ap (λ (r : CountAnswer). r .refusal) (g .count)) a z in
       let g = a .answered f in
-      (g .list, list-passes n d out .0 f .0, g .good, ap (λ (r : CountAnswer). r .count) (g .count))
+      (g .list, list-then n d out .passes .0 f .0, g .good, ap (λ (r : CountAnswer). r .count) (g .count))
 
 -- ---- t
 

@@ -34,7 +34,7 @@ use Rattle.net.proofs.RingCodes.{ring-is}
 use Rattle.corners.specs.Refusals.{refuseNumbered, refuseWeights, refuseBack, refuseRing}
 use Rattle.corners.specs.Answers.{CrossAnswer, WeightsAnswer, NameWeightsAnswer, NamingAnswer, BackAnswer, RingAnswer}
 use Rattle.corners.specs.Answers.{stepAnswer, nameAnswer, countAnswer, noStep}
-use Rattle.corners.proofs.Refused.{numbered, weights-passes, name-weights-passes, ring-passes}
+use Rattle.corners.proofs.Refused.{numbered, weights-then, name-weights-then, ring-then}
 use Rattle.corners.proofs.TurnedCorners.{firstThere, secondThere, turned-is}
 use Rattle.corners.proofs.OneAnswer.{cross-one, naming-one, back-one, weights-one, name-weights-one, ring-answer-one}
 use Rattle.filing.specs.Coordinates.{exact}
@@ -59,7 +59,7 @@ use Rattle.points.proofs.PlaceCalls.{name-degree, name-small, numbered-degree, 
 use Rattle.points.proofs.OnePlace.{place-one, name-place-one, tick-answer-one, name-tick-one, draw-one, name-draw-one}
 use Rattle.directions.specs.Refusals.{refuseFile, refuseList}
 use Rattle.directions.specs.Answers.{FileAnswer, ListAnswer}
-use Rattle.directions.proofs.Refused.{allowed, list-passes}
+use Rattle.directions.proofs.Refused.{allowed, list-then}
 use Rattle.directions.proofs.OneFiling.{file-one, list-one}
 
 -- ---- parent and child: f is the refusal, u the code that they promise
@@ -88,7 +88,7 @@ pub lists : (n : ℕ) (d : Direction) (ws : List ℕ) → refuseFile n d ≡ 0 �
     → (out : List ℕ) → 6 ≤ length out → ListAnswer n d out leaves (countAnswer 0 (length ws), over ws out)
 lists n d ws z e out h =
     let is : ListAnswer n d out (countAnswer 0 (length ws)) (over ws out) =
-    answering (list-passes n d out .1 (z, h)) (record {
+    answering (list-then n d out .passes .1 (z, h)) (record {
       list = ws;
       good = subst (AreHolders n d) e (all-holders n d (allowed n d z .low));
       count = refl;
@@ -160,14 +160,14 @@ pub weighs : (t : TriangleCode) (i : ℕ) (p : Weights) → refuseNumbered t i �
     → (out : List ℕ) → 12 ≤ length out → WeightsAnswer t i out leaves (0, over p out)
 weighs t i p z e out h =
     let is : WeightsAnswer t i out 0 (over p out) =
-    answering (weights-passes t i out .1 (z, h)) (refl, ap (λ (p : Weights). over p out) (sym e)) in
+    answering (weights-then t i out .passes .1 (z, h)) (refl, ap (λ (p : Weights). over p out) (sym e)) in
     gives-one (weights-one t i out) is
 
 pub weighs-name : (q : CornerName) (p : Weights) → checkName q ≡ 0 → named q ≡ p
     → (out : List ℕ) → 12 ≤ length out → NameWeightsAnswer q out leaves (0, over p out)
 weighs-name q p z e out h =
     let is : NameWeightsAnswer q out 0 (over p out) =
-    answering (name-weights-passes q out .1 (z, h)) (refl, ap (λ (p : Weights). over p out) (sym e)) in
+    answering (name-weights-then q out .passes .1 (z, h)) (refl, ap (λ (p : Weights). over p out) (sym e)) in
     gives-one (name-weights-one q out) is
 
 pub weighs-refused : (t : TriangleCode) (i : ℕ) (out : List ℕ) (k : ℕ) → suc k ≡ refuseWeights t i out
@@ -184,7 +184,7 @@ pub rings-by : (q : CornerName) (ws : List ℕ) → checkName q ≡ 0
 rings-by q ws z e out h =
     let n = name-means q .0 z .1 in
     let is : RingAnswer q out (countAnswer 0 (length ws)) (over ws out) =
-    answering (ring-passes q out .1 (z, h))
+    answering (ring-then q out .passes .1 (z, h))
     (record { list = ws; good = subst (IsRing q) e (ring-is q (n .code) (n .number)); count = refl; put = refl }) in
     gives-one (ring-answer-one q out) is
 

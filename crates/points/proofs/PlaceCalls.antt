@@ -19,8 +19,7 @@ use Rattle.corners.specs.Refusals.{refuseNumbered, refuseWeights, refuseNameWei
 use Rattle.corners.specs.Answers.{Put}
 use Rattle.points.specs.Answers.{Placed, Ticked, Pointed, noCoordinates, noTicks, noPoint}
 use Rattle.net.proofs.Canonical.{name-means}
-use Rattle.corners.proofs.Refused.{numbered-passes, weights-passes, name-weights-passes}
-use Rattle.corners.proofs.Calls.{weights-first, name-weights-first}
+use Rattle.corners.proofs.Refused.{numbered-passes, weights-then, name-weights-then}
 use Rattle.filing.specs.Coordinates.{exact}
 use Rattle.filing.specs.Means.Places.{Twelve, Small}
 use Rattle.filing.specs.declared.Coordinates.{Coordinates}
@@ -63,8 +62,8 @@ pub record Serves (f g : ℕ) (p out : List ℕ) : Type 0 where
 pub numbered-serves : (t : TriangleCode) (i : ℕ) (out : List ℕ) → length out ≡ 12
     → Serves (refuseNumbered t i) (refuseWeights t i out) (corner t i) out
 numbered-serves t i out l = record {
-  passes = λ z. weights-passes t i out .1 (z, omega (arith, l));
-  first = weights-first t i out refl;
+  passes = λ z. weights-then t i out .passes .1 (z, omega (arith, l));
+  first = weights-then t i out .first refl;
   twelve = numbered-twelve t i;
   room = l;
 }
@@ -72,8 +71,8 @@ numbered-serves t i out l = record {
 pub name-serves : (q : CornerName) (out : List ℕ) → length out ≡ 12 → Serves (checkName q) (refuseNameWeights q out)
     (named q) out
 name-serves q out l = record {
-  passes = λ z. name-weights-passes q out .1 (z, omega (arith, l));
-  first = name-weights-first q out refl;
+  passes = λ z. name-weights-then q out .passes .1 (z, omega (arith, l));
+  first = name-weights-then q out .first refl;
   twelve = name-twelve q;
   room = l;
 }

@@ -10,7 +10,7 @@ use Rattle.net.specs.Refusals.{checkName}
 use Rattle.net.specs.Means.States.{pointOf, stateOf}
 use Rattle.net.proofs.Canonical.{name-means}
 use Rattle.net.proofs.CodePlaces.{digitsIn}
-use Rattle.corners.proofs.Calls.{ring-first, ring-nine}
+use Rattle.corners.proofs.Refused.{ring-then}
 use Rattle.net.proofs.RingLists.{count-least, count-most}
 use Rattle.corners.proofs.RingCalls.{code-passes, name-number, ring-answers}
 use Rattle.corners.proofs.ring.Statement.{statement}
@@ -20,14 +20,14 @@ check-name-requires : tie.Need-check-name-requires
 check-name-requires c κs = search needs
 
 returns : tie.Need-returns
-returns c = refusing (ring-first _ _ (c .before .check-name .ensures) (c .if1 .taken)) (c .if1 .taken)
+returns c = refusing (ring-then _ _ .first (c .before .check-name .ensures) (c .if1 .taken)) (c .if1 .taken)
 
 -- the name passes
 passes : (c : tie.Else1) → checkName (c .before .before .before .args .r) ≡ 0
 passes c = sym (c .before .check-name .ensures) ∙ c .if1 .left
 
 returns-2 : tie.Need-returns-2
-returns-2 c = refusing (ring-nine _ _ (passes (c .before)) (c .if2 .taken)) (λ e. omega arith)
+returns-2 c = refusing (ring-then _ _ .nine (passes (c .before)) (c .if2 .taken)) (λ e. omega arith)
 
 code-inside-requires : tie.Need-code-inside-requires
 code-inside-requires c κs = name-means _ .0 (passes (c .before)) .0

@@ -4,8 +4,7 @@ use mathlib.Core.Path.{_≡_, refl, sym, _∙_}
 use native.Mathlib.Omega.{arith}
 use Rattle.frame.proofs.Answering.{refusing, answering}
 use Rattle.corners.specs.Refusals.{refuseNumbered}
-use Rattle.corners.proofs.Refused.{numbered-passes, weights-passes}
-use Rattle.corners.proofs.Calls.{weights-first, weights-nine}
+use Rattle.corners.proofs.Refused.{numbered-passes, weights-then}
 use Rattle.corners.proofs.weights_of.Statement.{statement}
 use Rattle.corners.proofs.weights_of.Tie as tie
 
@@ -13,7 +12,7 @@ refuse-numbered-requires : tie.Need-refuse-numbered-requires
 refuse-numbered-requires c κs = search needs
 
 returns : tie.Need-returns
-returns c = refusing (weights-first _ _ _ (c .before .refuse-numbered .ensures) (c .if1 .taken)) (c .if1 .taken)
+returns c = refusing (weights-then _ _ _ .first (c .before .refuse-numbered .ensures) (c .if1 .taken)) (c .if1 .taken)
 
 -- a code and a corner number
 none : (c : tie.Else1) → refuseNumbered (c .before .before .before .args .t) (c .before .before .before .args .corner)
@@ -21,7 +20,7 @@ none : (c : tie.Else1) → refuseNumbered (c .before .before .before .args .t) (
 none c = sym (c .before .refuse-numbered .ensures) ∙ c .if1 .left
 
 returns-2 : tie.Need-returns-2
-returns-2 c = refusing (weights-nine _ _ _ (none (c .before)) (omega arith)) (λ e. omega arith)
+returns-2 c = refusing (weights-then _ _ _ .nine (none (c .before)) (omega arith)) (λ e. omega arith)
 
 write-corner-requires : tie.Need-write-corner-requires
 write-corner-requires c κs = let p = numbered-passes _ _ .0 (none (c .before .before)) in (p .0, p .1, omega arith)
@@ -32,7 +31,7 @@ same-length c = search needs
 returns-3 : tie.Need-returns-3
 returns-3 c =
     let w = c .before .before in
-    answering (weights-passes _ _ _ .1 (none (w .before .before .before), omega arith))
+    answering (weights-then _ _ _ .passes .1 (none (w .before .before .before), omega arith))
     (refl, w .write-corner .ensures)
 
 pub weights-of-spec : {M : Type 1} → statement M

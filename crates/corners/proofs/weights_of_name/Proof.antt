@@ -12,8 +12,7 @@ use Rattle.words.proofs.Codes.{name-code, name-passes}
 use Rattle.net.specs.Corners.{corner}
 use Rattle.net.specs.Refusals.{checkName}
 use Rattle.net.proofs.Canonical.{name-means}
-use Rattle.corners.proofs.Refused.{name-weights-passes}
-use Rattle.corners.proofs.Calls.{name-weights-first, name-weights-nine}
+use Rattle.corners.proofs.Refused.{name-weights-then}
 use Rattle.corners.proofs.weights_of_name.Statement.{statement}
 use Rattle.corners.proofs.weights_of_name.Tie as tie
 
@@ -21,7 +20,7 @@ check-name-requires : tie.Need-check-name-requires
 check-name-requires c κs = search needs
 
 returns : tie.Need-returns
-returns c = refusing (name-weights-first _ _ (c .before .check-name .ensures) (c .if1 .taken)) (c .if1 .taken)
+returns c = refusing (name-weights-then _ _ .first (c .before .check-name .ensures) (c .if1 .taken)) (c .if1 .taken)
 
 -- a name
 none : (c : tie.Else1) → checkName (c .before .before .before .args .r) ≡ 0
@@ -31,7 +30,7 @@ fields : (c : tie.Else1) → checkNameFields (c .before .before .before .args .r
 fields c = name-means _ .0 (none c) .0
 
 returns-2 : tie.Need-returns-2
-returns-2 c = refusing (name-weights-nine _ _ (none (c .before)) (omega arith)) (λ e. omega arith)
+returns-2 c = refusing (name-weights-then _ _ .nine (none (c .before)) (omega arith)) (λ e. omega arith)
 
 code-inside-requires : tie.Need-code-inside-requires
 code-inside-requires c κs = fields (c .before)
@@ -50,7 +49,7 @@ returns-3 c =
     let w = c .before .before in
     let d = w .before .before in
     let a = d .before .before .before .before .before .args in
-    answering (name-weights-passes _ _ .1 (none (d .before .before), omega arith)) (
+    answering (name-weights-then _ _ .passes .1 (none (d .before .before), omega arith)) (
       refl,
       w .write-corner .ensures ∙ ap (λ (t : TriangleCode).
           over (corner t (cornerNumber (a .r .0))) (now (a .out))) (d .code-inside .ensures),

@@ -7,8 +7,8 @@ use denote.Ref.{now}
 use Rattle.frame.proofs.Answering.{refusing}
 use Rattle.filing.proofs.HolderLists.{puts-one}
 use Rattle.directions.specs.Refusals.{refuseFile}
-use Rattle.directions.proofs.Refused.{allowed}
-use Rattle.directions.proofs.FilingCalls.{list-first, list-nine, six, listed-answer}
+use Rattle.directions.proofs.Refused.{allowed, list-then}
+use Rattle.directions.proofs.FilingCalls.{six, listed-answer}
 use Rattle.directions.proofs.list.Statement.{statement}
 use Rattle.directions.proofs.list.Tie as tie
 
@@ -17,7 +17,7 @@ refuse-direction-requires c κs = search needs
 
 returns : tie.Need-returns
 returns c = let a = c .before .before .before .args in
-    refusing (list-first (a .degree) (a .d) (now (a .out)) (c .before .refuse-direction .ensures) (c .if1
+    refusing (list-then (a .degree) (a .d) (now (a .out)) .first (c .before .refuse-direction .ensures) (c .if1
     .taken)) (c .if1 .taken)
 
 -- the degree and the direction pass
@@ -27,7 +27,7 @@ passes c = sym (c .before .refuse-direction .ensures) ∙ c .if1 .left
 
 returns-2 : tie.Need-returns-2
 returns-2 c = let a = c .before .before .before .before .args in
-    refusing (list-nine (a .degree) (a .d) (now (a .out)) (passes (c .before)) (c .if2 .taken)) (λ e. omega arith)
+    refusing (list-then (a .degree) (a .d) (now (a .out)) .nine (passes (c .before)) (c .if2 .taken)) (λ e. omega arith)
 
 quick-word-requires : tie.Need-quick-word-requires
 quick-word-requires c κs = let a = allowed _ _ (passes (c .before)) in (a .low, a .level, a .some)

@@ -13,8 +13,14 @@ weights, exact, t, drawn and bits with each number; file and list for a directio
 edge and each corner that has a whole direction at all. Likewise every call on a name for every corner to degree 5. The
 calls below that, and those to be refused, are a choice.
 
-    second.py CALLS ANSWERS    writes the calls, one a line, and the answers that the console must give to them
-    second.py --answer         answers the call lines of standard input, all but help
+For the plotter host in C of request 2026-01 it writes the lines of the host's test bench, and answers them with the
+same searches: every triangle to degree 4 is checked, and crossed over each edge; cross, file and list are lent slices
+of every length from 0 to 64 and none, where they are answered and for each refusal.
+
+    second.py CALLS ANSWERS           writes the calls, one a line, and the answers that the console must give to them
+    second.py --answer                answers the call lines of standard input, all but help
+    second.py --host CALLS ANSWERS    writes the calls of the test bench in C, and the answers that it must give to them
+    second.py --host-answer           answers the test bench's call lines of standard input; any other line is an error
 """
 import bisect
 import itertools
@@ -24,6 +30,7 @@ import random
 import re
 import struct
 import sys
+from collections import namedtuple
 from functools import lru_cache
 
 DEEPEST = 24
@@ -1794,6 +1801,617 @@ def close_calls():
                 yield from pair_calls(chance, n, corner_with(chance, n, chance.randrange(3), v))
 
 
+# ==== Document 02, 2026-01, "Plotter host in C": the answers
+
+# "It needs check, cross, file and list as calls exported to a C host, on plain numbers and byte slices." "cross writes
+# code and edge number (16 bytes), file the code (8), list the count and then its codes (56)". "Check comes for both
+# kinds of word." Document 01: "Checking a word, as the one kind or the other, answers only its refusal number."
+NEEDED = {"check-triangle": 0, "check-name": 0, "cross": 16, "file": 8, "list": 56}
+LONGEST = 64
+
+
+def host_check_triangle(word):
+    return code_refusals(word), tuple
+
+
+def host_check_name(word):
+    return name_refusals(word), tuple
+
+
+def host_cross(code, edge):
+    # Document 02, 2026-06: "All callers pass this on or drop it knowingly; the exported call drops it."
+    return code_refusals(code) | number_refusals(edge), lambda: neighbour(code, edge)
+
+
+def host_file(n, *d):
+    return direction_refusals(n, d), lambda: [min(holders(n, d))]
+
+
+def host_list(n, *d):
+    return direction_refusals(n, d), lambda: [len(holders(n, d)), *holders(n, d)]
+
+
+def slice_refusals(call, lent):
+    # "a shorter slice is refusal 9". Document 01: "A longer list is allowed".
+    return when(9, len(lent) < NEEDED[call])
+
+
+def written_into(lent, numbers):
+    # "Answers go to lent bytes, eight for each number, most significant first". Document 01: "places after the count
+    # are unchanged".
+    answered = b"".join(number.to_bytes(8, "big") for number in numbers)
+    return answered + lent[len(answered) :]
+
+
+# ==== The plotter host's lines: "The lines of the test bench in C"
+
+HOST_ANSWERS = {
+    "check-triangle WORD": host_check_triangle,
+    "check-name WORD": host_check_name,
+    "cross CODE EDGE OUT": host_cross,
+    "file DEGREE X Y Z OUT": host_file,
+    "list DEGREE X Y Z OUT": host_list,
+}
+HOST_FORMS = {form.split()[0]: (form.split()[1:], call) for form, call in HOST_ANSWERS.items()}
+
+
+def read_decimal(text):
+    # "EDGE and DEGREE are decimal, 0 to 2^64 - 1."
+    if not WHOLE_NUMBER.fullmatch(text):
+        raise Unreadable
+    return within(int(text), 0, 2**64 - 1)
+
+
+HOST_READERS = {"WORD": read_hex, "CODE": read_hex, "EDGE": read_decimal, "DEGREE": read_decimal, **SIGNED}
+
+
+@lru_cache(maxsize=None)
+def lent_bytes(length, start):
+    # "before the call the slice has LENGTH bytes, the first of which is FIRST and each later one is one more than the
+    # byte before it, 255 being followed by 0"
+    return bytes((start + at) % 256 for at in range(length))
+
+
+def read_out(words):
+    # "Or OUT is the single word `null`: the slice is a NULL pointer with length 0."
+    if words == ["null"]:
+        return b""
+    within(len(words), 2, 2)
+    length, start = map(read_decimal, words)
+    # "LENGTH 0 to 64 and FIRST 0 to 255"
+    return lent_bytes(within(length, 0, LONGEST), within(start, 0, 255))
+
+
+def read_host_arguments(kinds, words):
+    """The arguments, and the slice before the call."""
+    plain = [kind for kind in kinds if kind != "OUT"]
+    within(len(words), len(plain), len(plain) + 2 * (len(kinds) - len(plain)))
+    arguments = [HOST_READERS[kind](x) for kind, x in zip(plain, words)]
+    return arguments, b"" if plain == kinds else read_out(words[len(plain) :])
+
+
+Asked = namedtuple("Asked", "call arguments lent refusals numbers")
+
+
+def read_host_line(line):
+    call, *words = line.split(" ")
+    try:
+        kinds, asked = HOST_FORMS[call]
+        arguments, lent = read_host_arguments(kinds, words)
+    except (KeyError, Unreadable):
+        raise Unreadable(line) from None
+    refusals, numbers = asked(*arguments)
+    return Asked(call, arguments, lent, refusals | slice_refusals(call, lent), numbers)
+
+
+def host_text(asked):
+    # "Each call returns its refusal number." Document 01: "Every refusal returns only its number and zeros; lent memory
+    # keeps its contents."
+    no = first(asked.refusals)
+    lent = asked.lent if no else written_into(asked.lent, asked.numbers())
+    # "a space follows and then all LENGTH bytes of the slice as they are after the call, two lower case hexadecimal
+    # digits each". "For `null` and for LENGTH 0 nothing follows."
+    return f"{no} {lent.hex()}" if lent else str(no)
+
+
+def host_answer(line):
+    return host_text(read_host_line(line))
+
+
+# ==== The plotter host's calls: examples, with the answers written out by hand
+
+
+def answered_bytes(no, text):
+    return f"{no} {text.replace(' ', '')}"
+
+
+HOST_EXAMPLES = {
+    # "For example, `file 2 0 0 1 10 200` is answered by `0 208c000000000000d0d1`, and `file 2 0 0 1 7 200` by
+    # `9 c8c9cacbcccdce`."
+    "file 2 0 0 1 10 200": "0 208c000000000000d0d1",
+    "file 2 0 0 1 7 200": "9 c8c9cacbcccdce",
+    # E3: "10003, word 0x208C000000000000"; E4 to E7: 200000, 410000, 11102, 21003.
+    "file 2 0 0 1 8 0": answered_bytes(0, "20 8c 00 00 00 00 00 00"),
+    "file 3 1 1 1 8 1": answered_bytes(0, "40 c0 00 00 00 00 00 00"),
+    "file 3 -1 -1 -1 8 2": answered_bytes(0, "90 c0 00 00 00 00 00 00"),
+    "file 2 1 0 0 8 3": answered_bytes(0, "38 88 00 00 00 00 00 00"),
+    "file 2 0 0 -1 9 4": answered_bytes(0, "50 8c 00 00 00 00 00 00 0c"),
+    # E8: "1001 across 2" is "2001, edge 3"; E9: 1002 across 1 is 1013, edge 1; E10: 1011 across 2 is 5113, edge 2.
+    "cross 0x2050000000000000 2 16 0": answered_bytes(0, "40 50 00 00 00 00 00 00 00 00 00 00 00 00 00 03"),
+    "cross 0x2060000000000000 1 16 9": answered_bytes(0, "28 70 00 00 00 00 00 00 00 00 00 00 00 00 00 01"),
+    "cross 0x2850000000000000 2 18 98": answered_bytes(0, "b8 70 00 00 00 00 00 00 00 00 00 00 00 00 00 02 72 73"),
+    # "All holders of (0,0,1) at degree 0, whole: 100, 500; count 2." The rest stays: 200 and 24 is 224, 0xe0.
+    "list 0 0 0 1 56 200": answered_bytes(
+        0,
+        "00 00 00 00 00 00 00 02 20 00 00 00 00 00 00 00 a0 00 00 00 00 00 00 00"
+        "e0 e1 e2 e3 e4 e5 e6 e7 e8 e9 ea eb ec ed ee ef f0 f1 f2 f3 f4 f5 f6 f7 f8 f9 fa fb fc fd fe ff",
+    ),
+    # One byte less than is needed: "a shorter slice is refusal 9".
+    "list 0 0 0 1 55 202": answered_bytes(
+        9,
+        "ca cb cc cd ce cf d0 d1 d2 d3 d4 d5 d6 d7 d8 d9 da db dc dd de df"
+        "e0 e1 e2 e3 e4 e5 e6 e7 e8 e9 ea eb ec ed ee ef f0 f1 f2 f3 f4 f5 f6 f7 f8 f9 fa fb fc fd fe ff 00",
+    ),
+    "cross 0x2050000000000000 2 15 250": answered_bytes(9, "fa fb fc fd fe ff 00 01 02 03 04 05 06 07 08"),
+    "cross 0x2050000000000000 2 0 7": "9",
+    "cross 0x2050000000000000 2 null": "9",
+    "list 0 0 0 1 null": "9",
+    # "Where several hold, the order is 1, 2, 3, 4, 10, 5, 6, 8, 7, 9, 11."
+    "cross 0x2050000000000000 0 2 255": "5 ff00",
+    "cross 0x2050000000000001 0 2 254": "4 feff",
+    "cross 0x2050000000000041 0 null": "3",
+    "cross 0xc050000000000041 0 null": "2",
+    "cross 0xc650000000000041 0 null": "1",
+    "list 0 0 0 0 3 4": "7 040506",
+    "list 24 0 -1000000001 0 1 0": "8 00",
+    "list 25 0 0 0 null": "1",
+    "file 18446744073709551615 -2147483648 0 0 null": "1",
+    # No number is cut short: 257 is not edge 1, and 2^32 + 2 is not degree 2.
+    "cross 0x2050000000000000 257 1 1": "5 01",
+    "file 4294967298 0 0 1 8 0": answered_bytes(1, "00 01 02 03 04 05 06 07"),
+    # E1 and E2 are codes. E11: "name of V(20), degree 0" is 0x2000000000000003; V(20) is also corner 2 of side 200.
+    "check-triangle 0x2000000000000000": "0",
+    "check-triangle 0x2050000000000000": "0",
+    "check-triangle 0x2000000000000003": "4",
+    "check-name 0x2000000000000003": "0",
+    "check-name 0x4000000000000002": "10",
+    "check-name 0x2000000000000000": "4",
+    # "The word 0 is neither."
+    "check-triangle 0x0": "2",
+    "check-name 0x0": "2",
+}
+
+
+# ==== The plotter host's calls: words
+
+HOST_WHOLE = 4  # Every triangle and every word for a corner to this degree is called for.
+OUTSIDE_EDGES = [0, 4, 5, 255, 256, 257, 258, 2**16 + 3, 2**32, 2**32 + 1, 2**32 + 2, 2**32 + 3]
+OUTSIDE_EDGES += [2**63, 2**63 + 1, MOST - 1, MOST]
+
+
+def some_word(chance, word):
+    # "`0x` and 1 to 16 hexadecimal digits"
+    return chance.choice([f"0x{word:016x}", f"0x{word:016X}", f"0x{word:x}"])
+
+
+def out(chance, length):
+    return f"{length} {chance.choice([0, 255, chance.randrange(256), chance.randrange(256)])}"
+
+
+def some_out(chance, call):
+    """Mostly just long enough, or longer; at times too short, or none."""
+    if chance.randrange(16) == 0:
+        return "null"
+    need = NEEDED[call]
+    return out(chance, chance.choice([need] * 8 + [chance.randint(need, LONGEST)] * 6 + [chance.randrange(need)]))
+
+
+def just_enough(chance, call):
+    return out(chance, NEEDED[call])
+
+
+def tight_outs(chance, call):
+    """The least length and the one below it, the ends, and none."""
+    need = NEEDED[call]
+    return [out(chance, length) for length in (0, need - 1, need, need + 1, LONGEST)] + ["null"]
+
+
+def host_crossings():
+    """Every triangle to degree 4, over each edge."""
+    starts = itertools.cycle(range(256))
+    for n in range(HOST_WHOLE + 1):
+        for code in whole_degree(n):
+            yield from (f"cross {word_text(code)} {edge} 16 {next(starts)}" for edge in (1, 2, 3))
+
+
+def host_words():
+    """Every triangle to degree 4, and every word made of one and a corner number: canonical or not."""
+    for n in range(HOST_WHOLE + 1):
+        for code in whole_degree(n):
+            yield f"check-triangle {word_text(code)}"
+            yield from (f"check-name {word_text(code | number)}" for number in (1, 2, 3))
+            if n <= 2:
+                yield f"check-name {word_text(code)}"
+                yield from (f"check-triangle {word_text(code | number)}" for number in (1, 2, 3))
+
+
+def seam_code(chance, n):
+    """On an edge of a side: its digits leave one corner out."""
+    some = chance.choice([(1, 2), (2, 3), (1, 3)])
+    return make_code(chance.choice(SIDES), [chance.choice(some) for _ in range(n)])
+
+
+def round_calls(chance, code):
+    """Over each edge and back again, and every word for each corner."""
+    yield f"check-triangle {some_word(chance, code)}"
+    for edge in (1, 2, 3):
+        other, shared = neighbour(code, edge)
+        yield f"check-triangle {some_word(chance, other)}"
+        yield f"cross {some_word(chance, code)} {edge} {some_out(chance, 'cross')}"
+        yield f"cross {some_word(chance, other)} {shared} {some_out(chance, 'cross')}"
+    for p in corners(code):
+        yield from (f"check-name {some_word(chance, c | number)}" for c, number in having(degree_of(code), p))
+
+
+def host_rounds():
+    chance = random.Random(17)
+    for n in range(DEEPEST + 1):
+        for at in range(30):
+            yield from round_calls(chance, (random_code, random_code, seam_code)[at % 3](chance, n))
+
+
+def any_crossing(chance, word):
+    return f"cross {some_word(chance, word)} {chance.randint(1, 3)} {some_out(chance, 'cross')}"
+
+
+def word_calls(chance, word):
+    """The three calls on a word."""
+    yield f"check-triangle {some_word(chance, word)}"
+    yield f"check-name {some_word(chance, word)}"
+    yield any_crossing(chance, word)
+
+
+def turned_bits():
+    """Codes and names with each of the 64 bits turned over, alone."""
+    chance = random.Random(18)
+    for n in range(DEEPEST + 1):
+        codes, name = [random_code(chance, n) for _ in range(4)], random_name(chance, n)
+        for bit in range(64):
+            yield any_crossing(chance, codes[0] ^ 1 << bit)
+            yield f"check-name {some_word(chance, name ^ 1 << bit)}"
+            yield from (f"check-triangle {some_word(chance, word ^ 1 << bit)}" for word in [*codes, name])
+
+
+def damaged_fields(word):
+    """Each value that a field must not have, alone, and each corner number."""
+    yield from (word & ~(31 << 54) | n << 54 for n in range(25, 32))
+    yield from (word & ~(7 << 61) | a << 61 for a in (0, 6, 7))
+    for place in range(degree_of(word), 24):
+        yield from (word | digit << (52 - 2 * place) for digit in (1, 2, 3))
+    yield from (word | bits << 2 for bits in range(1, 16))
+    yield from (word & ~3 | number for number in range(4))
+
+
+def damaged_words():
+    chance = random.Random(19)
+    for n in (0, 1, 2, 5, 12, 23, 24):
+        for make in (random_code, seam_code, random_name):
+            for word in damaged_fields(make(chance, n)):
+                yield from word_calls(chance, word)
+    for n in range(DEEPEST + 1):
+        for make, breaks in ((random_code, CODE_BREAKS), (random_name, NAME_BREAKS)):
+            for some in alone_and_in_pairs(breaks):
+                word = broken(make(chance, n), some, chance)
+                yield from word_calls(chance, word)
+                edge = chance.choice(OUTSIDE_EDGES)
+                yield from (f"cross {some_word(chance, word)} {edge} {x}" for x in tight_outs(chance, "cross"))
+
+
+def any_words():
+    """The least and the greatest words and single bits. Any 64 bits; the same with the low bits of a code; and at
+    degree 24, as a code or a name but for a."""
+    chance = random.Random(20)
+    for word in [0, 3, 60, 63, MOST - 63, MOST - 3, MOST] + [1 << bit for bit in range(64)]:
+        yield from word_calls(chance, word)
+    for _ in range(500):
+        bits = chance.getrandbits(64)
+        yield from word_calls(chance, bits)
+        yield from word_calls(chance, bits & ~63)
+        yield from word_calls(chance, bits & ~(31 << 54 | 60) | DEEPEST << 54)
+
+
+def outside_edges():
+    chance = random.Random(21)
+    for n in (0, 1, 2, 3, 8, 16, 23, 24):
+        for breaks in [()] * 3 + [(one,) for one in CODE_BREAKS]:
+            word = broken(random_code(chance, n), breaks, chance)
+            for edge in OUTSIDE_EDGES:
+                yield from (f"cross {some_word(chance, word)} {edge} {x}" for x in tight_outs(chance, "cross"))
+
+
+# ==== The plotter host's calls: directions
+
+OUTSIDE_DEGREES = [25, 26, 31, 32, 33, 255, 256, 258, 2**16 + 1, 2**31, 2**32, 2**32 + 2, 2**32 + 24]
+OUTSIDE_DEGREES += [2**63, 2**63 + 1, MOST - 1, MOST]
+LEAST_SIGNED, MOST_SIGNED = -(2**31), 2**31 - 1
+
+
+def direction_pair(chance, n, d, lend=some_out):
+    for call in ("file", "list"):
+        yield f"{call} {n} {' '.join(map(str, d))} {lend(chance, call)}"
+
+
+def host_directions():
+    """Directions of all kinds, and any, at every degree."""
+    chance = random.Random(22)
+    most = [30] * 50 + [10**6] * 50 + [FAR] * 100
+    for d in all_directions() + [tuple(chance.randint(-m, m) for _ in range(3)) for m in most]:
+        for n in range(DEEPEST + 1):
+            yield from direction_pair(chance, n, d)
+
+
+def host_places():
+    """Every triangle to degree 3 is an answer. And directions on the edges and corners to degree 5, there and one
+    degree below."""
+    chance = random.Random(23)
+    for n in range(FULL + 1):
+        for d in middle_directions(n).values():
+            yield from direction_pair(chance, n, d, just_enough)
+    for n in range(WHOLE + 1):
+        for d in dict.fromkeys([*corner_directions(n), *edge_directions(n)]):
+            yield from direction_pair(chance, n, d, just_enough)
+            yield from direction_pair(chance, n + 1, d)
+
+
+def at_the_bounds():
+    """Coordinates on both sides of the bounds, and at the ends of the signed 32-bit numbers, on each axis."""
+    most = [FAR, FAR + 1, -FAR, -FAR - 1, LEAST_SIGNED, LEAST_SIGNED + 1, MOST_SIGNED]
+    found = [(0, 0, 0), (1, -2, 3), (FAR, -FAR, FAR), (FAR + 1, -FAR - 1, FAR), (LEAST_SIGNED,) * 3, (MOST_SIGNED,) * 3]
+    return found + [d for x in most for d in ((x, 0, 0), (0, x, 0), (0, 0, x), (x, 5, -7), (-7, x, 5), (5, -7, x))]
+
+
+def outside_directions():
+    chance = random.Random(24)
+    for n in [0, 1, 2, 23, 24] + OUTSIDE_DEGREES:
+        for d in at_the_bounds():
+            for call in ("file", "list"):
+                where = f"{call} {n} {' '.join(map(str, d))}"
+                yield from (f"{where} {x}" for x in chance.sample(tight_outs(chance, call), 4))
+
+
+# ==== The plotter host's calls: slices of every length
+
+
+def crossings_to_lend():
+    """Answered ones, then each refusal alone and two together."""
+    chance = random.Random(25)
+    for n in (0, 1, 4, 11, 24):
+        for make in (random_code, seam_code):
+            yield f"cross {word_text(make(chance, n))} {chance.randint(1, 3)}"
+    for n in (0, 3, 23):
+        for breaks in alone_and_in_pairs(CODE_BREAKS):
+            edges = (chance.choice(OUTSIDE_EDGES),) + ((chance.randint(1, 3),) if breaks else ())
+            word = broken(random_code(chance, n), breaks, chance)
+            yield from (f"cross {word_text(word)} {edge}" for edge in edges)
+
+
+def with_holders(chance, n, count):
+    """A direction with that many holders."""
+    some = all_directions()
+    return next(d for d in chance.sample(some, len(some)) if len(holders(n, d)) == count)
+
+
+def directions_to_lend():
+    """Directions with 1, 2 and 6 holders, then each refusal alone and two together."""
+    chance = random.Random(26)
+    # "at degree 0 there are 1 or 2"
+    yield from ((0, with_holders(chance, 0, count)) for count in (1, 2))
+    yield from ((n, with_holders(chance, n, count)) for n in (1, 2, 3, 9, 24) for count in (1, 2, 6))
+    yield from itertools.product((0, 24), [(0, 0, 0), (0, -FAR - 1, 0), (LEAST_SIGNED, 1, MOST_SIGNED)])
+    yield from itertools.product((25, 256, 2**32 + 2, MOST), [(1, 2, 3), (0, 0, 0), (FAR + 1, 0, -FAR)])
+
+
+def every_length(chance):
+    # "LENGTH 0 to 64"
+    for length in range(LONGEST + 1):
+        yield from (f"{length} {start}" for start in (0, 255, chance.randrange(1, 255)))
+    yield "null"
+
+
+def every_slice():
+    chance = random.Random(27)
+    calls = list(crossings_to_lend())
+    calls += [f"{call} {n} {' '.join(map(str, d))}" for n, d in directions_to_lend() for call in ("file", "list")]
+    for call in calls:
+        yield from (f"{call} {x}" for x in every_length(chance))
+
+
+def every_first():
+    """Slices filled in each of the 256 ways."""
+    for start in range(256):
+        yield from (f"cross 0x2050000000000000 {edge} {length} {start}" for edge in (2, 4) for length in (15, 16, 64))
+        for n, d in ((0, "0 0 1"), (2, "0 0 1"), (24, "1 2 3"), (25, "0 0 1"), (3, "0 0 0")):
+            yield from (f"file {n} {d} {length} {start}" for length in (7, 8, 64))
+            yield from (f"list {n} {d} {length} {start}" for length in (55, 56, 64))
+
+
+# ==== Internal checks of the plotter host's answers
+
+# The rows of document 01's table that each call can give, and 02's 9. 1 to 4 are a word's, 10 a corner name's; 5 takes
+# an edge argument, and a degree argument 1; 8 and 7 are a direction's. There is no parent or child, and so no 6; there
+# are no weights to be found again, and so no 11.
+HOST_NUMBERS = {
+    "check-triangle": {1, 2, 3, 4},
+    "check-name": {1, 2, 3, 4, 10},
+    "cross": {1, 2, 3, 4, 5, 9},
+    "file": {1, 7, 8, 9},
+    "list": {1, 7, 8, 9},
+}
+
+
+def together(numbers):
+    """Each two of the numbers that can hold at once. After a degree above 24 there are no digits, for 3; a word that
+    has one of 1 to 4 has no 10; and a coordinate of (0, 0, 0) is not outside, for 8."""
+    two = (set(x) for x in itertools.combinations(numbers, 2))
+    return {frozenset(x) for x in two if x not in ({1, 3}, {7, 8}) and 10 not in x}
+
+
+def check_host_numbers(records):
+    """Each refusal that a call can give is given, and no other; and each two that can hold at once do, so that their
+    order is seen."""
+    given = {call: set() for call in HOST_NUMBERS}
+    at_once = {call: set() for call in HOST_NUMBERS}
+    for asked, text in records:
+        given[asked.call].add(int(text.split(" ")[0]))
+        at_once[asked.call].update(map(frozenset, itertools.combinations(asked.refusals, 2)))
+    for call, numbers in HOST_NUMBERS.items():
+        must(given[call] == numbers | {0}, "just these refusals, and answers", call, given[call])
+        must(at_once[call] == together(numbers), "just these at once", call, at_once[call])
+
+
+def numbers_in(text):
+    """The numbers of eight bytes, most significant first."""
+    return [int(text[k : k + 16], 16) for k in range(0, len(text), 16)]
+
+
+def check_cross_bytes(arguments, after_call):
+    """The triangle across is another one that has the edge's two corners, and its own third corner has the number."""
+    code, edge = arguments
+    other, shared = numbers_in(after_call[:32])
+    must(other != code and degree_of(other) == degree_of(code), "another code of the degree", code, edge)
+    must(not code_refusals(other) and shared in (1, 2, 3), "a code and an edge number", code, edge)
+    ours, theirs = (set(corners(x)) - {corners(x)[k - 1]} for x, k in ((code, edge), (other, shared)))
+    must(ours == theirs, "the edge's two corners", code, edge)
+    return 16
+
+
+def check_file_bytes(arguments, after_call):
+    n, *d = arguments
+    (code,) = numbers_in(after_call[:16])
+    must(degree_of(code) == n and not code_refusals(code), "a code of the degree", n, d)
+    return 8
+
+
+def check_list_bytes(arguments, after_call):
+    n, *d = arguments
+    count, *codes = numbers_in(after_call[:112])
+    codes = codes[:count]
+    must(count in (1, 2, 6) and codes == sorted(set(codes)), "the count, and codes in rising order", n, d)
+    must(all(degree_of(code) == n and not code_refusals(code) for code in codes), "codes of the degree", n, d)
+    return 8 + 8 * count
+
+
+BYTE_CHECKS = {"cross": check_cross_bytes, "file": check_file_bytes, "list": check_list_bytes}
+
+
+def check_host_bytes(records):
+    """Each slice after its call: what was answered, and then, or when refused, the bytes that were there before."""
+    for asked, text in records:
+        no, after_call = (text + " ").split(" ")[:2]
+        must(no == str(int(no)) and len(after_call) == 2 * len(asked.lent), "all LENGTH bytes", asked, text)
+        many = BYTE_CHECKS[asked.call](asked.arguments, after_call) if no == "0" and NEEDED[asked.call] else 0
+        must(many <= NEEDED[asked.call], "no more bytes than needed", asked, text)
+        must(after_call[2 * many :] == asked.lent.hex()[2 * many :], "the others stay as they were", asked, text)
+
+
+def host_found(records):
+    """The codes that file and list answered, by degree and direction."""
+    found = {"file": {}, "list": {}}
+    for asked, text in records:
+        if asked.call in found and text.startswith("0 "):
+            numbers = numbers_in(text[2:114])
+            codes = numbers[:1] if asked.call == "file" else numbers[1 : numbers[0] + 1]
+            n, *d = asked.arguments
+            old = found[asked.call].setdefault((n, tuple(d)), codes)
+            must(old == codes, "the same answer to the same question", n, d)
+    return found["file"], found["list"]
+
+
+def check_host_holders(records):
+    """The middles of every triangle to degree 3, and the edges and corners to degree 5, as for the console. What file
+    answers is the first that list answers, or else holds, and the parents of holders hold. Of a share, by the
+    determinants: those that list answers hold the direction, and the others that have a corner with them do not."""
+    filed, listed = host_found(records)
+    for n in range(FULL + 1):
+        check_middles(n, filed, listed)
+    for n in range(WHOLE + 1):
+        check_edges(n, filed, listed)
+    for n, d in filed.keys() - listed.keys():
+        must(literal_holds(corners(filed[n, d][0]), d), "it holds", n, d)
+    for at, ((n, d), codes) in enumerate(listed.items()):
+        must(filed.get((n, d), codes[:1]) == codes[:1], "the least", n, d)
+        above = listed.get((n - 1, d))
+        if above:
+            must({parent_code(code) for code in codes} <= set(above), "the parents hold", n, d)
+        if at % 40 == 0:
+            must(all(literal_holds(corners(code), d) for code in codes), "they hold", n, d)
+            near = {other for code in codes for p in corners(code) for other, _ in having(n, p)} - set(codes)
+            must(not any(literal_holds(corners(code), d) for code in near), "the others do not", n, d)
+
+
+def check_host_lengths(calls, records):
+    """For each call with a slice, each refusal but 9 is given with every length and with null; 9 is given with each
+    length that is too short and with null; and with each other length the call is answered, by list with 1, 2 and 6
+    holders."""
+    found = {}
+    for line, (asked, text) in zip(calls, records):
+        kind = (asked.call, int(text.split(" ")[0]))
+        kind += tuple(numbers_in(text[2:18])) if kind == ("list", 0) else ()
+        found.setdefault(kind, set()).add("null" if line.endswith(" null") else len(asked.lent))
+    every = {"null", *range(LONGEST + 1)}
+    for call in BYTE_CHECKS:
+        enough = set(range(NEEDED[call], LONGEST + 1))
+        for kind in [("list", 0, count) for count in (1, 2, 6)] if call == "list" else [(call, 0)]:
+            must(found[kind] == enough, "answered with every length that is long enough", kind, found[kind])
+        for no in HOST_NUMBERS[call]:
+            must(found[call, no] == (every - enough if no == 9 else every), "refused", call, no, found[call, no])
+
+
+def check_host_degrees(records):
+    """Every call is answered at every degree; a word is refused there as not canonical; and there are crossings from
+    side to side, and within one."""
+    found = set()
+    for asked, text in records:
+        n = asked.arguments[0] if asked.call in ("file", "list") else degree_of(asked.arguments[0])
+        found.add((asked.call, n, text.split(" ")[0]))
+        if asked.call == "cross" and text.startswith("0 "):
+            found.add((n, side_of(asked.arguments[0]) == side_of(numbers_in(text[2:18])[0])))
+    for n in range(DEEPEST + 1):
+        must(all((call, n, "0") in found for call in HOST_NUMBERS), "answered", n)
+        must(("check-name", n, "10") in found, "not canonical", n)
+        must((n, False) in found and ((n, True) in found) == (n > 0), "from side to side, and within one", n)
+
+
+def check_host_whole(records):
+    """Every triangle to degree 4 is checked and crossed over each edge, every word for a corner there is checked; the
+    edges and degrees outside are refused as such; and slices are filled in each of the 256 ways."""
+    given = {(asked.call, *asked.arguments[:2], text.split(" ")[0]) for asked, text in records}
+    for code in itertools.chain.from_iterable(map(whole_degree, range(HOST_WHOLE + 1))):
+        must(("check-triangle", code, "0") in given, "every triangle", code)
+        for k in (1, 2, 3):
+            must(("cross", code, k, "0") in given, "over each edge", code, k)
+            must(not given.isdisjoint({("check-name", code | k, no) for no in ("0", "10")}), "every word", code, k)
+    refused_as = {(call, values[-1] if call == "cross" else values[0], no) for call, *values, no in given}
+    must(refused_as >= {("cross", edge, "5") for edge in OUTSIDE_EDGES}, "the edges outside")
+    must(refused_as >= {(call, n, "1") for call in ("file", "list") for n in OUTSIDE_DEGREES}, "the degrees outside")
+    filled_with = {(asked.call, text[0] == "0", asked.lent[0]) for asked, text in records if asked.lent}
+    must(len(filled_with) == len(BYTE_CHECKS) * 2 * 256, "answered and refused, filled in each way")
+
+
+def check_host_examples():
+    for line, text in HOST_EXAMPLES.items():
+        must(host_answer(line) == text, "by hand", line, text, host_answer(line))
+
+
+def check_host_answers(calls, records):
+    check_host_numbers(records)
+    check_host_bytes(records)
+    check_host_holders(records)
+    check_host_lengths(calls, records)
+    check_host_degrees(records)
+    check_host_whole(records)
+
+
 # ==== Writing the two files
 
 SECTIONS = {
@@ -1824,31 +2442,74 @@ def write_bytes(path, text):
         out.write(text.encode("latin-1"))
 
 
-def write_files(calls_path, answers_path):
-    internal_checks()
+def calls_of(sections):
     calls = []
-    for section, make in SECTIONS.items():
+    for section, make in sections.items():
         lines = list(make())
         calls += lines
         print(f"{len(lines):8} {section}")
     print(f"{len(calls):8} lines")
     must(not any("\n" in line for line in calls), "one line each")
+    return calls
+
+
+def write_files(calls_path, answers_path):
+    internal_checks()
+    calls = calls_of(SECTIONS)
     answers = [answer(line) for line in calls]
     check_answers(calls, answers)
     write_bytes(calls_path, "\n".join(calls))
     write_bytes(answers_path, "".join(text + "\n" for text in answers))
 
 
-def answer_input():
+def answer_input(answer_line):
     text = sys.stdin.buffer.read().decode("latin-1")
     lines = text.split("\n")
     for line in lines if lines[-1] else lines[:-1]:
-        sys.stdout.buffer.write((answer(line) + "\n").encode("latin-1"))
+        sys.stdout.buffer.write((answer_line(line) + "\n").encode("latin-1"))
+
+
+# ==== Writing the plotter host's two files
+
+HOST_SECTIONS = {
+    "examples": HOST_EXAMPLES.keys,
+    "every triangle to degree 4 over each edge": host_crossings,
+    "every code, and every word for a corner, to degree 4": host_words,
+    "over the edges and round the corners, degrees 0 to 24": host_rounds,
+    "one bit turned over": turned_bits,
+    "damaged words": damaged_words,
+    "any words": any_words,
+    "outside edges": outside_edges,
+    "directions": host_directions,
+    "in the middle of triangles, on edges and corners": host_places,
+    "outside degrees and directions": outside_directions,
+    "slices of every length": every_slice,
+    "slices filled in every way": every_first,
+}
+
+
+def write_host_files(calls_path, answers_path):
+    # The holders are searched as for the console, whose internal checks compare the two ways of searching them.
+    check_signs()
+    for n in range(HOST_WHOLE + 1):
+        check_degree(n)
+    check_search()
+    check_examples()
+    check_host_examples()
+    calls = calls_of(HOST_SECTIONS)
+    records = [(asked, host_text(asked)) for asked in map(read_host_line, calls)]
+    check_host_answers(calls, records)
+    write_bytes(calls_path, "".join(line + "\n" for line in calls))
+    write_bytes(answers_path, "".join(text + "\n" for _, text in records))
 
 
 if __name__ == "__main__":
     if sys.argv[1:] == ["--answer"]:
-        answer_input()
+        answer_input(answer)
+    elif sys.argv[1:] == ["--host-answer"]:
+        answer_input(host_answer)
+    elif len(sys.argv) == 4 and sys.argv[1] == "--host":
+        write_host_files(sys.argv[2], sys.argv[3])
     elif len(sys.argv) == 3:
         write_files(sys.argv[1], sys.argv[2])
     else:

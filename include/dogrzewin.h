@@ -1,0 +1,120 @@
+/* Dogrzewin for a program in C or C++: a grid of the globe, with a machine-checked proof of what every call answers.
+ *
+ * The globe is an icosahedron whose twenty sides are cut again and again into four triangles, to degree 24. A triangle
+ * has a code and a corner has a name; each is one 64-bit number, and a code is never a name. Edge k of a triangle, 1 to
+ * 3, lies opposite its corner k. A direction is any point but (0, 0, 0) on the ray from the centre, in whole numbers.
+ *
+ * Each call returns 0 where it answers, else the number of its refusal, and writes its answer to bytes that the caller
+ * lends: eight bytes for each number, the most significant first. grid_number reads them.
+ *
+ *     uint8_t out[GRID_FILE_BYTES];
+ *     if (grid_file(2, 0, 0, 1, out, sizeof out) == GRID_ANSWERED) {
+ *         uint64_t code = grid_number(out);
+ *     }
+ *
+ * What the caller owes. These cannot be checked by a call, and what is proved rests on them:
+ *
+ *     - The program is for x86-64 Linux: the toolchain makes static libraries for no other processor.
+ *     - out points to out_length bytes that may be read and written, or it is any pointer, as NULL, with the length 0.
+ *     - Nothing else touches these bytes before the call returns: no other thread and no signal handler, and where they
+ *       lie in a mapped file or in shared memory no other process and no other mapping.
+ *     - There is room on the stack. No proof speaks of the stack.
+ *
+ * What the caller may count on. Any numbers may be handed in; what does not fit is refused. A call that refuses writes
+ * nothing. A call that answers writes just the bytes that are named at it; the rest of out stays, and a longer out is
+ * allowed. An answer depends on nothing but the arguments. Every call returns. None allocates memory or keeps any state,
+ * so that several threads may call at once, each with bytes of its own. */
+#ifndef DOGRZEWIN_H
+#define DOGRZEWIN_H
+
+#include <stddef.h>
+#include <stdint.h>
+
+#define GRID_VERSION "1.0.0"
+
+#ifdef __cplusplus
+extern "C" {
+#endif
+
+/* What a call returns: 0, or a refusal number of the grid's rules. Where several refusals hold, the first in the order
+ * 1, 2, 3, 4, 10, 5, 6, 8, 7, 9, 11 is given; each call below names its own in that order. No call here gives 6 or 11.
+ * For 9 the lent list is out, and what it needs stands at each call, in bytes. */
+enum grid_refusal {
+    /* answered */
+    GRID_ANSWERED = 0,
+    /* a degree, as field or argument, is above 24 */
+    GRID_DEGREE_TOO_HIGH = 1,
+    /* a is 0, 6 or 7 */
+    GRID_NO_SUCH_SIDE = 2,
+    /* a digit beyond the degree is not 0 */
+    GRID_DIGIT_BEYOND_DEGREE = 3,
+    /* the four zero bits are not zero, or the corner number does not fit the kind of word */
+    GRID_WRONG_KIND = 4,
+    /* an edge or corner argument is not 1 to 3, or a child digit is not 0 to 3 */
+    GRID_ARGUMENT_OUT_OF_RANGE = 5,
+    /* parent of degree 0, or child of degree 24 */
+    GRID_NO_SUCH_DEGREE = 6,
+    /* the direction is (0, 0, 0) */
+    GRID_ZERO_DIRECTION = 7,
+    /* a direction coordinate lies outside -1,000,000,000 to 1,000,000,000 */
+    GRID_COORDINATE_TOO_FAR = 8,
+    /* a lent list is too short: 12 for weights, 6 for triangles */
+    GRID_TOO_SHORT = 9,
+    /* a word passes 1 to 4 as a corner name and is not the canonical one */
+    GRID_NOT_CANONICAL = 10,
+    /* no corner of the degree has the twelve weights */
+    GRID_NO_SUCH_CORNER = 11
+};
+
+/* The least out_length of each call that writes. */
+enum grid_bytes {
+    GRID_CROSS_BYTES = 16,
+    GRID_FILE_BYTES = 8,
+    GRID_LIST_BYTES = 56
+};
+
+/* The number in eight bytes, the most significant first: number k of an answer, from 0, is grid_number(out + 8 * k). */
+static inline uint64_t grid_number(const uint8_t *bytes) {
+    uint64_t number = 0;
+    int k;
+    for (k = 0; k < 8; k++) {
+        number = number << 8 | bytes[k];
+    }
+    return number;
+}
+
+/* Checks a word as the code of a triangle: 0 where it is one.
+ *
+ * Writes: nothing.
+ * Refusals: 1, 2, 3, 4. */
+uint64_t grid_check_triangle(uint64_t word);
+
+/* Checks a word as the name of a corner: 0 where it is one. A corner has one name, whichever triangle it is seen from.
+ *
+ * Writes: nothing.
+ * Refusals: 1, 2, 3, 4, 10. */
+uint64_t grid_check_name(uint64_t word);
+
+/* Crosses an edge, 1 to 3, of the triangle with this code.
+ *
+ * Writes: 16 bytes: the code of the triangle across the edge, and the number that the edge has there.
+ * Refusals: 1, 2, 3, 4, 5, 9. (9 where out_length is below GRID_CROSS_BYTES.) */
+uint64_t grid_cross(uint64_t code, uint64_t edge, uint8_t *out, size_t out_length);
+
+/* Files the direction (x, y, z) at a degree. A triangle holds the directions on its edges and corners too.
+ *
+ * Writes: 8 bytes: the least code of that degree whose triangle holds the direction.
+ * Refusals: 1, 8, 7, 9. (9 where out_length is below GRID_FILE_BYTES.) */
+uint64_t grid_file(uint64_t degree, int32_t x, int32_t y, int32_t z, uint8_t *out, size_t out_length);
+
+/* Lists all triangles of a degree that hold the direction (x, y, z): 1, or 2 on an edge, or 6 at a corner.
+ *
+ * Writes: 8 + 8 * count bytes: the count, and then the codes, rising. The rest of the 56 bytes stays as it is.
+ * Refusals: 1, 8, 7, 9. (9 where out_length is below GRID_LIST_BYTES, whatever the count is.) */
+uint64_t grid_list(uint64_t degree, int32_t x, int32_t y, int32_t z, uint8_t *out, size_t out_length);
+
+#ifdef __cplusplus
+}
+#endif
+
+#endif

@@ -14,10 +14,11 @@ Instead of a path DECISIONS.md also has a crate, whose src/ is meant.
 
 In the tables of PROMISES.md a name without a file is one of a file that stands in the same cell; in the section 'The
 demands' it may be one of grid/specs/Demands.antt, and above its table one that is imported there. In the table of wrong
-answers the second column has fields of `Mistakes` (grid/specs/Mistakes.antt), all of them, and the last one must-fail
-edits, as `crate/edit`; a crate holds for the edits after it in its row. In the table by calls each call of document 01
-(a method of words/src/lib.rt's TriangleCode, or what grid/src/lib.rt hands on) has its row, with two edits or more of
-code. Every edit stands in a row.
+answers the second column has fields of records `Mistakes`, those of grid/specs/Mistakes.antt by their names and others
+as places, all of them, and the last one must-fail edits, as `crate/edit`; a crate holds for the edits after it in its
+row. In the table by calls each call of document 01 (a method of words/src/lib.rt's TriangleCode, or what
+grid/src/lib.rt hands on) and each call exported to C has its row, with two edits or more of code. Every edit stands in
+a row. Each of these calls has its row where contracts are held to promises, under the name that its promise has.
 
 The crates in the tables of README.md and ARCHITECTURE.md are the libraries of crates.txt, and the modules that
 ARCHITECTURE.md names stand in their crates. LANDINGS.md tells what was, and is not read.
@@ -36,7 +37,7 @@ README, PROMISES, DECISIONS = "README.md", "docs/PROMISES.md", "docs/DECISIONS.m
 ARCHITECTURE = "docs/ARCHITECTURE.md"
 DOCS = (README, PROMISES, DECISIONS, ARCHITECTURE, "docs/FILING.md", "docs/CONSOLE.md", "docs/PERFORMANCE.md")
 DEMANDS, MISTAKES = "grid/specs/Demands.antt", "grid/specs/Mistakes.antt"
-CONTRACTS = "crates/grid/specs/Contracts.antt"
+CONTRACTS, HOST_CONTRACTS = "crates/grid/specs/Contracts.antt", "crates/contracts/specs/Host.antt"
 ASKED = "The demands"
 WRONG_ANSWERS = "Wrong answers that are ruled out, as theorems"
 BY_CALL = "Wrong programs and definitions, call by call"
@@ -193,6 +194,30 @@ def calls():
 
 
 @functools.cache
+def exported():
+    """The calls for a program in C."""
+    lib = (CRATES / "host/src/lib.rt").read_text(encoding="utf-8")
+    return re.findall(r'^pub extern "C" fn (\w+)\(', lib, re.MULTILINE)
+
+
+@functools.cache
+def contracts():
+    """Where calls are held to their promises: the file with a row for each, the record of promises, the calls."""
+    return (
+        (CONTRACTS, DEMANDS, "Demand1", calls()),
+        (HOST_CONTRACTS, "host/specs/Promises.antt", "OneAnswer", exported()),
+    )
+
+
+@functools.cache
+def mistakes():
+    """The fields of each record `Mistakes`, by file."""
+    files = sorted(str(f.relative_to(CRATES)) for f in CRATES.glob("*/specs/*.antt"))
+    found = {f: {name for _, name in file_names(f).parts.get("Mistakes", ())} for f in files}
+    return {f: fields for f, fields in found.items() if fields}
+
+
+@functools.cache
 def modules(crate):
     return {f.stem for part in ("specs", "proofs") for f in (CRATES / crate / part).rglob("*.antt")}
 
@@ -309,9 +334,21 @@ class Documents:
                 self.say(doc, f"no edit {crate}/{label}")
         return found
 
+    def refuted(self, cell):
+        """The fields of records `Mistakes` that a cell names, each with its file."""
+        found = set()
+        for code in CODE.findall(cell):
+            place = PLACE.fullmatch(code)
+            file = place[1] if place else MISTAKES
+            for name in ((place[2] or "") if place else code).removeprefix("Mistakes.").split(", "):
+                if name in mistakes().get(file, ()):
+                    found.add((file, name))
+                else:
+                    self.say(PROMISES, f"Mistakes has no {name}")
+        return found
+
     def check_promises(self):
-        fields = {name for _, name in file_names(MISTAKES).parts["Mistakes"]}
-        refuted, named, of_call, titles = set(), set(), {c: set() for c in calls()}, set()
+        refuted, named, of_call, titles = set(), set(), {c: set() for c in calls() + exported()}, set()
         for title, rows, other in self.sections(PROMISES):
             titles.add(title)
             width = 3 if title == WRONG_ANSWERS else 2
@@ -319,11 +356,7 @@ class Documents:
                 if len(row) != width:
                     self.say(PROMISES, f"a row of '{title}' has {len(row)} cells and not {width}")
                 elif title == WRONG_ANSWERS:
-                    names = ", ".join(CODE.findall(row[1])).split(", ")
-                    refuted.update(names)
-                    for name in names:
-                        if name not in fields:
-                            self.say(PROMISES, f"Mistakes has no {name}")
+                    refuted.update(self.refuted(row[1]))
                     named.update(self.row_edits(PROMISES, row[2]))
                 elif title == BY_CALL:
                     found = self.row_edits(PROMISES, row[1])
@@ -332,7 +365,7 @@ class Documents:
                         if call in of_call:
                             of_call[call].update(e for e in found if edits()[e])
                         elif not call.startswith("./"):
-                            self.say(PROMISES, f"{call} is no call of document 01")
+                            self.say(PROMISES, f"{call} is no call of document 01, and none for C")
                 else:
                     self.check_bare(PROMISES, row[1], [DEMANDS] if title == ASKED else [])
             if title == ASKED:
@@ -341,8 +374,8 @@ class Documents:
         for title in (ASKED, WRONG_ANSWERS, BY_CALL):
             if title not in titles:
                 self.say(PROMISES, f"no section '{title}'")
-        for name in sorted(fields - refuted):
-            self.say(PROMISES, f"no row for Mistakes.{name}")
+        for file, name in sorted({(f, name) for f, fields in mistakes().items() for name in fields} - refuted):
+            self.say(PROMISES, f"no row for Mistakes.{name} of {file}")
         for edit in sorted(set(edits()) - named):
             self.say(PROMISES, f"no row for the must-fail edit {edit}")
         for call, found in of_call.items():
@@ -384,15 +417,16 @@ class Documents:
                     self.say(doc, f"it says {said} {what}, and there are {many}")
 
     def check_contracts(self):
-        """Each call has one row of Contracts, and the rows have the names of those of Demand1."""
-        text = self.text(CONTRACTS)
-        rows = set(re.findall(r"^  pub (\w+) :", text, re.MULTILINE))
-        for name in sorted(rows ^ {name for _, name in file_names(DEMANDS).parts["Demand1"]}):
-            self.say(CONTRACTS, f"{name} is a row of Contracts or of Demand1, and not of both")
-        asked = re.findall(r"Says \((\w+)\.Asked ", text)
-        for call in calls():
-            if asked.count(call.rpartition("::")[2]) != 1:
-                self.say(CONTRACTS, f"{call} has not one row")
+        """Each call has one row of Contracts, and the rows have the names of those of its record of promises."""
+        for file, promises, record, of_file in contracts():
+            text = self.text(file)
+            rows = set(re.findall(r"^  pub (\w+) :", text, re.MULTILINE))
+            for name in sorted(rows ^ {name for _, name in file_names(promises).parts[record]}):
+                self.say(file, f"{name} is a row of Contracts or of {record}, and not of both")
+            asked = re.findall(r"Says \((\w+)\.Asked ", text)
+            for call in of_file:
+                if asked.count(call.rpartition("::")[2]) != 1:
+                    self.say(file, f"{call} has not one row")
 
     def check(self, docs=DOCS):
         for doc in docs:
@@ -431,6 +465,7 @@ ROWS = (
     ("a clause that a demand has not", ASKED, "`Demand3`: `oneOther, allDistinct`", "allDistinct"),
     ("a demand that there is not", ASKED, "`Demand4`", "`Demand4`"),
     ("a mistake that there is not", WRONG_ANSWERS, "`edge-lost` | `corners/cross_itself`", "Mistakes has no edge-lost"),
+    ("another record's mistake", WRONG_ANSWERS, "`reversed` | `corners/cross_itself`", "Mistakes has no reversed"),
     ("an edit that there is not", WRONG_ANSWERS, "`edge-kept` | `corners/cross_all`", "no edit corners/cross_all"),
     ("an edit of another crate", WRONG_ANSWERS, "`edge-kept` | `net/cross_itself`", "no edit net/cross_itself"),
     ("an edit without its crate", BY_CALL, "`cross_itself`", "no edit None/cross_itself"),
@@ -460,6 +495,9 @@ TAKEN = (
     ("a section", PROMISES, "## " + BY_CALL, "no section"),
     ("a call's contract", CONTRACTS, "Says (ring.Asked", "ring has not one row"),
     ("a row of Demand1", CONTRACTS, "  pub ring :", "ring is a row of Contracts or of Demand1"),
+    ("an exported call's contract", HOST_CONTRACTS, "Says (grid_list.Asked", "grid_list has not one row"),
+    ("an exported call's row", PROMISES, "`grid_cross`", "grid_cross has fewer than two"),
+    ("a mistake's row of another file", PROMISES, "Mistakes.reversed", "no row for Mistakes.reversed"),
 )
 
 # Rows that are right, and bring no report.

@@ -1,10 +1,13 @@
 -- Laws of answers and promises: what a program returns, that there is one answer and no other, and the number that it
 -- has. With lent memory an answer is the two together (`Lent`), so that each law serves both. Assumes nothing.
 use mathlib.Core.Path.{_≡_, _∙_, refl, sym, ap}
+use mathlib.Core.Bool.{false}
 use mathlib.Core.Logic.{_⊎_, inl, inr, ⊎-elim}
 use mathlib.Core.List.{List}
 use Prim.Native.Nat.{ℕ, zero, suc}
 use native.Mathlib.Omega.{arith}
+use borrow.Author.Tests.{eqb-false}
+use lib.Dec.{eqb}
 use lib.ListN.{length}
 use Rattle.frame.specs.Answers.{Answer, Known, Listed, over}
 use Rattle.frame.specs.Promises.{Keeps, Says, _gives_}
@@ -104,6 +107,11 @@ keeps-is {number = number} v h k = record {
 pub gives-one : {A : Type 0} {P : A → Type 0} {r : A} → ((s s′ : A) → P s → P s′ → s ≡ s′) → P r
     → P gives r
 gives-one {r = r} one is = record { meets = is; only = λ s a. one s r a is }
+
+-- beside the only answer no other, told by one of its numbers
+pub no-other : {A : Type 0} {P : A → Type 0} {r s : A} (number : A → ℕ) → P gives r
+    → eqb (number s) (number r) ≡ false → P s → ⊥
+no-other number g differ a = eqb-false _ _ differ (ap number (g .only _ a))
 
 -- ---- contracts
 

@@ -10,9 +10,10 @@ use lib.Pow.{pow-pos}
 use lib.Dec.{eqb, lit≤}
 use lib.IntN.{pos, natAbs}
 use lib.ListN.{getD}
-use borrow.Author.Tests.{eqb-false, le-ltb}
+use borrow.Author.Tests.{le-ltb}
 use Rattle.frame.specs.Refusals.{firstOf}
 use Rattle.frame.specs.Promises.{_gives_}
+use Rattle.frame.proofs.Answering.{no-other}
 use Rattle.golden.specs.Numbers.{golden, whole, _+φ_, negφ, _*φ_}
 use Rattle.golden.proofs.GoldenOrder.{is-nonneg, not-nonneg}
 use Rattle.golden.proofs.IntegerOrder.{pp}
@@ -153,11 +154,6 @@ fixed-name n q l f =
     omega arith
 
 -- ---- all of them
-
--- beside the only answer no other, told by one of its numbers
-no-other : {A : Type 0} {P : A → Type 0} {r s : A} (number : A → ℕ) → P gives r
-    → eqb (number s) (number r) ≡ false → P s → ⊥
-no-other number g differ a = eqb-false _ _ differ (ap number (g .only _ a))
 
 pub mistakes : Mistakes
 unfolding firstOf refuseNumbered refuseBack checkCode decimals written path wordOf digits corner cornerOf triangleAt

@@ -1,0 +1,13 @@
+-- What each exported function asks and ensures is what specs/Host.antt says: the two are the same, by computation.
+-- Assumes nothing.
+use Rattle.frame.proofs.Answering.{says-itself}
+use Rattle.contracts.specs.Host.{Contracts}
+
+pub contracts : Contracts
+contracts = record {
+  checkTriangle = λ κs word r. says-itself;
+  checkNames = λ κs word r. says-itself;
+  cross = λ κs code edge out new r. says-itself;
+  file = λ κs degree x y z out new r. says-itself;
+  list = λ κs degree x y z out new r. says-itself;
+}

@@ -1,0 +1,2 @@
+-- The contracts, by computation.
+pub mod Host

@@ -1,0 +1,41 @@
+-- Document 02, 2026-01: what the exported functions themselves say, as grid/specs/Contracts.antt has it of document
+-- 01's. Assumes nothing.
+use mathlib.Core.Path.{_≡_}
+use Prim.Native.Nat.{ℕ}
+use lib.IntN.{ℤ}
+use contract.Lifetimes.{Lfts}
+use denote.Ref.{now}
+use Rattle.frame.specs.Promises.{Says}
+use Rattle.words.specs.Refusals.{checkCode}
+use Rattle.words.specs.Family.{codeOf}
+use Rattle.net.specs.Corners.{nameOf}
+use Rattle.net.specs.Refusals.{checkName}
+use Rattle.grid.specs.Contracts.{Slice}
+use Rattle.grid.specs.Writing.{towards}
+use Rattle.host.specs.Answers.{CrossBytes, FileBytes, ListBytes}
+use Rattle.host.proofs.grid_check_triangle.Reads as grid_check_triangle
+use Rattle.host.proofs.grid_check_name.Reads as grid_check_name
+use Rattle.host.proofs.grid_cross.Reads as grid_cross
+use Rattle.host.proofs.grid_file.Reads as grid_file
+use Rattle.host.proofs.grid_list.Reads as grid_list
+
+-- The calls in the order of `OneAnswer`: for any plain numbers, any result, and bytes left with any contents.
+pub record Contracts : Type 0 where
+  pub checkTriangle : (κs : Lfts 0) (word : ℕ) (r : ℕ)
+      → Says (grid_check_triangle.Asked κs (word, tt)) (grid_check_triangle.Learnt κs (word, tt) r (word, tt))
+      (r ≡ checkCode (codeOf word))
+  pub checkNames : (κs : Lfts 0) (word : ℕ) (r : ℕ)
+      → Says (grid_check_name.Asked κs (word, tt)) (grid_check_name.Learnt κs (word, tt) r (word, tt))
+      (r ≡ checkName (nameOf word))
+  pub cross : (κs : Lfts 1) (code edge : ℕ) (out new : Slice) (r : ℕ)
+      → Says (grid_cross.Asked κs (code, (edge, (out, tt))))
+      (grid_cross.Learnt κs (code, (edge, (out, tt))) r (code, (edge, (new, tt))))
+      (CrossBytes (codeOf code) edge (now out) r (now new))
+  pub file : (κs : Lfts 1) (degree : ℕ) (x y z : ℤ) (out new : Slice) (r : ℕ)
+      → Says (grid_file.Asked κs (degree, (x, (y, (z, (out, tt))))))
+      (grid_file.Learnt κs (degree, (x, (y, (z, (out, tt))))) r (degree, (x, (y, (z, (new, tt))))))
+      (FileBytes degree (towards x y z) (now out) r (now new))
+  pub list : (κs : Lfts 1) (degree : ℕ) (x y z : ℤ) (out new : Slice) (r : ℕ)
+      → Says (grid_list.Asked κs (degree, (x, (y, (z, (out, tt))))))
+      (grid_list.Learnt κs (degree, (x, (y, (z, (out, tt))))) r (degree, (x, (y, (z, (new, tt))))))
+      (ListBytes degree (towards x y z) (now out) r (now new))

@@ -1,0 +1,2 @@
+-- What a reader must believe: that a call's contract is just its promise.
+pub mod Host

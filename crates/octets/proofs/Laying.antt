@@ -1,0 +1,87 @@
+-- Laws of numbers as bytes, for any number of bytes: how many there are, each below 256, the number read back, the
+-- bytes of a list of numbers. Assumes nothing.
+use mathlib.Core.Path.{_≡_, _∙_, refl, sym, ap}
+use mathlib.Core.List.{List, [], _∷_, _++_, append-assoc}
+use Prim.Native.Nat.{ℕ, zero, suc, _+_, _*_, _/_, _%_, _^_, _≤_, _<_}
+use native.Mathlib.Omega.{arith}
+use native.Mathlib.Nat.{mod-eq-of-lt, one-le-pow, pow-succ', add-mul, mul-assoc, mul-comm, mul-suc}
+use lib.Arith.{mod-mul}
+use lib.ListN.{length, getD, take, drop, length-append, length-drop}
+use lib.Seq.{take-at, drop-at, drop-drop}
+use Rattle.frame.specs.Answers.{over}
+use Rattle.octets.specs.Bytes.{bytesOf, bytes, readOn, numberOf, numberAt}
+
+-- ---- one number
+
+pub bytes-of-long : (k w : ℕ) → length (bytesOf k w) ≡ k
+bytes-of-long zero w = refl
+bytes-of-long (suc k) w = ap suc (bytes-of-long k w)
+
+pub each-byte : (k w i : ℕ) → getD (bytesOf k w) i 0 < 256
+each-byte zero w i = omega arith
+each-byte (suc k) w zero = omega arith
+each-byte (suc k) w (suc i) = each-byte k w i
+
+-- the last byte as it is written
+pub last-byte : (w : ℕ) → w % 256 ≡ w / 256 ^ 0 % 256
+last-byte w = omega arith
+
+more : (k : ℕ) → 256 ^ suc k ≡ 256 * 256 ^ k
+more k = pow-succ' 256 k
+
+-- the bytes taken up after others, whose number is a
+read-on : (k w a : ℕ) → readOn a (bytesOf k w) ≡ a * 256 ^ k + w % 256 ^ k
+read-on zero w a = omega arith
+read-on (suc k) w a =
+    let b = w / 256 ^ k % 256 in
+    let m : w % (256 * 256 ^ k) ≡ b * 256 ^ k + w % 256 ^ k = mod-mul w (omega arith) (one-le-pow k 256 (omega arith)) in
+    let d : (256 * a + b) * 256 ^ k ≡ a * (256 * 256 ^ k) + b * 256 ^ k =
+    add-mul (256 * a) b (256 ^ k)
+    ∙ ap (λ (x : ℕ). x + b * 256 ^ k) (ap (λ (x : ℕ). x * 256 ^ k) (mul-comm 256 a) ∙ mul-assoc a 256 (256 ^ k)) in
+    read-on k w (256 * a + b) ∙ omega (arith, m, d) ∙ ap (λ (x : ℕ). a * x + w % x) (sym (more k))
+
+-- read back
+pub number-back : (k w : ℕ) → w < 256 ^ k → numberOf (bytesOf k w) ≡ w
+number-back k w l = read-on k w 0 ∙ omega (arith, mod-eq-of-lt l)
+
+-- ---- the numbers of a list
+
+pub bytes-long : (k : ℕ) (ws : List ℕ) → length (bytes k ws) ≡ k * length ws
+unfolding bytes
+bytes-long k [] = omega arith
+bytes-long k (w ∷ ws) =
+    length-append (bytesOf k w) (bytes k ws) ∙ omega (arith, bytes-of-long k w, bytes-long k ws, mul-suc k (length ws))
+
+-- number i of them, whatever follows
+taken : (k : ℕ) (ws rest : List ℕ) (i : ℕ) → i < length ws
+    → take k (drop (k * i) (bytes k ws ++ rest)) ≡ bytesOf k (getD ws i 0)
+unfolding bytes
+taken k [] rest i l = absurd (omega arith)
+taken k (w ∷ ws) rest zero l =
+    let none : k * 0 ≡ 0 = omega arith in
+    ap (λ (x : ℕ). take k (drop x (bytes k (w ∷ ws) ++ rest))) none
+    ∙ ap (take k) (append-assoc (bytesOf k w) (bytes k ws) rest)
+    ∙ take-at (bytesOf k w) (bytes k ws ++ rest) k (bytes-of-long k w)
+taken k (w ∷ ws) rest (suc i) l =
+    let tail = bytes k ws ++ rest in
+    let further : k * suc i ≡ k + k * i = omega (arith, mul-suc k i) in
+    ap (λ (x : List ℕ). take k (drop (k * suc i) x)) (append-assoc (bytesOf k w) (bytes k ws) rest)
+    ∙ ap (λ (x : ℕ). take k (drop x (bytesOf k w ++ tail))) further
+    ∙ ap (take k) (sym (drop-drop (k * i) k (bytesOf k w ++ tail)))
+    ∙ ap (λ (x : List ℕ). take k (drop (k * i) x)) (drop-at (bytesOf k w) tail k (bytes-of-long k w))
+    ∙ taken k ws rest i (omega arith)
+
+pub number-at : (k : ℕ) (ws rest : List ℕ) (i : ℕ) → i < length ws → getD ws i 0 < 256 ^ k
+    → numberAt k (bytes k ws ++ rest) i ≡ getD ws i 0
+number-at k ws rest i l b = ap numberOf (taken k ws rest i l) ∙ number-back k (getD ws i 0) b
+
+-- laid over a slice: what follows is as it was, and so is its length
+pub after-bytes : (k : ℕ) (ws out : List ℕ) → drop (k * length ws) (over (bytes k ws) out) ≡ drop (k * length ws) out
+after-bytes k ws out =
+    let e = bytes-long k ws in
+    drop-at (bytes k ws) (drop (length (bytes k ws)) out) (k * length ws) e ∙ ap (λ (j : ℕ). drop j out) e
+
+pub as-long : (k : ℕ) (ws out : List ℕ) → k * length ws ≤ length out → length (over (bytes k ws) out) ≡ length out
+as-long k ws out l =
+    let e = bytes-long k ws in
+    omega (arith, e, length-append (bytes k ws) (drop (length (bytes k ws)) out), length-drop (length (bytes k ws)) out)

@@ -1,0 +1,2 @@
+-- The laws of numbers as bytes.
+pub mod Laying

@@ -1,0 +1,26 @@
+-- Document 02, 2026-01: numbers as bytes, and bytes as a number. Assumes nothing.
+use Prim.Native.Nat.{ℕ, zero, suc, _+_, _*_, _/_, _%_, _^_}
+use mathlib.Core.List.{List, [], _∷_, _++_}
+use lib.ListN.{take, drop}
+
+-- the k bytes of a number, "most significant first"
+abbrev pub bytesOf : (k w : ℕ) → List ℕ
+bytesOf zero w = []
+bytesOf (suc k) w = w / 256 ^ k % 256 ∷ bytesOf k w
+
+-- the bytes of many numbers, one number after the other, k "for each number"
+unfoldable pub bytes : (k : ℕ) → List ℕ → List ℕ
+bytes k [] = []
+bytes k (w ∷ ws) = bytesOf k w ++ bytes k ws
+
+-- the number that bytes are, most significant first, after those that are w
+abbrev pub readOn : (w : ℕ) → List ℕ → ℕ
+readOn w [] = w
+readOn w (b ∷ bs) = readOn (256 * w + b) bs
+
+abbrev pub numberOf : List ℕ → ℕ
+numberOf bs = readOn 0 bs
+
+-- number i, from 0, of those that stand in bytes, k for each
+abbrev pub numberAt : (k : ℕ) (bs : List ℕ) (i : ℕ) → ℕ
+numberAt k bs i = numberOf (take k (drop (k * i) bs))

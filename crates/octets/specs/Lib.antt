@@ -1,0 +1,2 @@
+-- What a reader must believe: a number as bytes, and bytes as a number.
+pub mod Bytes

@@ -24,7 +24,7 @@ typedef double float_function(uint64_t, uint64_t, uint64_t, uint64_t, uint64_t, 
 typedef void any_function(void);
 
 /* What a call answers: a word; a word in the lent list; a float; a count, and so many codes in the lent list; a
- * refusal, or 0 and twelve weights in the lent list. */
+ * refusal, or 0 and twelve weights, or bytes, in the lent list. */
 enum answer { WORD, LENT_WORD, FLOAT, CODES, WEIGHTS };
 
 struct call {

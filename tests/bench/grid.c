@@ -1,4 +1,5 @@
-/* The calls of document 01, as crates/bench exports them, and their inputs. */
+/* The calls of document 01, as crates/bench exports them and as crates/host does, and their inputs. */
+#include "../../include/dogrzewin.h"
 #include "directions.h"
 #include "driver.h"
 
@@ -110,6 +111,21 @@ static int give_direction_and_list(struct input *in, const char *kind, uint64_t 
     return give_direction(in, kind, degree);
 }
 
+/* The calls for a program in C have the same inputs, and lent bytes. */
+static void give_bytes(struct input *in, int first) {
+    give_list(in, first, lent, sizeof lent);
+}
+
+static int give_code_number_and_bytes(struct input *in, const char *kind, uint64_t degree) {
+    give_bytes(in, 2);
+    return give_code_and_number(in, kind, degree);
+}
+
+static int give_direction_and_bytes(struct input *in, const char *kind, uint64_t degree) {
+    give_bytes(in, 4);
+    return give_direction(in, kind, degree);
+}
+
 /* ---- the calls */
 
 const struct call calls[] = {
@@ -131,5 +147,9 @@ const struct call calls[] = {
     {"ring", bench_ring, CODES, give_name_and_list},
     {"file", bench_file, WORD, give_direction},
     {"list", bench_list, CODES, give_direction_and_list},
+    {"host-check", (any_function *)grid_check_triangle, WORD, give_code},
+    {"host-cross", (any_function *)grid_cross, WEIGHTS, give_code_number_and_bytes},
+    {"host-file", (any_function *)grid_file, WEIGHTS, give_direction_and_bytes},
+    {"host-list", (any_function *)grid_list, WEIGHTS, give_direction_and_bytes},
 };
 const size_t calls_count = sizeof calls / sizeof calls[0];

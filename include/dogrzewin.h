@@ -22,8 +22,8 @@
  *
  * What the caller may count on. Any numbers may be handed in; what does not fit is refused. A call that refuses writes
  * nothing. A call that answers writes just the bytes that are named at it; the rest of out stays, and a longer out is
- * allowed. An answer depends on nothing but the arguments. Every call returns. None allocates memory or keeps any state,
- * so that several threads may call at once, each with bytes of its own. */
+ * allowed. An answer depends on nothing but the arguments. Every call returns. None allocates memory or keeps any
+ * state, so that several threads may call at once, each with bytes of its own. */
 #ifndef DOGRZEWIN_H
 #define DOGRZEWIN_H
 

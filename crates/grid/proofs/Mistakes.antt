@@ -1,13 +1,12 @@
 -- The mistakes of document 01 (specs/Mistakes.antt) are refused: by the examples, beside which there is no other
 -- answer, and by what the promises say. Assumes nothing.
 use mathlib.Core.Path.{_≡_, _∙_, refl, sym, ap, subst}
-use mathlib.Core.Bool.{false}
 use mathlib.Core.List.{List, [], _∷_}
 use mathlib.Core.Logic.{_⊎_, inl, inr, ⊎-elim}
 use Prim.Native.Nat.{ℕ, zero, suc, _+_, _*_, _≤_, _<_}
 use native.Mathlib.Omega.{arith}
 use lib.Pow.{pow-pos}
-use lib.Dec.{eqb, lit≤}
+use lib.Dec.{lit≤}
 use lib.IntN.{pos, natAbs}
 use lib.ListN.{getD}
 use borrow.Author.Tests.{le-ltb}

@@ -71,7 +71,8 @@ module _ (t : TriangleCode) (k : ℕ) (out : List ℕ) {a : StepAnswer} (p : Cro
         → CrossBytes t k out 0 (putMid 8 (length mid - 8) mid late)
     unfolding bytes
     cross-sent l mid late e f =
-        sent (CodeAndEdge t k) out (cross-nine t k out) (a .code .0 ∷ a .edge ∷ []) cross-none l (cross-numbers cross-none)
+        sent (CodeAndEdge t k) out (cross-nine t k out) (a .code .0 ∷ a .edge ∷ []) cross-none l
+        (cross-numbers cross-none)
         (two-parts out mid late (bytesOf 8 (a .code .0)) (bytesOf 8 (a .edge)) 8 refl e f)
 
 -- ---- filing
@@ -95,7 +96,8 @@ module _ (n : ℕ) (d : Direction) (out : List ℕ) {a : CodeAnswer} (p : FileAn
 
     pub file-sent : 8 ≤ length out → {new : List ℕ} → new ≡ over (bytesOf 8 (a .code .0)) out → FileBytes n d out 0 new
     unfolding bytes
-    file-sent l e = sent (FiledCode n d) out (file-nine n d out) (a .code .0 ∷ []) file-none l (file-numbers file-none) e
+    file-sent l e =
+        sent (FiledCode n d) out (file-nine n d out) (a .code .0 ∷ []) file-none l (file-numbers file-none) e
 
 -- ---- listing, into at least six places, which come as `places` and are left as `left`
 

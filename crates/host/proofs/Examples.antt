@@ -1,7 +1,7 @@
 -- The examples of specs/Examples.antt: document 01's own, as bytes. Assumes nothing.
-use mathlib.Core.Path.{_≡_, _∙_, refl, sym, ap}
-use mathlib.Core.List.{List, [], _∷_, _++_}
-use Prim.Native.Nat.{ℕ, suc, _≤_}
+use mathlib.Core.Path.{_≡_, _∙_, refl, sym}
+use mathlib.Core.List.{List, [], _∷_}
+use Prim.Native.Nat.{ℕ, _≤_}
 use native.Mathlib.Omega.{arith}
 use lib.ListN.{length, getD, take, replicate}
 use Rattle.frame.specs.Refusals.{firstOf}
@@ -13,9 +13,7 @@ use Rattle.words.specs.Words.{digits, path, wordOf}
 use Rattle.words.specs.Refusals.{checkCode}
 use Rattle.words.specs.declared.CodeAnswer.{CodeAnswer}
 use Rattle.words.specs.declared.TriangleCode.{TriangleCode}
-use Rattle.net.specs.Refusals.{checkName}
 use Rattle.filing.specs.declared.Direction.{Direction}
-use Rattle.corners.specs.Refusals.{refuseNumbered}
 use Rattle.corners.specs.Answers.{CrossAnswer}
 use Rattle.corners.specs.declared.CountAnswer.{CountAnswer}
 use Rattle.corners.specs.declared.StepAnswer.{StepAnswer}

@@ -2,7 +2,7 @@
 use mathlib.Core.Path.{_≡_, _∙_, refl, sym, ap, subst}
 use mathlib.Core.Logic.{⊎-elim}
 use mathlib.Core.List.{List, [], _∷_}
-use Prim.Native.Nat.{ℕ, zero, suc, _*_, _^_, _≤_, _<_}
+use Prim.Native.Nat.{ℕ, zero, suc, _^_, _≤_, _<_}
 use native.Mathlib.Omega.{arith}
 use lib.ListN.{length, getD, take, replicate}
 use Rattle.frame.proofs.Answering.{keeps-is}
@@ -30,7 +30,7 @@ use Rattle.host.specs.Answers.{CodeAndEdge, FiledCode, CountAndCodes, Cr
 use Rattle.host.specs.Promises.{OneAnswer, EightBytes, Hosted, AsTheGrid}
 use Rattle.host.proofs.Calls.{cross-nine, file-nine, list-nine, cross-number, file-number, list-number}
 use Rattle.host.proofs.Calls.{cross-numbers, file-numbers, list-numbers}
-use Rattle.host.proofs.Exporting.{Fitting, exported-one, exported-keeps, hosted}
+use Rattle.host.proofs.Exporting.{Fitting, exported-keeps, hosted}
 
 pub eight-bytes : EightBytes
 eight-bytes = record { eight = bytes-of-long 8; areBytes = each-byte 8; back = number-back 8 }

@@ -34,7 +34,8 @@ read-on : (k w a : ℕ) → readOn a (bytesOf k w) ≡ a * 256 ^ k + w % 256 ^ k
 read-on zero w a = omega arith
 read-on (suc k) w a =
     let b = w / 256 ^ k % 256 in
-    let m : w % (256 * 256 ^ k) ≡ b * 256 ^ k + w % 256 ^ k = mod-mul w (omega arith) (one-le-pow k 256 (omega arith)) in
+    let m : w % (256 * 256 ^ k) ≡ b * 256 ^ k + w % 256 ^ k =
+    mod-mul w (omega arith) (one-le-pow k 256 (omega arith)) in
     let d : (256 * a + b) * 256 ^ k ≡ a * (256 * 256 ^ k) + b * 256 ^ k =
     add-mul (256 * a) b (256 ^ k)
     ∙ ap (λ (x : ℕ). x + b * 256 ^ k) (ap (λ (x : ℕ). x * 256 ^ k) (mul-comm 256 a) ∙ mul-assoc a 256 (256 ^ k)) in

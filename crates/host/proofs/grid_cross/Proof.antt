@@ -37,8 +37,8 @@ returns-3 c =
     let q = c .before .before in
     let p = q .before .before .before .before in
     let e = p .before .before in
-    cross-sent _ _ _ (e .before .before .before .cross .ensures) (e .before .if1 .left) (omega arith) (p .put8 .last .1 .0)
-    (q .put82 .last .1 .0) (p .put8 .ensures) (q .put82 .ensures)
+    cross-sent _ _ _ (e .before .before .before .cross .ensures) (e .before .if1 .left) (omega arith)
+    (p .put8 .last .1 .0) (q .put82 .last .1 .0) (p .put8 .ensures) (q .put82 .ensures)
 
 pub grid-cross-spec : {M : Type 1} → statement M
 grid-cross-spec =

@@ -1843,7 +1843,7 @@ def written_into(lent, numbers):
     return answered + lent[len(answered) :]
 
 
-# ==== The plotter host's lines: "The lines of the test bench in C"
+# ==== The plotter host's lines: tests/host/LINES.md, "The lines of the test bench in C"
 
 HOST_ANSWERS = {
     "check-triangle WORD": host_check_triangle,

@@ -1,4 +1,5 @@
-/* The test bench of the library for programs in C: a call a line in, its answer a line out.
+/* The test bench of the library for programs in C: a call a line in, its answer a line out. LINES.md, beside this
+ * file, has the lines, for whoever writes a second program; in short:
  *
  *     check-triangle WORD      WORD and CODE: 0x and 1 to 16 hexadecimal digits
  *     check-name WORD          EDGE and DEGREE: decimal, 64 bits

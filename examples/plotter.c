@@ -8,6 +8,7 @@
 
 #include <errno.h>
 #include <inttypes.h>
+#include <limits.h>
 #include <stdio.h>
 #include <stdlib.h>
 
@@ -82,7 +83,7 @@ int main(int argc, char **argv) {
     long long degree = 2, at[3] = {0, 0, 1};
     int is_read = argc == 1;
     if (argc == 5) {
-        is_read = read_number(argv[1], 0, UINT32_MAX, &degree);
+        is_read = read_number(argv[1], 0, LLONG_MAX, &degree);
         for (int k = 0; k < 3; k++) {
             is_read &= read_number(argv[2 + k], INT32_MIN, INT32_MAX, &at[k]);
         }

@@ -159,4 +159,4 @@ for line in wrong:
     print(f"tests/install.py: {line}")
 if wrong:
     sys.exit(1)
-print("install: it installs all three files or none")
+print("install: what it leaves, where it succeeds and where it fails, is as it says")

@@ -1,5 +1,6 @@
-# What ./bench, ./install and tests/host/run share, to be read by `.`: messages, Debian's packages, the compiler, the
-# emulator, the static library. The script that reads it has its own name in `me` and the checkout in `home`.
+# What ./bench, ./check, ./install and tests/host/run share, to be read by `.`: messages, Debian's packages, the
+# compiler, the emulator, the static library. The script that reads it has its own name in `me` and the checkout in
+# `home`.
 machine=$(uname -m)
 
 say() { echo "$me: $*" >&2; }
@@ -28,6 +29,15 @@ need_compiler() {
     else
         need $compiler gcc-x86-64-linux-gnu libc6-dev-amd64-cross
     fi
+}
+
+# What a program over the library takes to be compiled and run: tests/host/run needs it, and ./check asks for it before
+# the proofs, so that it is not missing after them.
+need_for_programs() {
+    need_compiler
+    need g++ g++
+    need pkg-config pkg-config
+    [ "$machine" = x86_64 ] || [ -n "$(emulator)" ] || need qemu-x86_64 qemu-user
 }
 
 # The toolkit's emulator, which it has where the processor is another one; else Debian's.

@@ -1,14 +1,5 @@
 /* The test bench of the library for programs in C: a call a line in, its answer a line out. LINES.md, beside this
- * file, has the lines, for whoever writes a second program; in short:
- *
- *     check-triangle WORD      WORD and CODE: 0x and 1 to 16 hexadecimal digits
- *     check-name WORD          EDGE and DEGREE: decimal, 64 bits
- *     cross CODE EDGE OUT      X, Y and Z: decimal, 32 bits with a sign
- *     file DEGREE X Y Z OUT    OUT: 'LENGTH FIRST', a slice of 0 to 64 bytes: the first is FIRST, and each later one is
- *     list DEGREE X Y Z OUT    one more than the byte before it, 0 after 255; or 'null', which is NULL with length 0
- *
- * One space stands between two fields. An answer is the refusal number and, where there is a slice of one byte or more,
- * a space and all its bytes after the call, in hexadecimal.
+ * file, says how they are written; one space stands between two fields.
  *
  * A call with a slice is made twice. Once the slice ends where memory begins that may not be touched, once it begins
  * where such memory ends; on its other side the bytes must stay as they are. Both calls must answer the same.
@@ -381,6 +372,14 @@ static void read_option(const char *option) {
     }
 }
 
+/* What the header itself has of code. */
+static void check_number(void) {
+    static const uint8_t bytes[8] = {0xFE, 0xDC, 0xBA, 0x98, 0x76, 0x54, 0x32, 0x10};
+    if (grid_number(bytes) != UINT64_C(0xFEDCBA9876543210)) {
+        fail(WRONG, "grid_number reads another number");
+    }
+}
+
 int main(int argc, char **argv) {
     if (argc > 2) {
         fail(UNREAD, "more than one option");
@@ -388,6 +387,7 @@ int main(int argc, char **argv) {
     if (argc == 2) {
         read_option(argv[1]);
     }
+    check_number();
     map_region();
     catch_traps();
     answer_all();

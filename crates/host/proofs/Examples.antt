@@ -1,7 +1,7 @@
 -- The examples of specs/Examples.antt: document 01's own, as bytes. Assumes nothing.
 use mathlib.Core.Path.{_≡_, _∙_, refl, sym}
 use mathlib.Core.List.{List, [], _∷_}
-use Prim.Native.Nat.{ℕ, _≤_}
+use Prim.Native.Nat.{ℕ, suc, _≤_}
 use native.Mathlib.Omega.{arith}
 use lib.ListN.{length, getD, take, replicate}
 use Rattle.frame.specs.Refusals.{firstOf}
@@ -9,10 +9,18 @@ use Rattle.frame.specs.Answers.{over}
 use Rattle.frame.specs.Promises.{_leaves_}
 use Rattle.frame.proofs.Answering.{gives-one, no-other, refusing}
 use Rattle.octets.specs.Bytes.{bytes}
+use Rattle.golden.specs.Numbers.{_+φ_, negφ, _*φ_}
 use Rattle.words.specs.Words.{digits, path, wordOf}
 use Rattle.words.specs.Refusals.{checkCode}
 use Rattle.words.specs.declared.CodeAnswer.{CodeAnswer}
 use Rattle.words.specs.declared.TriangleCode.{TriangleCode}
+use Rattle.net.specs.Sides.{cornerVertex}
+use Rattle.net.specs.Division.{unitAt, triangleAt}
+use Rattle.filing.specs.Coordinates.{exact}
+use Rattle.filing.specs.Holding.{determinants, replaced, determinant}
+use Rattle.filing.specs.Means.Descent.{descent, leastChild, holds, nonNeg, first, holders}
+use Rattle.filing.specs.Means.Sides.{leastFrom, sideDets}
+use Rattle.filing.specs.Means.Lists.{allWords, sideWords, joined}
 use Rattle.filing.specs.declared.Direction.{Direction}
 use Rattle.corners.specs.Answers.{CrossAnswer}
 use Rattle.corners.specs.declared.CountAnswer.{CountAnswer}
@@ -22,6 +30,7 @@ use Rattle.directions.specs.Answers.{FileAnswer, ListAnswer}
 use Rattle.grid.specs.Writing.{decimals, written, wordsFor, up}
 use Rattle.grid.proofs.Bounds as grid-bounds
 use Rattle.grid.proofs.Examples as grid
+use Rattle.grid.proofs.Showing.{lists}
 use Rattle.host.specs.Refusals.{refuseCross, refuseFile, refuseList}
 use Rattle.host.specs.Answers.{CodeAndEdge, FiledCode, CountAndCodes, CrossBytes, FileBytes, ListBytes}
 use Rattle.host.specs.Examples.{Examples, Bounds, Mistakes}
@@ -69,11 +78,22 @@ two out z =
     list-shows 0 up out (replicate 6 0) _ _ (omega arith) (grid.examples .whole (replicate 6 0) (omega arith) .meets)
     refl z
 
-short : (out : List ℕ) → 9 ≡ refuseCross (written 1001) 2 out → CrossBytes (written 1001) 2 out leaves (9, out)
-short out e =
-    let is : CrossBytes (written 1001) 2 out 9 out = refusing e (λ z. omega arith) in
-    gives-one (exported-one (CodeAndEdge (written 1001) 2) out (cross-nine (written 1001) 2 out)
-    (cross-same (written 1001) 2)) is
+six : (out : List ℕ) → refuseList 2 up out ≡ 0
+    → ListBytes 2 up out
+    leaves (0, over (bytes 8 (6 ∷ wordsFor (10003 ∷ 10012 ∷ 10021 ∷ 50002 ∷ 50013 ∷ 50031 ∷ []))) out)
+unfolding directions.refuseFile firstOf decimals written digits path wordOf leastFrom first holds nonNeg sideDets
+    determinants replaced determinant exact unitAt triangleAt cornerVertex _+φ_ negφ _*φ_ descent leastChild allWords
+    sideWords joined holders
+six out z =
+    list-shows 2 up out (replicate 6 0) _ _ (omega arith) (lists 2 up _ refl refl (replicate 6 0) (omega arith) .meets)
+    refl z
+
+-- a crossing that is refused
+refused : (t : TriangleCode) (k f : ℕ) (out : List ℕ) → suc f ≡ refuseCross t k out
+    → CrossBytes t k out leaves (suc f, out)
+refused t k f out e =
+    let is : CrossBytes t k out (suc f) out = refusing e (λ z. omega arith) in
+    gives-one (exported-one (CodeAndEdge t k) out (cross-nine t k out) (cross-same t k)) is
 
 pub examples : Examples
 unfolding bytes refuseCross refuseFile refuseList checkCode firstOf decimals written digits path wordOf
@@ -84,7 +104,9 @@ examples = record {
   e8 = e8 (replicate 17 9) refl;
   e3 = e3 (replicate 9 9) refl;
   two = two (replicate 57 9) refl;
-  short = short (replicate 15 9) refl;
+  six = six (replicate 57 9) refl;
+  short = refused (written 1001) 2 8 (replicate 15 9) refl;
+  no-edge = refused (written 1001) 4 4 (replicate 16 9) refl;
 }
 
 pub bounds : Bounds

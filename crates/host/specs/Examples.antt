@@ -4,12 +4,12 @@ use mathlib.Core.List.{[], _∷_, _++_}
 use lib.IntN.{pos}
 use lib.ListN.{replicate}
 use Rattle.frame.specs.Promises.{_leaves_}
-use Rattle.octets.specs.Bytes.{bytesOf, numberOf}
+use Rattle.octets.specs.Bytes.{bytesOf, bytes, numberOf}
 use Rattle.words.specs.Refusals.{checkCode}
 use Rattle.words.specs.Family.{codeOf}
 use Rattle.net.specs.Corners.{nameOf}
 use Rattle.net.specs.Refusals.{checkName}
-use Rattle.grid.specs.Writing.{written, cornerIn, minus, towards, up}
+use Rattle.grid.specs.Writing.{written, wordsFor, cornerIn, minus, towards, up}
 use Rattle.host.specs.Refusals.{refuseCross, refuseFile, refuseList}
 use Rattle.host.specs.Answers.{CrossBytes, FileBytes, ListBytes}
 
@@ -28,8 +28,12 @@ pub record Examples : Type 0 where
   -- and so does a later one
   pub two : ListBytes 0 up (replicate 57 9)
       leaves (0, replicate 7 0 ++ (2 ∷ 0x20 ∷ replicate 7 0) ++ (0xA0 ∷ replicate 7 0) ++ replicate 33 9)
+  -- at degree 2 in six triangles, and just the last byte stays
+  pub six : ListBytes 2 up (replicate 57 9)
+      leaves (0, bytes 8 (6 ∷ wordsFor (10003 ∷ 10012 ∷ 10021 ∷ 50002 ∷ 50013 ∷ 50031 ∷ [])) ++ (9 ∷ []))
   -- refused: "lent memory keeps its contents"
   pub short : CrossBytes (written 1001) 2 (replicate 15 9) leaves (9, replicate 15 9)
+  pub no-edge : CrossBytes (written 1001) 4 (replicate 16 9) leaves (5, replicate 16 9)
 
 pub record Bounds : Type 0 where
   -- "a shorter slice is refusal 9"

@@ -49,7 +49,8 @@ pub record Hosted (f : ℕ) (numbers : List ℕ) (least : ℕ) (out : List ℕ) 
   pub kept : (r ≡ 0 → ⊥) → new ≡ out
   pub long : length new ≡ length out
 
--- "calls exported to a C host": each is document 01's call.
+-- "calls exported to a C host": each that writes is document 01's call. (What is promised of check is document 01's
+-- own.)
 pub record AsTheGrid : Type 0 where
   -- "cross writes code and edge number (16 bytes)"
   pub cross : (t : TriangleCode) (k : ℕ) (a : StepAnswer) (out : List ℕ) (r : ℕ) (new : List ℕ)

@@ -13,7 +13,7 @@ unfoldable pub bytes : (k : ℕ) → List ℕ → List ℕ
 bytes k [] = []
 bytes k (w ∷ ws) = bytesOf k w ++ bytes k ws
 
--- the number that bytes are, most significant first, after those that are w
+-- the number that bytes are, most significant first; w is the number of the bytes before them
 abbrev pub readOn : (w : ℕ) → List ℕ → ℕ
 readOn w [] = w
 readOn w (b ∷ bs) = readOn (256 * w + b) bs

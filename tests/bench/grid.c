@@ -1,4 +1,4 @@
-/* The calls of document 01, as crates/bench exports them and as crates/host does, and their inputs. */
+/* The calls of document 01, as crates/bench exports them, and as crates/host does: all of its own, and checking. */
 #include "../../include/dogrzewin.h"
 #include "directions.h"
 #include "driver.h"
@@ -8,7 +8,7 @@
 /* The two that inputs are prepared with, and those that are only run. */
 uint64_t bench_name(uint64_t code, uint64_t corner);
 uint64_t bench_weights(uint64_t code, uint64_t corner, uint64_t *out, size_t places);
-any_function bench_check, bench_check_name, bench_parent, bench_child, bench_cross, bench_back, bench_name_weights,
+any_function bench_parent, bench_child, bench_cross, bench_back, bench_name_weights,
     bench_ring, bench_exact, bench_name_exact, bench_t, bench_name_t, bench_drawn, bench_name_drawn, bench_file,
     bench_list;
 
@@ -129,8 +129,8 @@ static int give_direction_and_bytes(struct input *in, const char *kind, uint64_t
 /* ---- the calls */
 
 const struct call calls[] = {
-    {"check", bench_check, WORD, give_code},
-    {"check-name", bench_check_name, WORD, give_name},
+    {"check", (any_function *)grid_check_triangle, WORD, give_code},
+    {"check-name", (any_function *)grid_check_name, WORD, give_name},
     {"parent", bench_parent, WORD, give_code},
     {"child", bench_child, WORD, give_code_and_digit},
     {"cross", bench_cross, WORD, give_code_and_number},
@@ -147,7 +147,6 @@ const struct call calls[] = {
     {"ring", bench_ring, CODES, give_name_and_list},
     {"file", bench_file, WORD, give_direction},
     {"list", bench_list, CODES, give_direction_and_list},
-    {"host-check", (any_function *)grid_check_triangle, WORD, give_code},
     {"host-cross", (any_function *)grid_cross, WEIGHTS, give_code_number_and_bytes},
     {"host-file", (any_function *)grid_file, WEIGHTS, give_direction_and_bytes},
     {"host-list", (any_function *)grid_list, WEIGHTS, give_direction_and_bytes},

@@ -1,7 +1,8 @@
-// The calls of document 01 exported to C, for `./bench` to count. Each is thin: it hands the numbers on, and answers
-// one number that depends on all numbers of the answer, so that the compiler can leave nothing out. Where a code or a
-// name is answered, this is the code (with the edge's number in its lowest bits) or the name, or the refusal's number.
-// One call is counted without all of its answer: crossing drops how the corners turned, as the call for a C host will.
+// The calls of document 01 exported to C, for `./bench` to count; checking is the crate host's. Each is thin: it hands
+// the numbers on, and answers one number that depends on all numbers of the answer, so that the compiler can leave
+// nothing out. Where a code or a name is answered, this is the code (with the edge's number in its lowest bits) or the
+// name, or the refusal's number.
+// One call is counted without all of its answer: crossing drops how the corners turned, as the call for a C host does.
 // A contract says that the number is made of the call's own answer; those that mix signed numbers or floats have none.
 use grid::Coordinates;
 use grid::CornerName;
@@ -11,11 +12,9 @@ use grid::Ticks;
 use grid::TriangleCode;
 ghost use mathlib.Core.Path.{_≡_};
 ghost use lib.Bits.{bitXor};
-ghost use Rattle.words.specs.Refusals.{checkCode};
 ghost use Rattle.words.specs.Family.{codeOf, ParentAnswer, ChildAnswer};
 ghost use Rattle.words.specs.declared.CodeAnswer.{CodeAnswer};
 ghost use Rattle.net.specs.Corners.{nameOf};
-ghost use Rattle.net.specs.Refusals.{checkName};
 ghost use Rattle.corners.specs.Answers.{CrossAnswer, WeightsAnswer, NameWeightsAnswer, NamingAnswer};
 ghost use Rattle.corners.specs.Answers.{BackAnswer, RingAnswer};
 ghost use Rattle.corners.specs.declared.StepAnswer.{StepAnswer};
@@ -24,20 +23,6 @@ ghost use Rattle.corners.specs.declared.CountAnswer.{CountAnswer};
 ghost use Rattle.directions.specs.Answers.{FileAnswer, ListAnswer};
 
 // ---- words
-
-#[no_mangle]
-pub extern "C" fn bench_check(code: u64) -> u64
-    ensures { λ r. ⌜ r ≡ checkCode (codeOf code) ⌝ }
-{
-    TriangleCode(code).check()
-}
-
-#[no_mangle]
-pub extern "C" fn bench_check_name(name: u64) -> u64
-    ensures { λ r. ⌜ r ≡ checkName (nameOf name) ⌝ }
-{
-    grid::check_name(CornerName(name))
-}
 
 #[no_mangle]
 pub extern "C" fn bench_parent(code: u64) -> u64

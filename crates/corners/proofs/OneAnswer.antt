@@ -94,7 +94,8 @@ back-some n weights =
 
 -- ---- with a lent list: the answer and the list as it is left, together
 
-put-one : (p : Weights) (out : List ℕ) {x y : ℕ × List ℕ} → together (Put p out) x → together (Put p out) y → x ≡ y
+put-one : (p : Weights) (out : List ℕ) {x y : ℕ × List ℕ} → together (Put p out) x → together (Put p out) y
+    → x ≡ y
 put-one p out a b = λ i. ((a .0 ∙ sym (b .0)) i, (a .1 ∙ sym (b .1)) i)
 
 pub weights-one : (t : TriangleCode) (i : ℕ) (out : List ℕ) (x y : ℕ × List ℕ)
@@ -110,7 +111,8 @@ pub name-weights-one : (q : CornerName) (out : List ℕ) (x y : ℕ × List ℕ)
     → together (NameWeightsAnswer q out) x → together (NameWeightsAnswer q out) y → x ≡ y
 name-weights-one q out x y = answer-one (λ z. put-one (named q) out)
 
-pub name-weights-some : (q : CornerName) (out : List ℕ) → (x : ℕ × List ℕ) × together (NameWeightsAnswer q out) x
+pub name-weights-some : (q : CornerName) (out : List ℕ)
+    → (x : ℕ × List ℕ) × together (NameWeightsAnswer q out) x
 name-weights-some q out =
     answer-some _ (together (Put (named q) out)) (λ f. (f, out)) (λ z. ((0, over (named q) out), (refl, refl)))
 

@@ -27,7 +27,8 @@ use Rattle.filing.proofs.OneTwoSix.{one-two-six, one-or-two}
 use Rattle.directions.proofs.Refused.{allowed, list-then}
 use Rattle.directions.proofs.FilingCalls.{words-count, not-zero}
 
-pub file-one : (n : ℕ) (d : Direction) (r r′ : CodeAnswer) → FileAnswer n d r → FileAnswer n d r′ → r ≡ r′
+pub file-one : (n : ℕ) (d : Direction) (r r′ : CodeAnswer) → FileAnswer n d r → FileAnswer n d r′
+    → r ≡ r′
 file-one n d r r′ = answer-one (λ z x y.
     λ i. record { refusal = (x .number ∙ sym (y .number)) i; code = filed-once (x .is) (y .is) i })
 
@@ -43,7 +44,8 @@ pub list-one : (n : ℕ) (d : Direction) (out : List ℕ) (x y : CountAnswer × 
     → together (ListAnswer n d out) x → together (ListAnswer n d out) y → x ≡ y
 list-one n d out x y = answer-one (λ z. listed-one (λ xs ys. one-list))
 
-pub list-some : (n : ℕ) (d : Direction) (out : List ℕ) → (x : CountAnswer × List ℕ) × together (ListAnswer n d out) x
+pub list-some : (n : ℕ) (d : Direction) (out : List ℕ)
+    → (x : CountAnswer × List ℕ) × together (ListAnswer n d out) x
 list-some n d out =
     answer-some _ (together (Listed (AreHolders n d) (countAnswer 0) out)) (λ f. (noCount f, out))
     (λ z.

@@ -42,7 +42,8 @@ module _ (d : Direction) where
   pub far-z : 1000000000 < natAbs (d .z) → far d ≡ true
   far-z l = either-right (outside (d .x)) _ (either-right (outside (d .y)) _ (lt-ltb _ _ l))
 
-  pub not-far : natAbs (d .x) ≤ 1000000000 → natAbs (d .y) ≤ 1000000000 → natAbs (d .z) ≤ 1000000000 → far d ≡ false
+  pub not-far : natAbs (d .x) ≤ 1000000000 → natAbs (d .y) ≤ 1000000000 → natAbs (d .z) ≤ 1000000000
+      → far d ≡ false
   not-far k l m = rw (le-ltb _ _ k, le-ltb _ _ l, le-ltb _ _ m) refl
 
   pub is-none : natAbs (d .x) + natAbs (d .y) + natAbs (d .z) ≡ 0 → none d ≡ true

@@ -38,7 +38,8 @@ module _ {A : Type 0} {f : ℕ} {Good : A → Type 0} {zeros : ℕ → A} where
 module _ {A : Type 0} (f : ℕ) (Good : A → Type 0) (zeros : ℕ → A) where
   pub answer-some : (f ≡ 0 → (r : A) × Good r) → (r : A) × Answer f Good zeros r
   answer-some give =
-      ⊎-elim (λ z. let x = give z in (x .0, answering z (x .1))) (λ n. (zeros f, refusing refl n)) (answers-or-not f)
+      ⊎-elim (λ z. let x = give z in (x .0, answering z (x .1))) (λ n. (zeros f, refusing refl n))
+      (answers-or-not f)
 
 -- where what is answered is one value v
 module _ {A : Type 0} (f : ℕ) (v : A) (zeros : ℕ → A) where

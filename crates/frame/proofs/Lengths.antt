@@ -22,8 +22,8 @@ pub record ThenNine (f g n long : ℕ) : Type 0 where
   pub passes : (g ≡ 0) ↔ ((f ≡ 0) × (n ≤ long))
 
 -- rs are the rows before the length's; both tests are `tt` at closed numbers
-pub then-nine : {A : Type 0} (os os′ : List ℕ) (rs : List Row) (n : ℕ) (list : List A) → T (inOrder os (numbers rs))
-    → T (inOrder os′ (numbers (rs ++ listRows n list)))
+pub then-nine : {A : Type 0} (os os′ : List ℕ) (rs : List Row) (n : ℕ) (list : List A)
+    → T (inOrder os (numbers rs)) → T (inOrder os′ (numbers (rs ++ listRows n list)))
     → ThenNine (firstOf os rs) (firstOf os′ (rs ++ listRows n list)) n (length list)
 then-nine os os′ rs n list t u = record {
   first = refuse-before os os′ rs (listRows n list) t u;
@@ -36,7 +36,8 @@ then-nine os os′ rs n list t u = record {
 
 -- where the list is long enough
 pub never-nine : {f g n long : ℕ} → ThenNine f g n long → n ≤ long → g ≡ f
-never-nine {f} t l = ⊎-elim (λ z. t .passes .1 (z, l) ∙ sym z) (λ some. sym (t .first refl some)) (answers-or-not f)
+never-nine {f} t l =
+    ⊎-elim (λ z. t .passes .1 (z, l) ∙ sym z) (λ some. sym (t .first refl some)) (answers-or-not f)
 
 -- c over the front, and d over the front of what follows it, handed on as a part: both, one after the other
 pub two-parts : {A : Type 0} (out mid late c d : List A) (h : ℕ) → length c ≡ h → mid ≡ over c out

@@ -58,14 +58,17 @@ demand-1 = record {
       (corners.weights-one t i out);
   nameWeights = λ q out. keeps (λ x. x .0) refl (λ x g. g .0) (corners.name-weights-some q out)
       (corners.name-weights-one q out);
-  coordinates = λ t i. keeps (λ r. r .refusal) refl (λ r g. g .number) (points.place-some t i) (points.place-one t i);
+  coordinates = λ t i.
+      keeps (λ r. r .refusal) refl (λ r g. g .number) (points.place-some t i) (points.place-one t i);
   nameCoordinates = λ q. keeps (λ r. r .refusal) refl (λ r g. g .number) (points.name-place-some q)
       (points.name-place-one q);
   ticks = λ t i. keeps (λ r. r .refusal) refl (λ r g. g .number) (points.tick-answer-some t i)
       (points.tick-answer-one t i);
-  nameTicks = λ q. keeps (λ r. r .refusal) refl (λ r g. g .number) (points.name-tick-some q) (points.name-tick-one q);
+  nameTicks = λ q.
+      keeps (λ r. r .refusal) refl (λ r g. g .number) (points.name-tick-some q) (points.name-tick-one q);
   drawn = λ t i. keeps (λ r. r .refusal) refl (λ r g. g .number) (points.draw-some t i) (points.draw-one t i);
-  nameDrawn = λ q. keeps (λ r. r .refusal) refl (λ r g. g .number) (points.name-draw-some q) (points.name-draw-one q);
+  nameDrawn = λ q.
+      keeps (λ r. r .refusal) refl (λ r g. g .number) (points.name-draw-some q) (points.name-draw-one q);
   naming = λ t i. keeps (λ r. r .refusal) refl (λ r g. g .number) (corners.naming-some t i) (corners.naming-one t i);
   back = λ n weights. keeps (λ r. r .refusal) refl (λ r g. g .number) (corners.back-some n weights)
       (corners.back-one n weights);

@@ -189,7 +189,8 @@ mistakes = record {
   not-least = no-other (λ r. r .code .0) (files 0 up (written 100) refl refl) refl;
   holder-count = λ k out new l n a. n
       (ap (λ (r : CountAnswer). r .count) (λ i. examples .whole out l .only (_, new) a i .0));
-  ring-count = λ k out new l n a. n (ap (λ (r : CountAnswer). r .count) (λ i. rings .five out l .only (_, new) a i .0));
+  ring-count = λ k out new l n a.
+      n (ap (λ (r : CountAnswer). r .count) (λ i. rings .five out l .only (_, new) a i .0));
   written-on = λ r out new l n a.
       n (λ i. a .refused (λ z.
       let e : 9 ≡ refuseWeights (written 100) 1 out = weights-then (written 100) 1 out .nine refl l in

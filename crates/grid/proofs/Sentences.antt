@@ -189,7 +189,8 @@ module _ {n : ℕ} {t : TriangleCode} (c : IsCode n t) where
       (subst Positive (sym (turned (exact (corner t 1)) (exact (corner t 2)) (exact (corner t 3)))) h)
       (subst Positive (turned (exact (corner t 3)) (exact (corner t 1)) (exact (corner t 2))) h)
 
-  spans : {p : Weights} (i : ℕ) → OneToThree i → corner t i ≡ p → Spans p t (corner t (next i)) (corner t (prev i))
+  spans : {p : Weights} (i : ℕ) → OneToThree i → corner t i ≡ p
+      → Spans p t (corner t (next i)) (corner t (prev i))
   spans i l e = record {
     i = i;
     number = l;
@@ -201,7 +202,8 @@ module _ {n : ℕ} {t : TriangleCode} (c : IsCode n t) where
         e (from-each i l);
   }
 
-onward : {n : ℕ} {p : Weights} {t t′ : TriangleCode} → IsCode n t → IsCode n t′ → Turn p t t′ → Onward p t t′
+onward : {n : ℕ} {p : Weights} {t t′ : TriangleCode} → IsCode n t → IsCode n t′ → Turn p t t′
+    → Onward p t t′
 onward {p = p} {t = t} {t′ = t′} c c′ x = record {
   a = corner t (next (x .i));
   b = corner t (prev (x .i));

@@ -34,33 +34,34 @@ use Rattle.grid.proofs.Showing.{lists}
 use Rattle.host.specs.Refusals.{refuseCross, refuseFile, refuseList}
 use Rattle.host.specs.Answers.{CodeAndEdge, FiledCode, CountAndCodes, CrossBytes, FileBytes, ListBytes}
 use Rattle.host.specs.Examples.{Examples, Bounds, Mistakes}
-use Rattle.host.proofs.Calls.{cross-nine, file-nine, list-nine, cross-numbers, file-numbers, list-numbers}
-use Rattle.host.proofs.Exporting.{exported-one, sent}
+use Rattle.host.proofs.Calls.{cross-nine, file-nine, list-nine, cross-number, file-number, list-number}
+use Rattle.host.proofs.Calls.{cross-returns, file-returns, list-returns}
+use Rattle.host.proofs.Exporting.{exported-one}
 use Rattle.host.proofs.Promises.{cross-same, file-same, list-same}
 
 -- ---- what document 01's call answers, as bytes
 
-cross-shows : (t : TriangleCode) (k : ℕ) (out : List ℕ) (a : StepAnswer) → CrossAnswer t k a → refuseCross t k out ≡ 0
-    → CrossBytes t k out leaves (0, over (bytes 8 (a .code .0 ∷ a .edge ∷ [])) out)
+cross-shows : (t : TriangleCode) (k : ℕ) (out : List ℕ) (a : StepAnswer) → CrossAnswer t k a
+    → refuseCross t k out ≡ 0 → CrossBytes t k out leaves (0, over (bytes 8 (a .code .0 ∷ a .edge ∷ [])) out)
 cross-shows t k out a p e =
     let z = cross-nine t k out .passes .0 e in
     gives-one (exported-one (CodeAndEdge t k) out (cross-nine t k out) (cross-same t k))
-    (sent (CodeAndEdge t k) out (cross-nine t k out) _ (z .0) (z .1) (cross-numbers t k out p (z .0)) refl)
+    (cross-returns t k out p .sent (cross-number t k out p ∙ z .0) (z .1) refl)
 
-file-shows : (n : ℕ) (d : Direction) (out : List ℕ) (a : CodeAnswer) → FileAnswer n d a → refuseFile n d out ≡ 0
-    → FileBytes n d out leaves (0, over (bytes 8 (a .code .0 ∷ [])) out)
+file-shows : (n : ℕ) (d : Direction) (out : List ℕ) (a : CodeAnswer) → FileAnswer n d a
+    → refuseFile n d out ≡ 0 → FileBytes n d out leaves (0, over (bytes 8 (a .code .0 ∷ [])) out)
 file-shows n d out a p e =
     let z = file-nine n d out .passes .0 e in
     gives-one (exported-one (FiledCode n d) out (file-nine n d out) (λ z. file-same n d))
-    (sent (FiledCode n d) out (file-nine n d out) _ (z .0) (z .1) (file-numbers n d out p (z .0)) refl)
+    (file-returns n d out p .sent (file-number n d out p ∙ z .0) (z .1) refl)
 
 list-shows : (n : ℕ) (d : Direction) (out places left : List ℕ) (a : CountAnswer) → 6 ≤ length places
-    → ListAnswer n d places a left → a .refusal ≡ 0 → refuseList n d out ≡ 0
+    → ListAnswer n d places a left → refuseList n d out ≡ 0
     → ListBytes n d out leaves (0, over (bytes 8 (a .count ∷ take (a .count) left)) out)
-list-shows n d out places left a six p f e =
+list-shows n d out places left a six p e =
     let z = list-nine n d out .passes .0 e in
     gives-one (exported-one (CountAndCodes n d) out (list-nine n d out) (λ z. list-same n d))
-    (sent (CountAndCodes n d) out (list-nine n d out) _ (z .0) (z .1) (list-numbers n d out places left six p f) refl)
+    (list-returns n d out places left six p .sent (list-number n d out places left six p ∙ z .0) (z .1) refl)
 
 -- E8, E3, and all holders of (0,0,1) at degree 0
 
@@ -76,7 +77,7 @@ two : (out : List ℕ) → refuseList 0 up out ≡ 0
     → ListBytes 0 up out leaves (0, over (bytes 8 (2 ∷ wordsFor (100 ∷ 500 ∷ []))) out)
 two out z =
     list-shows 0 up out (replicate 6 0) _ _ (omega arith) (grid.examples .whole (replicate 6 0) (omega arith) .meets)
-    refl z
+    z
 
 six : (out : List ℕ) → refuseList 2 up out ≡ 0
     → ListBytes 2 up out
@@ -86,7 +87,7 @@ unfolding directions.refuseFile firstOf decimals written digits path wordOf leas
     sideWords joined holders
 six out z =
     list-shows 2 up out (replicate 6 0) _ _ (omega arith) (lists 2 up _ refl refl (replicate 6 0) (omega arith) .meets)
-    refl z
+    z
 
 -- a crossing that is refused
 refused : (t : TriangleCode) (k f : ℕ) (out : List ℕ) → suc f ≡ refuseCross t k out
@@ -104,7 +105,7 @@ examples = record {
   e8 = e8 (replicate 17 9) refl;
   e3 = e3 (replicate 9 9) refl;
   two = two (replicate 57 9) refl;
-  six = six (replicate 57 9) refl;
+  six = six (replicate 56 9) refl;
   short = refused (written 1001) 2 8 (replicate 15 9) refl;
   no-edge = refused (written 1001) 4 4 (replicate 16 9) refl;
 }

@@ -2,7 +2,7 @@
 -- call refuses f; the exported call refuses f and then a slice of less than `least` bytes, g in all. Assumes nothing.
 use mathlib.Core.Path.{_≡_, _∙_, refl, sym, ap}
 use mathlib.Core.Logic.{⊎-elim}
-use mathlib.Core.List.{List, [], _∷_, _++_}
+use mathlib.Core.List.{List, [], _∷_}
 use Prim.Native.Nat.{ℕ, _-_, _*_, _^_, _≤_, _<_}
 use native.Mathlib.Omega.{arith}
 use lib.ListN.{length, getD, take, drop}
@@ -11,28 +11,32 @@ use Rattle.frame.specs.Answers.{over}
 use Rattle.frame.specs.Promises.{KeepsLent, together}
 use Rattle.frame.proofs.Answering.{answers-or-not, refusing, answering, answer-one, answer-some, keeps, number-is}
 use Rattle.frame.proofs.Lengths.{ThenNine}
-use Rattle.octets.specs.Bytes.{bytesOf, bytes, numberAt}
+use Rattle.octets.specs.Bytes.{bytes, numberAt}
 use Rattle.octets.proofs.Laying.{number-at, after-bytes, as-long}
 use Rattle.host.specs.Answers.{Sent, Exported}
 use Rattle.host.specs.Promises.{Hosted}
+
+-- What the program returns over a call of document 01 that refuses k, and answers the numbers ms where k is 0.
+pub record Returns (k g least : ℕ) (Good : List ℕ → Type 0) (ms out : List ℕ) : Type 0 where
+  pub refused : (k ≡ 0 → ⊥) → Exported g Good out k out
+  pub short : k ≡ 0 → length out < least → Exported g Good out 9 out
+  pub sent : k ≡ 0 → least ≤ length out → {new : List ℕ} → new ≡ over (bytes 8 ms) out
+      → Exported g Good out 0 new
 
 -- numbers that fit in so many bytes, eight for each
 abbrev pub Fitting : (least : ℕ) → List ℕ → Type 0
 Fitting least ms = (8 * length ms ≤ least) × ((i : ℕ) → i < length ms → getD ms i 0 < 2 ^ 64)
 
 module _ {f g least : ℕ} (Good : List ℕ → Type 0) (out : List ℕ) (nine : ThenNine f g least (length out)) where
-  -- ---- what the program returns; k is the refusal of the call of document 01
-
-  pub sent-refused : {k : ℕ} → k ≡ f → (k ≡ 0 → ⊥) → Exported g Good out k out
-  sent-refused e some = refusing (nine .first e some) some
-
-  pub sent-short : f ≡ 0 → length out < least → Exported g Good out 9 out
-  sent-short z l = refusing (nine .nine z l) (λ e. omega arith)
-
-  pub sent : {new : List ℕ} (ms : List ℕ) → f ≡ 0 → least ≤ length out → Good ms → new ≡ over (bytes 8 ms) out
-      → Exported g Good out 0 new
-  sent ms z l good put =
-      answering (nine .passes .1 (z, l)) (record { numbers = ms; good = good; answered = refl; put = put })
+  pub returned : {k : ℕ} (ms : List ℕ) → k ≡ f → (f ≡ 0 → Good ms) → Returns k g least Good ms out
+  returned ms number good = record {
+    refused = λ some. refusing (nine .first number some) some;
+    short = λ z l. refusing (nine .nine (sym number ∙ z) l) (λ e. omega arith);
+    sent = λ z l put.
+        let none = sym number ∙ z in
+        answering (nine .passes .1 (none, l))
+        (record { numbers = ms; good = good none; answered = refl; put = put });
+  }
 
   -- ---- one answer, where the numbers are one list
 
@@ -40,7 +44,8 @@ module _ {f g least : ℕ} (Good : List ℕ → Type 0) (out : List ℕ) (nine :
     none : g ≡ 0 → f ≡ 0
     none z = nine .passes .0 z .0
 
-    pub exported-one : (x y : ℕ × List ℕ) → together (Exported g Good out) x → together (Exported g Good out) y → x ≡ y
+    pub exported-one : (x y : ℕ × List ℕ) → together (Exported g Good out) x → together (Exported g Good out) y
+        → x ≡ y
     exported-one x y =
         answer-one (λ z p q.
         let e = one (none z) (p .numbers) (q .numbers) (p .good) (q .good) in
@@ -49,7 +54,8 @@ module _ {f g least : ℕ} (Good : List ℕ → Type 0) (out : List ℕ) (nine :
           (p .put ∙ ap (λ (ms : List ℕ). over (bytes 8 ms) out) e ∙ sym (q .put)) i,
         ))
 
-    pub exported-keeps : (f ≡ 0 → (ms : List ℕ) × Good ms) → KeepsLent g (Exported g Good out) (λ r. r) (λ k. k) out
+    pub exported-keeps : (f ≡ 0 → (ms : List ℕ) × Good ms)
+        → KeepsLent g (Exported g Good out) (λ r. r) (λ k. k) out
     exported-keeps some =
         keeps (λ x. x .0) refl (λ x s. s .answered)
         (answer-some g (together (Sent Good out)) (λ k. (k, out)) (λ z.
@@ -59,8 +65,8 @@ module _ {f g least : ℕ} (Good : List ℕ → Type 0) (out : List ℕ) (nine :
 
     -- ---- what a host reads, where the call of document 01 answers the numbers ms
 
-    pub hosted : {r : ℕ} {new : List ℕ} (ms : List ℕ) → (f ≡ 0 → Good ms) → (f ≡ 0 → Good ms → Fitting least ms)
-        → Exported g Good out r new → Hosted f ms least out r new
+    pub hosted : {r : ℕ} {new : List ℕ} (ms : List ℕ) → (f ≡ 0 → Good ms)
+        → (f ≡ 0 → Good ms → Fitting least ms) → Exported g Good out r new → Hosted f ms least out r new
     hosted {r} {new} ms good fitting p =
         record {
           refused = λ some. number ∙ sym (nine .first refl some);
@@ -93,15 +99,8 @@ module _ {f g least : ℕ} (Good : List ℕ → Type 0) (out : List ℕ) (nine :
             s .put ∙ ap (λ (ns : List ℕ). over (bytes 8 ns) out)
             (one (none z) (s .numbers) ms (s .good) (good (none z)))
 
--- ---- a list of numbers, the first and the rest as the code hands it on
-
-pub bytes-none : (ws : List ℕ) → length ws ≡ 0 → bytes 8 ws ≡ []
-unfolding bytes
-bytes-none [] e = refl
-bytes-none (w ∷ ws) e = absurd (omega arith)
-
-pub bytes-next : (ws : List ℕ) → (length ws ≡ 0 → ⊥)
-    → bytesOf 8 (getD ws 0 0) ++ bytes 8 (take (length ws - 1) (drop 1 ws)) ≡ bytes 8 ws
-unfolding bytes
-bytes-next [] e = absurd (e refl)
-bytes-next (w ∷ ws) e = ap (λ (l : List ℕ). bytesOf 8 w ++ bytes 8 l) (take-all (length (w ∷ ws) - 1) ws (omega arith))
+-- a list as the code takes it: the first number, and the rest
+pub first-and-rest : (ws : List ℕ) → (length ws ≡ 0 → ⊥)
+    → getD ws 0 0 ∷ take (length ws - 1) (drop 1 ws) ≡ ws
+first-and-rest [] e = absurd (e refl)
+first-and-rest (w ∷ ws) e = ap (λ (l : List ℕ). w ∷ l) (take-all (length (w ∷ ws) - 1) ws (omega arith))

@@ -95,16 +95,15 @@ one-answer = record {
       exported-keeps (CountAndCodes n d) out (list-nine n d out) (λ z. list-same n d)
       (λ z.
       let places : List ℕ = replicate 6 0 in
-      let six : 6 ≤ length places = omega arith in
       let x = list-some n d places in
-      let number = list-number n d out places (x .0 .1) six (x .1) in
-      (_, list-numbers n d out places (x .0 .1) six (x .1) (number ∙ z)));
+      (_, list-numbers n d out places (x .0 .1) (omega arith) (x .1) z));
 }
 
 -- ---- as document 01's calls
 
-crossed : (t : TriangleCode) (k : ℕ) (a : StepAnswer) (out : List ℕ) (r : ℕ) (new : List ℕ) → CrossAnswer t k a
-    → CrossBytes t k out r new → Hosted (a .refusal) (a .code .0 ∷ a .edge ∷ []) 16 out r new
+crossed : (t : TriangleCode) (k : ℕ) (a : StepAnswer) (out : List ℕ) (r : ℕ) (new : List ℕ)
+    → CrossAnswer t k a → CrossBytes t k out r new
+    → Hosted (a .refusal) (a .code .0 ∷ a .edge ∷ []) 16 out r new
 crossed t k a out r new p q =
     subst (λ (f : ℕ). Hosted f (a .code .0 ∷ a .edge ∷ []) 16 out r new) (sym (cross-number t k out p))
     (hosted (CodeAndEdge t k) out (cross-nine t k out) (cross-same t k) _ (cross-numbers t k out p)
@@ -117,14 +116,14 @@ filed n d a out r new p q =
     (hosted (FiledCode n d) out (file-nine n d out) (λ z. file-same n d) _ (file-numbers n d out p)
     (λ z. file-fits n d) q)
 
-listed : (n : ℕ) (d : Direction) (places left : List ℕ) (a : CountAnswer) (out : List ℕ) (r : ℕ) (new : List ℕ)
-    → 6 ≤ length places → ListAnswer n d places a left → ListBytes n d out r new
+listed : (n : ℕ) (d : Direction) (places left : List ℕ) (a : CountAnswer) (out : List ℕ) (r : ℕ)
+    (new : List ℕ) → 6 ≤ length places → ListAnswer n d places a left → ListBytes n d out r new
     → Hosted (a .refusal) (a .count ∷ take (a .count) left) 56 out r new
 listed n d places left a out r new six p q =
-    let number = list-number n d out places left six p in
-    subst (λ (f : ℕ). Hosted f (a .count ∷ take (a .count) left) 56 out r new) (sym number)
+    subst (λ (f : ℕ). Hosted f (a .count ∷ take (a .count) left) 56 out r new)
+    (sym (list-number n d out places left six p))
     (hosted (CountAndCodes n d) out (list-nine n d out) (λ z. list-same n d) _
-    (λ z. list-numbers n d out places left six p (number ∙ z)) (λ z. list-fits n d z) q)
+    (list-numbers n d out places left six p) (λ z. list-fits n d z) q)
 
 pub as-the-grid : AsTheGrid
 as-the-grid = record { cross = crossed; file = filed; list = listed }

@@ -16,7 +16,8 @@ use Rattle.host.specs.Answers.{CrossBytes, FileBytes, ListBytes}
 pub record Examples : Type 0 where
   -- "most significant first"
   pub eight-bytes : bytesOf 8 0x208C000000000001 ≡ 0x20 ∷ 0x8C ∷ 0 ∷ 0 ∷ 0 ∷ 0 ∷ 0 ∷ 1 ∷ []
-  pub back : numberOf (0xFE ∷ 0xDC ∷ 0xBA ∷ 0x98 ∷ 0x76 ∷ 0x54 ∷ 0x32 ∷ 0x10 ∷ []) ≡ 0xFEDCBA9876543210
+  pub back : numberOf (0xFE ∷ 0xDC ∷ 0xBA ∷ 0x98 ∷ 0x76 ∷ 0x54 ∷ 0x32 ∷ 0x10 ∷ [])
+      ≡ 0xFEDCBA9876543210
   -- "Check comes for both kinds of word": E11's name of V(20), which is no code
   pub both-kinds : (checkCode (codeOf 0x2000000000000003) ≡ 4) × (checkName (nameOf 0x2000000000000003) ≡ 0)
   -- E8, "cross writes code and edge number (16 bytes)": 1001 across 2 is 2001, edge 3; a seventeenth byte stays
@@ -28,9 +29,9 @@ pub record Examples : Type 0 where
   -- and so does a later one
   pub two : ListBytes 0 up (replicate 57 9)
       leaves (0, replicate 7 0 ++ (2 ∷ 0x20 ∷ replicate 7 0) ++ (0xA0 ∷ replicate 7 0) ++ replicate 33 9)
-  -- at degree 2 in six triangles, and just the last byte stays
-  pub six : ListBytes 2 up (replicate 57 9)
-      leaves (0, bytes 8 (6 ∷ wordsFor (10003 ∷ 10012 ∷ 10021 ∷ 50002 ∷ 50013 ∷ 50031 ∷ [])) ++ (9 ∷ []))
+  -- at degree 2 it is in six triangles: all 56 bytes are written
+  pub six : ListBytes 2 up (replicate 56 9)
+      leaves (0, bytes 8 (6 ∷ wordsFor (10003 ∷ 10012 ∷ 10021 ∷ 50002 ∷ 50013 ∷ 50031 ∷ [])))
   -- refused: "lent memory keeps its contents"
   pub short : CrossBytes (written 1001) 2 (replicate 15 9) leaves (9, replicate 15 9)
   pub no-edge : CrossBytes (written 1001) 4 (replicate 16 9) leaves (5, replicate 16 9)

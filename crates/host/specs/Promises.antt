@@ -36,7 +36,8 @@ pub record EightBytes : Type 0 where
   pub back : (w : ℕ) → w < 2 ^ 64 → numberOf (bytesOf 8 w) ≡ w
 
 -- What a host has of a call that refuses f in document 01, answers these numbers, and asks for `least` bytes.
-pub record Hosted (f : ℕ) (numbers : List ℕ) (least : ℕ) (out : List ℕ) (r : ℕ) (new : List ℕ) : Type 0 where
+pub record Hosted (f : ℕ) (numbers : List ℕ) (least : ℕ) (out : List ℕ) (r : ℕ) (new : List ℕ)
+    : Type 0 where
   -- "Otherwise document 01 holds": where that call is refused, by the same number
   pub refused : (f ≡ 0 → ⊥) → r ≡ f
   -- "a shorter slice is refusal 9"
@@ -60,6 +61,6 @@ pub record AsTheGrid : Type 0 where
   pub file : (n : ℕ) (d : Direction) (a : CodeAnswer) (out : List ℕ) (r : ℕ) (new : List ℕ)
       → FileAnswer n d a → FileBytes n d out r new → Hosted (a .refusal) (a .code .0 ∷ []) 8 out r new
   -- "list the count and then its codes (56)": document 01's call has `places` for its list, and leaves `left` there
-  pub list : (n : ℕ) (d : Direction) (places left : List ℕ) (a : CountAnswer) (out : List ℕ) (r : ℕ) (new : List ℕ)
-      → 6 ≤ length places → ListAnswer n d places a left → ListBytes n d out r new
+  pub list : (n : ℕ) (d : Direction) (places left : List ℕ) (a : CountAnswer) (out : List ℕ) (r : ℕ)
+      (new : List ℕ) → 6 ≤ length places → ListAnswer n d places a left → ListBytes n d out r new
       → Hosted (a .refusal) (a .count ∷ take (a .count) left) 56 out r new

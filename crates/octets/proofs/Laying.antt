@@ -1,14 +1,16 @@
 -- Laws of numbers as bytes, for any number of bytes: how many there are, each below 256, the number read back, the
 -- bytes of a list of numbers. Assumes nothing.
 use mathlib.Core.Path.{_≡_, _∙_, refl, sym, ap}
-use mathlib.Core.List.{List, [], _∷_, _++_, append-assoc}
-use Prim.Native.Nat.{ℕ, zero, suc, _+_, _*_, _/_, _%_, _^_, _≤_, _<_}
+use mathlib.Core.List.{List, [], _∷_, _++_, append-nil, append-assoc}
+use Prim.Native.Nat.{ℕ, zero, suc, _+_, _-_, _*_, _/_, _%_, _^_, _≤_, _<_}
 use native.Mathlib.Omega.{arith}
 use native.Mathlib.Nat.{mod-eq-of-lt, one-le-pow, pow-succ', add-mul, mul-assoc, mul-comm, mul-suc}
 use lib.Arith.{mod-mul}
 use lib.ListN.{length, getD, take, drop, length-append, length-drop}
 use lib.Seq.{take-at, drop-at, drop-drop}
+use borrow.Rule.Slice.PartMut.{putMid}
 use Rattle.frame.specs.Answers.{over}
+use Rattle.frame.proofs.Lengths.{two-parts}
 use Rattle.octets.specs.Bytes.{bytesOf, bytes, readOn, numberOf, numberAt}
 
 -- ---- one number
@@ -38,7 +40,8 @@ read-on (suc k) w a =
     mod-mul w (omega arith) (one-le-pow k 256 (omega arith)) in
     let d : (256 * a + b) * 256 ^ k ≡ a * (256 * 256 ^ k) + b * 256 ^ k =
     add-mul (256 * a) b (256 ^ k)
-    ∙ ap (λ (x : ℕ). x + b * 256 ^ k) (ap (λ (x : ℕ). x * 256 ^ k) (mul-comm 256 a) ∙ mul-assoc a 256 (256 ^ k)) in
+    ∙ ap (λ (x : ℕ). x + b * 256 ^ k)
+    (ap (λ (x : ℕ). x * 256 ^ k) (mul-comm 256 a) ∙ mul-assoc a 256 (256 ^ k)) in
     read-on k w (256 * a + b) ∙ omega (arith, m, d) ∙ ap (λ (x : ℕ). a * x + w % x) (sym (more k))
 
 -- read back
@@ -51,7 +54,8 @@ pub bytes-long : (k : ℕ) (ws : List ℕ) → length (bytes k ws) ≡ k * lengt
 unfolding bytes
 bytes-long k [] = omega arith
 bytes-long k (w ∷ ws) =
-    length-append (bytesOf k w) (bytes k ws) ∙ omega (arith, bytes-of-long k w, bytes-long k ws, mul-suc k (length ws))
+    length-append (bytesOf k w) (bytes k ws)
+    ∙ omega (arith, bytes-of-long k w, bytes-long k ws, mul-suc k (length ws))
 
 -- number i of them, whatever follows
 taken : (k : ℕ) (ws rest : List ℕ) (i : ℕ) → i < length ws
@@ -77,12 +81,33 @@ pub number-at : (k : ℕ) (ws rest : List ℕ) (i : ℕ) → i < length ws → g
 number-at k ws rest i l b = ap numberOf (taken k ws rest i l) ∙ number-back k (getD ws i 0) b
 
 -- laid over a slice: what follows is as it was, and so is its length
-pub after-bytes : (k : ℕ) (ws out : List ℕ) → drop (k * length ws) (over (bytes k ws) out) ≡ drop (k * length ws) out
+pub after-bytes : (k : ℕ) (ws out : List ℕ)
+    → drop (k * length ws) (over (bytes k ws) out) ≡ drop (k * length ws) out
 after-bytes k ws out =
     let e = bytes-long k ws in
     drop-at (bytes k ws) (drop (length (bytes k ws)) out) (k * length ws) e ∙ ap (λ (j : ℕ). drop j out) e
 
-pub as-long : (k : ℕ) (ws out : List ℕ) → k * length ws ≤ length out → length (over (bytes k ws) out) ≡ length out
+pub as-long : (k : ℕ) (ws out : List ℕ) → k * length ws ≤ length out
+    → length (over (bytes k ws) out) ≡ length out
 as-long k ws out l =
     let e = bytes-long k ws in
     omega (arith, e, length-append (bytes k ws) (drop (length (bytes k ws)) out), length-drop (length (bytes k ws)) out)
+
+-- ---- numbers written one after the other
+
+pub no-bytes : (k : ℕ) (ws : List ℕ) → length ws ≡ 0 → bytes k ws ≡ []
+unfolding bytes
+no-bytes k [] e = refl
+no-bytes k (w ∷ ws) e = absurd (omega arith)
+
+-- one number
+pub laid-one : (k w : ℕ) (out : List ℕ) → over (bytesOf k w) out ≡ over (bytes k (w ∷ [])) out
+unfolding bytes
+laid-one k w out = ap (λ (bs : List ℕ). over bs out) (sym (append-nil (bytesOf k w)))
+
+-- a number, and the others in the part that follows
+pub laid-next : (k w : ℕ) (ws out mid late : List ℕ) → mid ≡ over (bytesOf k w) out
+    → late ≡ over (bytes k ws) (take (length mid - k) (drop k mid))
+    → putMid k (length mid - k) mid late ≡ over (bytes k (w ∷ ws)) out
+unfolding bytes
+laid-next k w ws out mid late e f = two-parts out mid late (bytesOf k w) (bytes k ws) k (bytes-of-long k w) e f

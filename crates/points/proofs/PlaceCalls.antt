@@ -7,6 +7,7 @@ use native.Mathlib.Omega.{arith}
 use lib.ListN.{length, drop}
 use lib.Seq.{drop-length}
 use Rattle.frame.specs.Answers.{over, Answer, Lent}
+use Rattle.frame.proofs.Lengths.{never-nine}
 use Rattle.frame.proofs.Answering.{answers-or-not, number-is}
 use Rattle.words.specs.Words.{degreeOf}
 use Rattle.words.specs.declared.TriangleCode.{TriangleCode}
@@ -54,40 +55,37 @@ module _ (q : CornerName) (z : checkName q ≡ 0) where
 
 -- f is the refusal of a call for coordinates, and g that of the call for the weights p
 pub record Serves (f g : ℕ) (p out : List ℕ) : Type 0 where
-  pub passes : f ≡ 0 → g ≡ 0
-  pub first : (f ≡ 0 → ⊥) → f ≡ g
+  pub same : g ≡ f
   pub twelve : f ≡ 0 → Twelve p
   pub room : length out ≡ 12
 
 pub numbered-serves : (t : TriangleCode) (i : ℕ) (out : List ℕ) → length out ≡ 12
     → Serves (refuseNumbered t i) (refuseWeights t i out) (corner t i) out
 numbered-serves t i out l = record {
-  passes = λ z. weights-then t i out .passes .1 (z, omega (arith, l));
-  first = weights-then t i out .first refl;
+  same = never-nine (weights-then t i out) (omega (arith, l));
   twelve = numbered-twelve t i;
   room = l;
 }
 
-pub name-serves : (q : CornerName) (out : List ℕ) → length out ≡ 12 → Serves (checkName q) (refuseNameWeights q out)
-    (named q) out
+pub name-serves : (q : CornerName) (out : List ℕ) → length out ≡ 12
+    → Serves (checkName q) (refuseNameWeights q out) (named q) out
 name-serves q out l = record {
-  passes = λ z. name-weights-then q out .passes .1 (z, omega (arith, l));
-  first = name-weights-then q out .first refl;
+  same = never-nine (name-weights-then q out) (omega (arith, l));
   twelve = name-twelve q;
   room = l;
 }
 
 over-all : (xs out : List ℕ) → length xs ≡ length out → over xs out ≡ xs
-over-all xs out e = ap (λ (n : ℕ). xs ++ drop n out) e ∙ ap (λ (l : List ℕ). xs ++ l) (drop-length out) ∙ append-nil xs
+over-all xs out e =
+    ap (λ (n : ℕ). xs ++ drop n out) e ∙ ap (λ (l : List ℕ). xs ++ l) (drop-length out) ∙ append-nil xs
 
 module _ {f g : ℕ} {p out : List ℕ} (s : Serves f g p out) {k : ℕ} {new : List ℕ}
     (w : Lent g (Put p out) (λ m. m) out k new) where
   number-found : k ≡ f
-  number-found = ⊎-elim (λ z. w .answered (s .passes z) .0 ∙ sym z)
-      (λ n. ap (λ (x : ℕ × List ℕ). x .0) (w .refused (λ e. n (s .first n ∙ e))) ∙ sym (s .first n)) (answers-or-not f)
+  number-found = number-is (λ (x : ℕ × List ℕ). x .0) refl (λ x put. put .0) w ∙ s .same
 
   written : f ≡ 0 → new ≡ p
-  written z = w .answered (s .passes z) .1 ∙ over-all p out (s .twelve z .places ∙ sym (s .room))
+  written z = w .answered (s .same ∙ z) .1 ∙ over-all p out (s .twelve z .places ∙ sym (s .room))
 
   pub weights-twelve : k ≡ 0 → Twelve new
   weights-twelve e = let z : f ≡ 0 = sym number-found ∙ e in subst Twelve (sym (written z)) (s .twelve z)
@@ -123,7 +121,8 @@ module _ {f : ℕ} {e : Coordinates} {c : CoordinatesAnswer} (a : Answer f (Plac
         refused = y .refused;
       }
 
-  pub ticks-answers : {r : TicksAnswer} → Answer (c .refusal) (Ticked (c .at)) noTicks r → Answer f (Ticked e) noTicks r
+  pub ticks-answers : {r : TicksAnswer} → Answer (c .refusal) (Ticked (c .at)) noTicks r
+      → Answer f (Ticked e) noTicks r
   ticks-answers = of-place Ticked
 
   pub point-answers : {n : ℕ} {r : PointAnswer} → Answer (c .refusal) (Pointed n (c .at)) noPoint r

@@ -27,7 +27,8 @@ passes c = sym (c .before .refuse-direction .ensures) ∙ c .if1 .left
 
 returns-2 : tie.Need-returns-2
 returns-2 c = let a = c .before .before .before .before .args in
-    refusing (list-then (a .degree) (a .d) (now (a .out)) .nine (passes (c .before)) (c .if2 .taken)) (λ e. omega arith)
+    refusing (list-then (a .degree) (a .d) (now (a .out)) .nine (passes (c .before)) (c .if2 .taken))
+    (λ e. omega arith)
 
 quick-word-requires : tie.Need-quick-word-requires
 quick-word-requires c κs = let a = allowed _ _ (passes (c .before)) in (a .low, a .level, a .some)

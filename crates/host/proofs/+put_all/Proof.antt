@@ -1,5 +1,5 @@
 -- The first number's bytes, and the others' in the part that follows. Assumes nothing.
-use mathlib.Core.Path.{_≡_, refl, sym, ap, _∙_}
+use mathlib.Core.Path.{_≡_, sym, ap, _∙_}
 use mathlib.Core.List.{List}
 use Prim.Native.Nat.{ℕ, _<_, _-_}
 use native.Mathlib.Omega.{arith}
@@ -8,9 +8,9 @@ use borrow.Rule.Slice.PartMut.{same-len-mid}
 use lib.ListN.{length, getD, take, drop, length-drop, length-take}
 use denote.Ref.{now}
 use Rattle.frame.specs.Answers.{over}
-use Rattle.frame.proofs.Lengths.{two-parts}
-use Rattle.octets.specs.Bytes.{bytesOf, bytes}
-use Rattle.host.proofs.Exporting.{bytes-none, bytes-next}
+use Rattle.octets.specs.Bytes.{bytes}
+use Rattle.octets.proofs.Laying.{laid-next, no-bytes}
+use Rattle.host.proofs.Exporting.{first-and-rest}
 use borrow.Fn.Kinds.{In}
 use borrow.Fn.PlainCycle.{Measures, is, falls, and}
 use Rattle.host.proofs.put_all.Reads as put-all
@@ -37,7 +37,8 @@ calls t = (
   put-all.Post,
 )
 
-put-all-shared-slice-read-put8 : (t : ℕ) → put-all-lts.Need-shared-slice-read-put8 (calls t) (put-all-at t) put-all.Post
+put-all-shared-slice-read-put8 : (t : ℕ) → put-all-lts.Need-shared-slice-read-put8 (calls t) (put-all-at t)
+    put-all.Post
 put-all-shared-slice-read-put8 t c = search needs
 
 put-all-put8-requires : (t : ℕ) → put-all-lts.Need-put8-requires (calls t) (put-all-at t) put-all.Post
@@ -87,14 +88,14 @@ put-all-returns t c =
     let S = now (s .args .ws) in
     let D = now (s .args .out) in
     let z : length S ≡ 0 → ⊥ = p .before .before .before .if1 .taken in
-    two-parts D (p .put8 .last .1 .0) (q .put-all .last .1 .0) (bytesOf 8 (getD S 0 0))
-    (bytes 8 (take (length S - 1) (drop 1 S))) 8 refl (p .put8 .ensures) (q .put-all .ensures)
-    ∙ ap (λ (l : List ℕ). over l D) (bytes-next S z)
+    laid-next 8 (getD S 0 0) (take (length S - 1) (drop 1 S)) D (p .put8 .last .1 .0) (q .put-all .last .1 .0)
+    (p .put8 .ensures) (q .put-all .ensures)
+    ∙ ap (λ (l : List ℕ). over (bytes 8 l) D) (first-and-rest S z)
 
 put-all-returns-2 : (t : ℕ) → put-all-lts.Need-returns-2 (calls t) (put-all-at t) put-all.Post
 put-all-returns-2 t c =
     let s = c .before .before .before in
-    sym (ap (λ (l : List ℕ). over l (now (s .args .out))) (bytes-none (now (s .args .ws)) (c .if1 .left)))
+    sym (ap (λ (l : List ℕ). over l (now (s .args .out))) (no-bytes 8 (now (s .args .ws)) (c .if1 .left)))
 
 pub +put-all-spec : {M : Type 1} → statement M
 +put-all-spec = close μ-put-all λ t. put-all-lts.spec (calls t)

@@ -1,7 +1,10 @@
 -- The grid's refusal, then 9, then the bytes of the code and of the edge (Calls). Assumes nothing.
 use borrow.Author.Needs.{needs}
+use mathlib.Core.Path.{_∙_}
+use mathlib.Core.List.{[], _∷_}
 use native.Mathlib.Omega.{arith}
-use Rattle.host.proofs.Calls.{cross-refused, cross-short, cross-sent}
+use Rattle.octets.proofs.Laying.{laid-one, laid-next}
+use Rattle.host.proofs.Calls.{cross-returns}
 use Rattle.host.proofs.grid_cross.Statement.{statement}
 use Rattle.host.proofs.grid_cross.Tie as tie
 
@@ -9,10 +12,11 @@ cross-requires : tie.Need-cross-requires
 cross-requires c κs = search needs
 
 returns : tie.Need-returns
-returns c = cross-refused _ _ _ (c .before .before .cross .ensures) (c .if1 .taken)
+returns c = cross-returns _ _ _ (c .before .before .cross .ensures) .refused (c .if1 .taken)
 
 returns-2 : tie.Need-returns-2
-returns-2 c = cross-short _ _ _ (c .before .before .before .cross .ensures) (c .before .if1 .left) (omega arith)
+returns-2 c =
+    cross-returns _ _ _ (c .before .before .before .cross .ensures) .short (c .before .if1 .left) (omega arith)
 
 put8-requires : tie.Need-put8-requires
 put8-requires c κs = search needs
@@ -37,8 +41,9 @@ returns-3 c =
     let q = c .before .before in
     let p = q .before .before .before .before in
     let e = p .before .before in
-    cross-sent _ _ _ (e .before .before .before .cross .ensures) (e .before .if1 .left) (omega arith)
-    (p .put8 .last .1 .0) (q .put82 .last .1 .0) (p .put8 .ensures) (q .put82 .ensures)
+    cross-returns _ _ _ (e .before .before .before .cross .ensures) .sent (e .before .if1 .left) (omega arith)
+    (laid-next 8 _ (_ ∷ []) _ (p .put8 .last .1 .0) (q .put82 .last .1 .0) (p .put8 .ensures)
+    (q .put82 .ensures ∙ laid-one 8 _ _))
 
 pub grid-cross-spec : {M : Type 1} → statement M
 grid-cross-spec =

@@ -1,11 +1,13 @@
 -- The grid's refusal, then 9, then the eight bytes (Calls). Assumes nothing.
 use borrow.Author.Needs.{needs}
+use mathlib.Core.Path.{_∙_}
 use native.Mathlib.Omega.{arith}
 use mir.Syntax.{w32}
 use mir.ValLaws.{toZ-ofZ}
 use Rattle.directions.specs.Answers.{FileAnswer}
 use Rattle.grid.specs.Writing.{towards}
-use Rattle.host.proofs.Calls.{file-refused, file-short, file-sent}
+use Rattle.octets.proofs.Laying.{laid-one}
+use Rattle.host.proofs.Calls.{file-returns}
 use Rattle.host.proofs.grid_file.Statement.{statement}
 use Rattle.host.proofs.grid_file.Tie as tie
 
@@ -21,10 +23,10 @@ filed c =
     rw (toZ-ofZ w32 (a .x) (f .x), toZ-ofZ w32 (a .y) (f .y), toZ-ofZ w32 (a .z) (f .z)) at (c .file .ensures)
 
 returns : tie.Need-returns
-returns c = file-refused _ _ _ (filed (c .before .before)) (c .if1 .taken)
+returns c = file-returns _ _ _ (filed (c .before .before)) .refused (c .if1 .taken)
 
 returns-2 : tie.Need-returns-2
-returns-2 c = file-short _ _ _ (filed (c .before .before .before)) (c .before .if1 .left) (omega arith)
+returns-2 c = file-returns _ _ _ (filed (c .before .before .before)) .short (c .before .if1 .left) (omega arith)
 
 put8-requires : tie.Need-put8-requires
 put8-requires c κs = search needs
@@ -36,7 +38,8 @@ returns-3 : tie.Need-returns-3
 returns-3 c =
     let p = c .before .before in
     let e = p .before .before in
-    file-sent _ _ _ (filed (e .before .before .before)) (e .before .if1 .left) (omega arith) (p .put8 .ensures)
+    file-returns _ _ _ (filed (e .before .before .before)) .sent (e .before .if1 .left) (omega arith)
+    (p .put8 .ensures ∙ laid-one 8 _ _)
 
 pub grid-file-spec : {M : Type 1} → statement M
 grid-file-spec = tie.close (tie.spec file-requires returns returns-2 put8-requires same-length returns-3)

@@ -11,7 +11,8 @@ use mir.ValLaws.{toZ-ofZ}
 use denote.Ref.{now}
 use Rattle.directions.specs.Answers.{ListAnswer}
 use Rattle.grid.specs.Writing.{towards}
-use Rattle.host.proofs.Calls.{list-refused, list-short, list-sent, count-most}
+use Rattle.octets.proofs.Laying.{laid-next}
+use Rattle.host.proofs.Calls.{list-returns, count-most}
 use Rattle.host.proofs.grid_list.Statement.{statement}
 use Rattle.host.proofs.grid_list.Tie as tie
 
@@ -37,12 +38,13 @@ six c =
     (count-most _ _ [] (replicate 6 0) _ (omega arith) (listed l) (c .if1 .left), l .list .kept .1 .1 .0)
 
 returns : tie.Need-returns
-returns c = list-refused _ _ _ (replicate 6 0) _ (omega arith) (listed (c .before .before .before)) (c .if1 .taken)
+returns c =
+    list-returns _ _ _ (replicate 6 0) _ (omega arith) (listed (c .before .before .before)) .refused (c .if1 .taken)
 
 returns-2 : tie.Need-returns-2
 returns-2 c =
-    list-short _ _ _ (replicate 6 0) _ (omega arith) (listed (c .before .before .before .before)) (c .before .if1 .left)
-    (omega arith)
+    list-returns _ _ _ (replicate 6 0) _ (omega arith) (listed (c .before .before .before .before)) .short
+    (c .before .if1 .left) (omega arith)
 
 put8-requires : tie.Need-put8-requires
 put8-requires c κs = search needs
@@ -83,8 +85,9 @@ returns-3 c =
     let q = c .before .before in
     let p = q .before .before .before .before .before in
     let e = p .before .before .before in
-    list-sent _ _ _ (replicate 6 0) _ (omega arith) (listed (e .before .before .before)) (e .if1 .left) (omega arith)
-    (p .put8 .last .1 .0) (q .put-all .last .1 .0) (p .put8 .ensures) (q .put-all .ensures)
+    list-returns _ _ _ (replicate 6 0) _ (omega arith) (listed (e .before .before .before)) .sent (e .if1 .left)
+    (omega arith)
+    (laid-next 8 _ _ _ (p .put8 .last .1 .0) (q .put-all .last .1 .0) (p .put8 .ensures) (q .put-all .ensures))
 
 pub grid-list-spec : {M : Type 1} → statement M
 grid-list-spec =

@@ -13,12 +13,17 @@ weights, exact, t, drawn and bits with each number; file and list for a directio
 edge and each corner that has a whole direction at all. Likewise every call on a name for every corner to degree 5. The
 calls below that, and those to be refused, are a choice.
 
+For the table of soundings of request 2026-03 the console has a state: the one open table, which is a list. A code's
+place is its place among all codes of the degree in rising order. It calls for every place of the tables of degree 0 to
+4, and for some at 5 and 6; for long histories; for every refusal, alone and with each other one; and for bad lists. All
+answers are then compared with those of a map from code to reading, which knows of no places.
+
 For the plotter host in C of request 2026-01 it writes the lines of the host's test bench, and answers them with the
 same searches: every triangle to degree 4 is checked, and crossed over each edge; cross, file and list are lent slices
 of every length from 0 to 64 and none, where they are answered and for each refusal.
 
     second.py CALLS ANSWERS           writes the calls, one a line, and the answers that the console must give to them
-    second.py --answer                answers the call lines of standard input, all but help
+    second.py --answer                answers the call lines of standard input, all but help, from no open table on
     second.py --host CALLS ANSWERS    writes the calls of the test bench in C, and the answers that it must give to them
     second.py --host-answer           answers the test bench's call lines of standard input; any other line is an error
 """
@@ -32,6 +37,7 @@ import struct
 import sys
 from collections import namedtuple
 from functools import lru_cache
+from types import SimpleNamespace
 
 DEEPEST = 24
 WHOLE = 5  # Corners are compared over all triangles of a degree up to this one,
@@ -181,7 +187,7 @@ def read_triangle(text):
     return make_code(tuple(map(int, text[:3])), list(map(int, text[3:])))
 
 
-@lru_cache(maxsize=1 << 15)
+@lru_cache(maxsize=1 << 17)
 def triangle_text(code):
     return "".join(map(str, side_of(code))) + "".join(map(str, digits_of(code)))
 
@@ -506,10 +512,17 @@ REFUSAL_TABLE = """
 | 10 | a word passes 1 to 4 as a corner name and is not the canonical one |
 | 11 | no corner of the degree has the twelve weights |
 """
+# Document 02, 2026-03: "New refusals, after those of 01". The console has an asterisk for the dot of "20·4^degree".
+REFUSAL_TABLE += """
+| 20 | wrong degree |
+| 21 | reading out of range |
+| 22 | the list's length isn't 20*4^degree |
+| 23 | the list holds a number that is neither a reading nor -1 |
+"""
 REFUSALS = {int(n): text for n, text in re.findall(r"\| (\d+) \| (.*) \|", REFUSAL_TABLE)}
 
-# "Where several hold, the order is"
-REFUSAL_ORDER = [1, 2, 3, 4, 10, 5, 6, 8, 7, 9, 11]
+# "Where several hold, the order is", and then of document 02: "They are checked in number order".
+REFUSAL_ORDER = [1, 2, 3, 4, 10, 5, 6, 8, 7, 9, 11, 20, 21, 22, 23]
 
 
 def first(refusals):
@@ -577,6 +590,63 @@ def back_refusals(n, weights):
         used = {vertex for vertex, w in zip(ORDER, p) if w != 0}
         must((not r) == (sum(p) == 2**n and any(used <= one for one in SIDE_SETS)), "row 11", n, p)
     return r
+
+
+# ==== Document 02, 2026-03, "A table of soundings"
+
+# "It holds one reading for each triangle of one degree from 0 to 6, in a lent list of signed numbers"
+Table = namedtuple("Table", "degree places")
+TABLE_DEEPEST = 6
+NOTHING = -1  # "-1 means no reading"
+
+
+@lru_cache(maxsize=None)
+def codes_of(n):
+    """All codes of a degree, in rising order: those of the sides, then four for each code of the degree before."""
+    if n == 0:
+        return sorted(make_code(side, []) for side in SIDES)
+    return sorted(child_code(code, digit) for code in codes_of(n - 1) for digit in (0, 1, 2, 3))
+
+
+@lru_cache(maxsize=None)
+def place_of_each(n):
+    return {code: place for place, code in enumerate(codes_of(n))}
+
+
+def place_of(code):
+    # "ordered by code"; a place is "counted from 0"
+    return place_of_each(degree_of(code))[code]
+
+
+def is_reading(number):
+    # "A reading is 0 to 100,000 millimetres"
+    return 0 <= number <= 100_000
+
+
+def bad_places(places):
+    """Those with "a number that is neither a reading nor -1"."""
+    return [place for place, x in enumerate(places) if not (0 <= x <= 100_000 or x == NOTHING)]
+
+
+def table_degree_refusals(n):
+    # "a table degree of 7 to 24 is also 20, above 24 it is 1"
+    return degree_refusals(n) | when(20, TABLE_DEEPEST < n <= DEEPEST)
+
+
+def length_refusals(n, places):
+    # "22 the list's length isn't 20·4^degree". Above degree 24 no list is that long, and the power is not worked out.
+    return when(22, n > DEEPEST or len(places) != 20 * 4**n)
+
+
+def sounding_refusals(table, code):
+    # "Set, clear and get take a code of just that degree."
+    n, places = table
+    own = table_degree_refusals(n) | length_refusals(n, places) | when(23, bad_places(places))
+    return own | code_refusals(code) | when(20, degree_of(code) != n)
+
+
+def set_refusals(table, code, mm):
+    return sounding_refusals(table, code) | when(21, not is_reading(mm))
 
 
 # ==== The console's answers
@@ -726,6 +796,82 @@ def call_list(n, x, y, z, places=None):
     return answer_triangles(direction_refusals(n, (x, y, z)), lambda: holders(n, (x, y, z)), places)
 
 
+# ==== The console's table: docs/CONSOLE.md, "A table of soundings"
+
+# "The console holds one table (document 02, 2026-03), from the line that opens it to the next such line or the end of
+# the input." This is all that is carried from line to line.
+CONSOLE = SimpleNamespace(table=None)
+NO_TABLE = "error: no table is open; table DEGREE opens one"
+
+
+def call_table(n, places=None):
+    """A fresh table, or one with the list that is given."""
+
+    def say():
+        CONSOLE.table = Table(n, [NOTHING] * (20 * 4**n) if places is None else places)
+        return f"degree {n}, {len(CONSOLE.table.places)} places"
+
+    # "The degree may be any number, and nothing is refused", if a list is given. Of a fresh table: "A degree of 7 to 24
+    # is refused with 20, one above 24 with 1; the table that was open before stays open, as it is."
+    return either(table_degree_refusals(n) if places is None else set(), say)
+
+
+def on_table(call):
+    """A call on the open table, if there is one."""
+    return lambda *values: NO_TABLE if CONSOLE.table is None else call(CONSOLE.table, *values)
+
+
+def refused_with_place(table, no):
+    # "Refusal 23 alone answers, besides its number, the least bad place, counted from 0."
+    return refused(no) + (f"; place {bad_places(table.places)[0]}" if no == 23 else "")
+
+
+def write_place(table, refusals, code, number):
+    # "None changes the list."
+    no = first(refusals)
+    if no:
+        return refused_with_place(table, no)
+    table.places[place_of(code)] = number
+    return "ok"
+
+
+def call_set(table, code, mm):
+    return write_place(table, set_refusals(table, code, mm), code, mm)
+
+
+def call_clear(table, code):
+    return write_place(table, sounding_refusals(table, code), code, NOTHING)
+
+
+def call_get(table, code):
+    no = first(sounding_refusals(table, code))
+    if no:
+        return refused_with_place(table, no)
+    number = table.places[place_of(code)]
+    return "no reading" if number == NOTHING else f"{number} mm"
+
+
+def place_text(code, number):
+    # "A number that is neither a reading nor -1 is shown as `CODE holds VALUE`"
+    return f"{triangle_text(code)} {number} mm" if is_reading(number) else f"{triangle_text(code)} holds {number}"
+
+
+def readings_text(count, shown):
+    # "The number is followed by `reading` where there is just one."
+    return f"{count} reading{'' if count == 1 else 's'}" + (": " + ", ".join(shown) if shown else "")
+
+
+def call_readings(table):
+    n, places = table
+
+    def say():
+        shown = [place_text(code, x) for code, x in zip(codes_of(n), places) if x != NOTHING]
+        return readings_text(sum(map(is_reading, places)), shown)
+
+    # "it is refused: 1 for a degree above 24, 20 for one of 7 to 24, 22 for the length"
+    return either(table_degree_refusals(n) | length_refusals(n, places), say)
+
+
 # ==== The console's lines
 
 HEX = re.compile("0x([0-9A-Fa-f]{1,16})")
@@ -770,7 +916,7 @@ def read_places(text):
 
 
 SIGNED = dict.fromkeys("XYZ", read_signed)
-READERS = {"CODE": read_code, "NAME": read_hex, **SIGNED, "[PLACES]": read_places}
+READERS = {"CODE": read_code, "NAME": read_hex, **SIGNED, "MM": read_signed, "[PLACES]": read_places}
 
 ANSWERS = {
     "check CODE": call_check,
@@ -794,22 +940,58 @@ ANSWERS = {
     "file DEGREE X Y Z": call_file,
     "list DEGREE X Y Z [PLACES]": call_list,
 }
-FORMS = {form.split()[0]: (form, form.split()[1:], answer) for form, answer in ANSWERS.items()}
+TABLE_ANSWERS = {
+    "table DEGREE [LENGTH FILL [PLACE VALUE]..]": call_table,
+    "set CODE MM": on_table(call_set),
+    "clear CODE": on_table(call_clear),
+    "get CODE": on_table(call_get),
+    "readings": on_table(call_readings),
+}
+
+
+def forms_of(answers):
+    return {form.split()[0]: (form, form.split()[1:], call) for form, call in answers.items()}
+
+
+GRID_FORMS, TABLE_FORMS = forms_of(ANSWERS), forms_of(TABLE_ANSWERS)
+FORMS = {**GRID_FORMS, **TABLE_FORMS}
+LONGEST_TABLE = 81921
+
+
+def read_table(given):
+    """The degree, and the list if one is given."""
+    if len(given) == 1:
+        return [read_number(given[0])]
+    within(len(given) % 2, 1, 1)
+    # "LENGTH places (0 to 81921) that all hold FILL, and then each PLACE, which is below LENGTH, its VALUE; of two for
+    # one PLACE the later holds"
+    length = within(read_number(given[1]), 0, LONGEST_TABLE)
+    places = [read_signed(given[2])] * length
+    for place, value in zip(given[3::2], given[4::2]):
+        places[within(read_number(place), 0, length - 1)] = read_signed(value)
+    return [read_number(given[0]), places]
 
 
 def read_arguments(kinds, given):
-    if kinds[-1] == "WEIGHTS":  # "(0 to 16 weights)"
+    last = kinds[-1] if kinds else ""
+    if last == "WEIGHTS":  # "(0 to 16 weights)"
         within(len(given), 1, 17)
         return [read_number(given[0]), [read_number(x) for x in given[1:]]]
-    within(len(given), len(kinds) - (kinds[-1] == "[PLACES]"), len(kinds))
+    if last == "VALUE]..]":
+        return read_table(given)
+    within(len(given), len(kinds) - (last == "[PLACES]"), len(kinds))
     return [READERS.get(kind, read_number)(x) for kind, x in zip(kinds, given)]
 
 
+def parts_of(line):
+    return [x for x in line.replace("\t", " ").replace("\r", " ").split(" ") if x]
+
+
 def answer(line):
-    """The answer to one line, a character for each byte."""
+    """The answer to one line, a character for each byte, and what it does to the open table."""
     if len(line) > 1000:
         return "error: a line has at most 1000 bytes"
-    parts = [x for x in line.replace("\t", " ").replace("\r", " ").split(" ") if x]
+    parts = parts_of(line)
     if not parts or parts[0].startswith("#"):
         return ""
     if parts[0] not in FORMS:
@@ -821,6 +1003,12 @@ def answer(line):
     except Unreadable:
         return "error: write it as " + form
     return call(*values)
+
+
+def answers_to(lines):
+    """The answers of one run, from no open table on."""
+    CONSOLE.table = None
+    return [answer(line) for line in lines]
 
 
 # ==== Internal checks
@@ -971,6 +1159,29 @@ def check_examples():
     must(answer("list 0 0 0 1") == "2: 100 0x2000000000000000, 500 0xA000000000000000", "all holders of (0,0,1)")
 
 
+def check_places():
+    """A code's place rises with the code, and each place has its code."""
+    for n in range(TABLE_DEEPEST + 1):
+        places = [place_of(code) for code in codes_of(n)]
+        must(places == list(range(20 * 4**n)), "each place once, and rising", n)
+        must(all(x < y for x, y in zip(codes_of(n), codes_of(n)[1:])), "rising codes", n)
+        must(not any(map(code_refusals, codes_of(n))), "codes", n)
+        must(n > WHOLE or codes_of(n) == list(whole_degree(n)), "the triangles of the degree", n)
+
+
+def check_table_lines():
+    """The lines that can not be read are all answered by the call's form, and open no table."""
+    lines = list(unreadable_table_lines())
+    for line, text in zip(lines, answers_to(lines)):
+        must(text == "error: write it as " + FORMS[line.split()[0]][0], "unreadable", line, text)
+    must(CONSOLE.table is None, "no table")
+
+
+def check_ice_desk():
+    for (line, text), found in zip(ICE_DESK, answers_to(line for line, _ in ICE_DESK)):
+        must(found == text, "by hand", line, text, found)
+
+
 def internal_checks():
     must(sorted(DIRECTIONS) == sorted(ORDER) and sorted(REFUSALS) == sorted(REFUSAL_ORDER), "the tables")
     must(sorted(OPPOSITE) == sorted(OPPOSITE.values()) == sorted(ORDER), "each vertex has its opposite")
@@ -982,6 +1193,9 @@ def internal_checks():
     check_opposites()
     check_closest()
     check_examples()
+    check_places()
+    check_table_lines()
+    check_ice_desk()
 
 
 # ==== Internal checks of what file and list are answered to degree 5
@@ -1632,7 +1846,7 @@ def unreadable_calls():
     """Every call with arguments missing, one too many, and each argument unreadable."""
     chance = random.Random(9)
     with_all = ("check", "check-name", "child", "file", "list", "ring")
-    for call, (_, kinds, _) in FORMS.items():
+    for call, (_, kinds, _) in GRID_FORMS.items():
         good = good_arguments(kinds)
         least = len(kinds) - (kinds[-1] in ("[PLACES]", "WEIGHTS"))
         yield from (" ".join([call] + good[:k]) for k in range(least))
@@ -1716,8 +1930,7 @@ def long_lines():
         yield "check 1001"
 
 
-def last_line():
-    # "The last line may lack its line end."
+def last_without_table():
     yield "file 24 1 2 3"
 
 
@@ -1799,6 +2012,760 @@ def close_calls():
         for goal in (HALF, 0):
             for v in closest(n, goal):
                 yield from pair_calls(chance, n, corner_with(chance, n, chance.randrange(3), v))
+
+
+# ==== The calls: a table of soundings, lines
+
+ICE_DESK_TEXT = """
+    table 1 -> degree 1, 80 places
+    readings -> 0 readings
+    get 1001 -> no reading
+    clear 1001 -> ok
+    set 1001 1250 -> ok
+    get 1001 -> 1250 mm
+    readings -> 1 reading: 1001 1250 mm
+    set 1002 0 -> ok
+    get 1002 -> 0 mm
+    readings -> 2 readings: 1001 1250 mm, 1002 0 mm
+    set 1001 0 -> ok
+    get 0x2050000000000000 -> 0 mm
+    set 0x2050000000000000 100000 -> ok
+    get 1001 -> 100000 mm
+    set 1001 100001 -> refused 21: reading out of range
+    set 1001 -1 -> refused 21: reading out of range
+    get 1001 -> 100000 mm
+    clear 1001 -> ok
+    get 1001 -> no reading
+    clear 1001 -> ok
+    get 1001 -> no reading
+    readings -> 1 reading: 1002 0 mm
+    get 100 -> refused 20: wrong degree
+    set 10003 5 -> refused 20: wrong degree
+    clear 10003 -> refused 20: wrong degree
+    get 6001 -> refused 2: a is 0, 6 or 7
+    get 600 -> refused 2: a is 0, 6 or 7
+    set 10003 -1 -> refused 20: wrong degree
+    set 600 -1 -> refused 2: a is 0, 6 or 7
+    file 1 0 0 1 -> 1000 0x2040000000000000
+    set 1000 15 -> ok
+    cross 1001 2 -> 2001 0x4050000000000000 edge 3 corners 1 2
+    set 2001 16 -> ok
+    set 5113 7 -> ok
+    readings -> 4 readings: 1000 15 mm, 1002 0 mm, 2001 16 mm, 5113 7 mm
+    table 7 -> refused 20: wrong degree
+    table 24 -> refused 20: wrong degree
+    table 25 -> refused 1: a degree, as field or argument, is above 24
+    readings -> 4 readings: 1000 15 mm, 1002 0 mm, 2001 16 mm, 5113 7 mm
+    table 2 -> degree 2, 320 places
+    readings -> 0 readings
+    get 1000 -> refused 20: wrong degree
+    set 10003 2500 -> ok
+    readings -> 1 reading: 10003 2500 mm
+    table 2 320 -1 3 2500 319 0 -> degree 2, 320 places
+    get 10003 -> 2500 mm
+    get 51133 -> 0 mm
+    table 0 20 -1 0 5 3 -2 -> degree 0, 20 places
+    readings -> 1 reading: 100 5 mm, 111 holds -2
+    get 100 -> refused 23: the list holds a number that is neither a reading nor -1; place 3
+    set 111 5 -> refused 23: the list holds a number that is neither a reading nor -1; place 3
+    clear 111 -> refused 23: the list holds a number that is neither a reading nor -1; place 3
+    set 111 100001 -> refused 21: reading out of range
+    readings -> 1 reading: 100 5 mm, 111 holds -2
+    table 0 20 -1 3 -2 -> degree 0, 20 places
+    readings -> 0 readings: 111 holds -2
+    table 0 20 100001 1 0 -> degree 0, 20 places
+    clear 511 -> refused 23: the list holds a number that is neither a reading nor -1; place 0
+    table 0 19 -2 -> degree 0, 19 places
+    get 100 -> refused 22: the list's length isn't 20*4^degree
+    readings -> refused 22: the list's length isn't 20*4^degree
+    set 100 100001 -> refused 21: reading out of range
+    set 1001 100001 -> refused 20: wrong degree
+    set 0x2050000000000001 -1 -> refused 4: the four zero bits are not zero, or the corner number does not fit the kind of word
+    set 0x2050000000000041 -1 -> refused 3: a digit beyond the degree is not 0
+    set 0xC050000000000041 -1 -> refused 2: a is 0, 6 or 7
+    set 0xC650000000000041 -1 -> refused 1: a degree, as field or argument, is above 24
+    table 7 3 -1 2 500 -> degree 7, 3 places
+    get 1000000000 -> refused 20: wrong degree
+    readings -> refused 20: wrong degree
+    table 25 0 0 -> degree 25, 0 places
+    get 100 -> refused 1: a degree, as field or argument, is above 24
+    readings -> refused 1: a degree, as field or argument, is above 24
+"""
+ICE_DESK = [tuple(line.strip().split(" -> ")) for line in ICE_DESK_TEXT.strip().split("\n")]
+
+# Readable lines, with no table to be called on.
+WITHOUT_TABLE = """
+    readings; get 1001; set 1001 1250; clear 1001; get 100; set 100 0; clear 51133; get 0x2050000000000000; get 600
+    get 0x0; set 0xFFFFFFFFFFFFFFFF 2147483647; set 600 -1; set 1001 100001; set 1001 -2147483648; clear 7013; clear 0x1
+    get 100000000; get 100000000000000000000000000
+"""
+UNREADABLE_ON_TABLE = """
+    table; table 0 20; table 0 20 -1 3; table 0 20 -1 3 5 4; table 0 20 -1 3 5 4 6 19; table x; table 7 3; table 25 x
+    table 0 0 -1 0 5; table 0 20 -1 20 5; table 0 20 -1 3 5 20 5; table 0 20 -1 19 5 19; table 0 1 -1 1 0; table 1 1
+    table -1; table 0 -1 0; table 0 81922 0; table 7 81922 0; table 25 81922 0; table 0 20 -1 -1 5; table 0 20 x
+    table 6 81921 -1 81921 5; table 6 81920 -1 81920 5; table 0 20 -1 # note; table 0 #; table # 0; table 0 20 -1 3 5 #
+    table DEGREE; table 0 LENGTH; table 0 [20 -1]; table 0, 20 -1; table degree 0; table 0 20 no reading; table 0 20 0 x
+    set; set 100; set 100 5 6; set 100 5 mm; set 100 5mm; set 100 1250 mm; set 5 100; set 100 0x5; set 100 5 # note
+    set 600 x; set 600 2147483648; set 600 -2147483649; set 100 no reading; set 100 nothing; set 100=5; set 100, 5
+    set 20 5; set 0x2000000000000000; set CODE MM; set 100 -; set 100 5 100 6; set 100 1e3; set 100 1250.0; set 100 +0
+    get; get 100 101; get 100 5; get all; get 3; get 0; get 100 # note; get 600 1; get CODE; get 1001 x; get 100 0
+    clear; clear 100 101; clear 100 5; clear all; clear 3; clear 0; clear 100 # note; clear 600 1; clear CODE
+    readings 1; readings 100; readings x; readings all; readings # note; readings #; readings 0 0; readings readings
+"""
+UNKNOWN_ON_TABLE = """
+    Table 0; TABLE 0; tables 0; tabl 0; table0; table:0; table, 0; Set 100 5; SET 100 5; sets 100 5; se 100 5; set100 5
+    set, 100 5; Get 100; GET 100; gets 100; got 100; ge 100; get100; Clear 100; CLEAR 100; clears 100; clear100; clea
+    clear-all; reading; Readings; READINGS; readings:; readings,; open 0; close; unset 100; put 100 5; fresh 0
+    table\u00a00; set\u00a0100 5; get\u00a0100; readings\u00a0; holds 100; take 100; 1001 1250 mm; degree 1, 80 places
+"""
+BAD_LENGTHS = BAD_NUMBERS + "81922 163840 4294967296 4294967316 18446744073709551615 0x14002 000081922".split()
+BAD_PLACE_NUMBERS = BAD_NUMBERS + "20 21 0x14 00020 81920 4294967296 4294967299 18446744073709551615".split()
+BAD_TABLE_CODES = [word for word in BAD_CODES if not TRIANGLE.fullmatch(word)]
+# Good arguments, and for each of them bad ones in its place.
+TABLE_ARGUMENTS = [
+    ("table", ["0"], [BAD_NUMBERS]),
+    ("table", ["0", "20", "-1"], [BAD_NUMBERS, BAD_LENGTHS, BAD_SIGNED]),
+    ("table", ["0", "20", "-1", "3", "5"], [BAD_NUMBERS, BAD_LENGTHS, BAD_SIGNED, BAD_PLACE_NUMBERS, BAD_SIGNED]),
+    ("set", ["100", "5"], [BAD_TABLE_CODES, BAD_SIGNED]),
+    ("get", ["100"], [BAD_TABLE_CODES]),
+    ("clear", ["100"], [BAD_TABLE_CODES]),
+]
+
+
+def unreadable_table_lines():
+    """The five calls with arguments missing, too many, and each argument unreadable."""
+    yield from written(UNREADABLE_ON_TABLE)
+    for call, good, bad in TABLE_ARGUMENTS:
+        for at, some in enumerate(bad):
+            yield from (as_bytes(" ".join([call] + good[:at] + [word] + good[at + 1 :])) for word in some)
+
+
+def unknown_table_lines():
+    yield from written(UNKNOWN_ON_TABLE)
+    yield from ["readings\x0b", "\x0breadings", "table\x0b0", "set\x0b100 5", "get\x0c100", "clear\x00100"]
+    yield from ["readings\x00", "", " \t", "# table 0", "#readings", " # set 100 5"]
+
+
+def before_any_table():
+    # "Before the first, `set`, `get`, `clear` and `readings` are answered by" the error. What can not be read is said
+    # before that, and opens no table; nor does a table that is refused.
+    yield from written(WITHOUT_TABLE)
+    for line in [*unreadable_table_lines(), *unknown_table_lines()]:
+        yield line
+        if line.startswith("table "):
+            yield "readings"
+    for n in (7, 8, 23, 24, 25, 26, 31, 32, 255, 256, 2**32, 2**32 + 1, 2**63, MOST - 1, MOST):
+        yield f"table {n}"
+        yield from ["readings", "get 1001", "set 1001 5", "clear 1001", "get 1001 5"]
+    yield from written(WITHOUT_TABLE)
+
+
+def unreadable_on_table():
+    """The same lines while a table is open, and what the table holds after each."""
+    yield "table 0 20 -1 3 1250 19 0"
+    for line in [*unreadable_table_lines(), *unknown_table_lines()]:
+        yield from [line, "readings"]
+    yield from ["get 111", "get 511", "get 100"]
+
+
+READABLE_ON_TABLE = """
+    table 0x0; table 00; table 0x0000000000000001; table 000000000000000000000000000000000002; table 0x6; table 006
+    table 0 0x14 -1 0x13 5; table 0 020 -01 019 0005; table 0 20 -0; table 0 0x0000000000000014 -1 0x0000000000000000 -0
+    table 0 20 -0000000002147483648 3 00000000002147483647; table 0 20 -2147483648 0 2147483647 1 100001 2 100000 3 -2
+    table 18446744073709551615 0 0; table 0xffffffffffffffff 1 2147483647 0 -2147483648; table 0xFFFFFFFFFFFFFFFF 20 -1
+    table 0x19 0x0 -0; table 0x18 1 1; table 7 0 -1; table 7 1 -1; table 0 0 0; table 0 1 0; table 0 2 0 1 7
+    table 0 20 -1; set 100 -0; set 101 00005; set 0x3000000000000000 100000; set 0x2000000000000000 -0001
+    set 111 0000000000000000000000100000; set 111 -00000; set 111 0100001; set 511 2147483647; set 511 -2147483648
+    get 0x2000000000000000; get 0xb800000000000000; get 0xB800000000000000; clear 0x2000000000000000; get 100; clear 100
+    set 600 5; get 000; clear 711; set 0x0 0; get 0x1; clear 0xaBcDeF0123456789; get 1001; set 0x2000000000000001 5
+"""
+
+
+def readable_on_table():
+    """Leading zeros, either case, tabs and carriage returns, and lines of 1000 bytes and more."""
+    lines = written(READABLE_ON_TABLE)
+    lines += ["\ttable\t0\r", "  set   100\t7  ", "get 100\r", "\rget\r\t100", "set\t101\r100000", "clear\t100\r"]
+    lines += ["table 0\t20 -1\r3 \t7", "\treadings\t", "readings\r", "   readings   ", "\r \treadings"]
+    for length in (999, 1000, 1001, 1002, 5000):
+        lines += [filled("table 0 20 -1 4 44", length), "table 0 20 -1 5 " + "0" * (length - 18) + "55"]
+        lines += [" " * (length - len("set 200 9")) + "set 200 9", "set 201 " + "0" * (length - 9) + "8"]
+        lines += [filled("get 111", length), filled("clear 200", length, "\t"), filled("readings", length)]
+    for line in lines:
+        yield from [line, "readings"]
+
+
+def ice_desk_calls():
+    yield from (line for line, _ in ICE_DESK)
+
+
+def last_line():
+    # "The last line may lack its line end."
+    yield from ["table 1", "set 1001 1250", "get 1001"]
+
+
+# ==== The calls: a table of soundings, every place
+
+
+def mm_of(place):
+    """A reading for each place, no two the same: 7919 is a prime that does not divide 100001."""
+    return (7919 * place + 13) % 100_001
+
+
+def set_line(code, at):
+    return f"set {some_form(code, at)} {mm_of(place_of(code))}"
+
+
+def opened(n, length, fill, numbers=()):
+    """A table with a list: its length, what fills it, and then each (place, number)."""
+    return f"table {n} {length} {fill}" + "".join(f" {place} {number}" for place, number in numbers)
+
+
+def place_by_place(chance, n, order):
+    """Each place is set in this order, asked for, and cleared and asked for again in another order."""
+    often = [1, 1, 16, 128][n]
+    yield f"table {n}"
+    for at, code in enumerate(order):
+        yield set_line(code, at)
+        if at % often == 0:
+            yield "readings"
+    yield from (f"get {some_form(code, at)}" for at, code in enumerate(codes_of(n)))
+    yield "readings"
+    for at, code in enumerate(chance.sample(order, len(order))):
+        yield f"clear {some_form(code, at)}"
+        if n <= 2:
+            yield f"get {some_form(code, at + 1)}"
+        if at % often == 0:
+            yield "readings"
+    yield "readings"
+
+
+def every_place():
+    chance = random.Random(28)
+    for n in range(4):
+        if n <= 2:
+            yield from place_by_place(chance, n, codes_of(n))
+        yield from place_by_place(chance, n, chance.sample(codes_of(n), len(codes_of(n))))
+
+
+def every_place_of_four():
+    """Set in any order, and some thousands of readings in one line."""
+    chance = random.Random(29)
+    order = chance.sample(codes_of(4), len(codes_of(4)))
+    yield "table 4"
+    yield from (set_line(code, at) for at, code in enumerate(order))
+    yield "readings"
+    yield from (f"get {some_form(code, at)}" for at, code in enumerate(codes_of(4)[::8]))
+    yield from (f"clear {some_form(code, at)}" for at, code in enumerate(order[::30]))
+    yield "readings"
+
+
+def alone(n, place):
+    """A list with one reading, which is found again by its code, and the same by a call; the next code has none."""
+    code, beside = codes_of(n)[place], codes_of(n)[(place + 1) % len(codes_of(n))]
+    yield opened(n, len(codes_of(n)), NOTHING, [(place, mm_of(place))])
+    yield from [f"get {some_form(code, place)}", f"get {some_form(beside, place)}", "readings"]
+    yield from [f"table {n}", set_line(code, place + 1), "readings"]
+
+
+def lone_places():
+    for n in range(3):
+        for place in range(len(codes_of(n))):
+            yield from alone(n, place)
+
+
+def chosen_places(chance, n, many):
+    """The first and the last places of the table and of its sides, and any others, as many as are asked for."""
+    each = 4**n
+    ends = [place for side in range(20) for place in (side * each, side * each + each - 1)]
+    some = [0, 20 * each - 1] + chance.sample(ends[1:-1], many // 2) + chance.sample(range(20 * each), many)
+    return list(dict.fromkeys(some))[:many]
+
+
+def some_places():
+    chance = random.Random(30)
+    for n, many in ((3, 60), (4, 60), (5, 40), (6, 12)):
+        places = chosen_places(chance, n, many)
+        yield f"table {n}"
+        for place in places:
+            yield set_line(codes_of(n)[place], place)
+            for near in (place - 1, place, (place + 1) % (20 * 4**n)):
+                yield f"get {some_form(codes_of(n)[near], near)}"
+        yield "readings"
+        for at, place in enumerate(places):
+            yield f"clear {some_form(codes_of(n)[place], at)}"
+        yield "readings"
+        for place in places[: many // 4]:
+            yield from alone(n, place)
+
+
+# ==== The calls: a table of soundings, histories
+
+READING_BOUNDS = [-(2**31), -2, -1, 0, 1, 99_999, 100_000, 100_001, 2**31 - 1]
+HISTORY_LENGTHS = [3000, 3000, 2500, 1800, 1300, 700, 220]
+
+
+def sounding_line(call, word, mm):
+    return f"{call} {word}" + (f" {mm}" if call == "set" else "")
+
+
+def any_form(chance, word):
+    """Any 64-bit number, written as a code where it is one."""
+    return word_text(word) if code_refusals(word) else some_form(word, chance.randrange(4))
+
+
+def history_word(chance, n, pool):
+    """Mostly a code of the pool; else one of another degree, a broken one, or any 64 bits."""
+    code = chance.choice(pool)
+    kind = chance.randrange(40)
+    if kind == 0:
+        return parent_code(code) if n > 0 else child_code(code, chance.randrange(4))
+    if kind == 1:
+        return child_code(code, chance.randrange(4))
+    if kind == 2:
+        return random_code(chance, chance.randrange(DEEPEST + 1))
+    if kind in (3, 4):
+        return broken(code, chance.sample(CODE_BREAKS, kind - 2), chance)
+    return chance.getrandbits(64) if kind == 5 else code
+
+
+def history_reading(chance):
+    return chance.choice(READING_BOUNDS) if chance.randrange(4) == 0 else chance.randint(0, 100_000)
+
+
+def other_line(chance, word):
+    """A line that has nothing to do with the table."""
+    some = [f"check {word}", f"parent {word}", f"child {word} 2", "file 6 1 2 3", "list 1 0 0 1 8", "", "# set 100 5"]
+    return chance.choice(some + ["set 100", "readings all", "table", "table 7", "table 25", "close"])
+
+
+def history(chance, n, many):
+    """Many calls on one table, most of them on a few codes, so that each is set, cleared and asked for many times."""
+    pool = [codes_of(n)[place] for place in chosen_places(chance, n, min(40, 20 * 4**n))]
+    yield f"table {n}"
+    for mm in READING_BOUNDS:
+        yield from [f"set {triangle_text(pool[0])} {mm}", f"get {triangle_text(pool[0])}"]
+    for _ in range(many):
+        call = chance.choice(["set"] * 9 + ["get"] * 7 + ["clear"] * 4)
+        word = any_form(chance, history_word(chance, n, pool))
+        yield sounding_line(call, word, history_reading(chance))
+        if chance.randrange(25) == 0:
+            yield chance.choice(["readings", "readings", other_line(chance, word)])
+    yield "readings"
+
+
+def history_calls():
+    chance = random.Random(31)
+    for n, many in enumerate(HISTORY_LENGTHS):
+        yield from history(chance, n, many)
+
+
+# ==== The calls: a table of soundings, refusals
+
+OUTSIDE_READINGS = [x for x in READING_BOUNDS if not is_reading(x)]
+BAD_READINGS = [-2, 100_001, -(2**31), 2**31 - 1, -3, -100_000, 100_002, 2**16 + 100_000, -(2**16) + 1]
+
+# The rows of document 01's table and of 02's that each call can give. A degree, "as field or argument", and a word are
+# given to all three, with a table and its list; only set is given a reading.
+SOUNDING_NUMBERS = {
+    "set": [1, 2, 3, 4, 20, 21, 22, 23],
+    "clear": [1, 2, 3, 4, 20, 22, 23],
+    "get": [1, 2, 3, 4, 20, 22, 23],
+}
+
+
+def good_trial(chance, n):
+    """A table with some readings, a code and a reading: none of the three calls is refused."""
+    length = 20 * 4**n
+    readings = {place: chance.randint(0, 100_000) for place in chance.sample(range(length), 3)}
+    word = codes_of(n)[chance.choice([*readings, chance.randrange(length)])]
+    return SimpleNamespace(n=n, length=length, numbers=readings, word=word, mm=chance.choice([0, 7, 100_000]))
+
+
+def on_word(break_one):
+    def spoil(trial, chance):
+        trial.word = break_one(trial.word, chance)
+
+    return spoil
+
+
+def spoil_code_degree(trial, chance):
+    trial.word = random_code(chance, chance.choice([m for m in range(DEEPEST) if m != trial.n]))
+
+
+def spoil_deep_table(trial, chance):
+    """A table degree of 7 to 23, and a code of that degree. No list that the console opens is long enough for it."""
+    trial.n = chance.randrange(TABLE_DEEPEST + 1, DEEPEST)
+    trial.word = random_code(chance, trial.n)
+
+
+def spoil_table_degree(trial, chance):
+    trial.n = chance.choice([25, 26, 31, 2**32 + trial.n, 2**63, MOST])
+
+
+def spoil_reading(trial, chance):
+    trial.mm = chance.choice(OUTSIDE_READINGS)
+
+
+def set_length(trial, length):
+    trial.length = length
+    trial.numbers = {place: number for place, number in trial.numbers.items() if place < length}
+
+
+def spoil_short(trial, chance):
+    set_length(trial, trial.length - 1)
+
+
+def spoil_long(trial, chance):
+    set_length(trial, trial.length + 1)
+
+
+def spoil_length(trial, chance):
+    set_length(trial, chance.choice([20 * 4**m for m in range(5) if 20 * 4**m != trial.length]))
+
+
+def spoil_numbers(trial, chance):
+    """One bad number or several, in places of readings or others."""
+    for place in chance.sample(range(trial.length), chance.choice([1, 1, 2, 5])):
+        trial.numbers[place] = chance.choice(BAD_READINGS)
+
+
+# The ways to make each refusal hold. 20 comes first since it takes another word, which 1 to 4 then spoil; 23 comes last
+# since its places are those of a list whose length is fixed.
+SPOIL_WORD_DEGREE = on_word(break_degree)
+WAYS = {
+    20: [spoil_code_degree, spoil_deep_table],
+    1: [SPOIL_WORD_DEGREE, spoil_table_degree],
+    2: [on_word(break_a)],
+    3: [on_word(break_digit)],
+    4: [on_word(break_zero_bits), on_word(break_code_number)],
+    21: [spoil_reading],
+    22: [spoil_short, spoil_long, spoil_length],
+    23: [spoil_numbers],
+}
+
+
+def ways_to(numbers):
+    """Every way to make all the numbers hold. In a word with a degree above 24 no digit is beyond it, for 3."""
+    ways = itertools.product(*(WAYS[no] for no in WAYS if no in numbers))
+    return [some for some in ways if not (3 in numbers and SPOIL_WORD_DEGREE in some)]
+
+
+def trial_calls(call, numbers, trial):
+    """The call on its table, and what the table holds before and after it. The numbers hold, and the earliest of them
+    is answered."""
+    line = opened(trial.n, trial.length, NOTHING, trial.numbers.items())
+    table = Table(*read_table(parts_of(line)[1:]))
+    held = sounding_refusals(table, trial.word) | when(21, call == "set" and not is_reading(trial.mm))
+    must(set(numbers) <= held and first(held) == first(numbers), "meant to hold", call, numbers, held, trial)
+    yield from [line, "readings", sounding_line(call, word_text(trial.word), trial.mm), "readings"]
+
+
+def number_sets(numbers):
+    """None, each alone, each two, all of them, and all from each one on."""
+    yield from alone_and_in_pairs(numbers)
+    yield from (tuple(numbers[k:]) for k in range(len(numbers) - 2))
+
+
+def table_refusal_calls():
+    chance = random.Random(32)
+    for call, can_hold in SOUNDING_NUMBERS.items():
+        for numbers in number_sets(can_hold):
+            for ways in ways_to(numbers):
+                for n in (0, chance.choice([1, 1, 1, 2, 2, 3])):
+                    trial = good_trial(chance, n)
+                    for spoil in ways:
+                        spoil(trial, chance)
+                    yield from trial_calls(call, numbers, trial)
+
+
+# ==== The calls: a table of soundings, other lists
+
+
+def three_calls(chance, codes):
+    """Get, set and clear, for each code."""
+    for code in codes:
+        for call in ("get", "set", "clear"):
+            yield sounding_line(call, any_form(chance, code), chance.choice([0, 1, 1250, 100_000]))
+
+
+def asked_for(chance, codes):
+    """The three calls for each code, and then the whole table."""
+    yield from three_calls(chance, codes)
+    yield "readings"
+
+
+def bad_places_of(chance, n):
+    """A code, and each place of the list that may matter to it: its own, those beside it, the first and the last."""
+    place = chance.randrange(2, 20 * 4**n - 2)
+    return codes_of(n)[place], [0, place - 1, place, place + 1, 20 * 4**n - 1]
+
+
+def one_bad_number(chance, n, values):
+    code, places = bad_places_of(chance, n)
+    for value in values:
+        for place in places:
+            fill = chance.choice([NOTHING, NOTHING, 0, 777] if n <= 1 else [NOTHING])
+            yield opened(n, 20 * 4**n, fill, [(place, value)])
+            yield from asked_for(chance, [code])
+
+
+def several_bad_numbers(chance, n):
+    """In any order in the line, some of them between readings."""
+    length = 20 * 4**n
+    numbers = [(place, chance.choice(BAD_READINGS)) for place in chance.sample(range(length), chance.randint(2, 6))]
+    numbers += [(place, chance.randint(0, 100_000)) for place in chance.sample(range(length), 3)]
+    yield opened(n, length, NOTHING, chance.sample(numbers, len(numbers)))
+    yield from asked_for(chance, chance.sample(codes_of(n), 2))
+
+
+def bad_fill(chance, n, value):
+    """All places are bad; then all but the first, all but the first and second, and all but the last."""
+    length = 20 * 4**n
+    for good in ([], [0], [0, 1], [length - 1]):
+        yield opened(n, length, value, [(place, chance.choice([NOTHING, 0, 100_000])) for place in good])
+        yield from asked_for(chance, [codes_of(n)[chance.randrange(length)]])
+
+
+def bad_number_calls():
+    chance = random.Random(33)
+    for n in range(TABLE_DEEPEST + 1):
+        values = BAD_READINGS if n <= 1 else BAD_READINGS[:4] if n <= 3 else [chance.choice(BAD_READINGS)]
+        yield from one_bad_number(chance, n, values)
+        for _ in range(12 if n <= 3 else 2):
+            yield from several_bad_numbers(chance, n)
+        for value in BAD_READINGS if n == 0 else BAD_READINGS[:4] if n == 1 else []:
+            yield from bad_fill(chance, n, value)
+    for n in range(3):
+        for place in range(20 * 4**n):
+            yield opened(n, 20 * 4**n, chance.choice([NOTHING, 5]), [(place, chance.choice(BAD_READINGS))])
+            yield sounding_line(chance.choice(["get", "set", "clear"]), triangle_text(chance.choice(codes_of(n))), 5)
+
+
+def other_lengths():
+    """One too short and one too long, none and one, another degree's, the longest; with and without a bad number, or
+    filled with them. Then the right one."""
+    chance = random.Random(34)
+    for n in range(TABLE_DEEPEST + 1):
+        right = 20 * 4**n
+        lengths = [0, 1, right - 1, right + 1, right // 4, right * 4, LONGEST_TABLE, 81920]
+        for length in dict.fromkeys(x for x in lengths if x <= LONGEST_TABLE and x != right):
+            numbers = chance.choice([[], [(length - 1, 1250)], [(0, -2)], [(length // 2, 100_001)]]) if length else []
+            yield opened(n, length, chance.choice([NOTHING, 0, 100_000, -2]), numbers)
+            yield from asked_for(chance, [codes_of(n)[0], chance.choice(codes_of(n))][: 2 if n <= 4 else 1])
+        yield opened(n, right, NOTHING, [(right - 1, 1250)])
+        yield from asked_for(chance, [codes_of(n)[0], codes_of(n)[-1]])
+
+
+ABOVE_TABLES = [7, 8, 15, 23, 24]
+ABOVE_ALL = [25, 26, 31, 32, 33, 255, 256, 258, 2**16 + 1, 2**31, 2**32, 2**32 + 1, 2**32 + 6, 2**63, MOST - 1, MOST]
+
+
+def with_degree(code, n):
+    """The code with another number in the field of its degree."""
+    return code & ~(31 << 54) | (n & 31) << 54
+
+
+def other_degrees():
+    """Codes of the table's degree, as far as a word's field goes, and of another one."""
+    chance = random.Random(35)
+    for n in ABOVE_TABLES + ABOVE_ALL:
+        for length in (0, 1, 20, 80) + ((81920, LONGEST_TABLE) if n in (7, 24, 25, MOST) else ()):
+            fill = chance.choice([NOTHING, 0, 100_000, -2, 2**31 - 1])
+            yield opened(n, length, fill, [(length - 1, 100_001)] if length == 80 else [])
+            like = random_code(chance, n) if n <= DEEPEST else with_degree(random_code(chance, 3), n) & ~(2**54 - 1)
+            yield from asked_for(chance, [like, random_code(chance, chance.randrange(TABLE_DEEPEST + 1))])
+
+
+def filled_line(n, length, fill, numbers):
+    """As many of the places and numbers as a line of 1000 bytes has room for."""
+    line = opened(n, length, fill)
+    for place, number in numbers:
+        longer = f"{line} {place} {number}"
+        if len(longer) > 1000:
+            return line
+        line = longer
+    return line
+
+
+def many_numbers(chance, length, values):
+    return [(chance.randrange(length), chance.choice(values)) for _ in range(250)]
+
+
+def many_places():
+    # "of two for one PLACE the later holds"
+    chance = random.Random(36)
+    for n in range(TABLE_DEEPEST + 1):
+        length = 20 * 4**n
+        for values in ([0, 7, 100_000, NOTHING], [0, NOTHING, 5, 6, 7, 8, -2], [-2, 100_001, 3]):
+            yield filled_line(n, length, NOTHING, many_numbers(chance, length, values))
+            yield "readings"
+            yield from asked_for(chance, [codes_of(n)[chance.choice([0, 1, 2, 3, length - 1])]])
+    for fill, one, two in itertools.product((NOTHING, 4), (7, -2, NOTHING, 100_001), (7, -2, NOTHING, 100_001)):
+        yield opened(0, 20, fill, [(5, one), (5, two)])
+        yield from ["get 201", "readings"]
+
+
+def staying_calls():
+    """Tables that are refused or can not be read, while another one stays open as it is, good or bad; and a fresh table
+    in place of one with readings."""
+    chance = random.Random(37)
+    codes = [read_triangle("100"), read_triangle("1001")]
+    for line in ("table 1 80 -1 1 1250", "table 0 20 -1 3 -2", "table 0 19 5", "table 7 3 500", "table 25 20 -1"):
+        yield line
+        for n in ABOVE_TABLES + ABOVE_ALL:
+            yield from [f"table {n}", "readings", f"get {triangle_text(chance.choice(codes))}"]
+        for other in written(UNREADABLE_ON_TABLE)[:12] + [filled("table 0 20 -1", 1001)]:
+            yield from [other, "readings"]
+        yield from asked_for(chance, codes)
+    for n in range(TABLE_DEEPEST + 1):
+        yield from [f"table {n}", set_line(codes_of(n)[-1], n), f"get {triangle_text(codes_of(n)[-1])}"]
+        yield from [f"table {n}", "readings", f"get {triangle_text(codes_of(n)[-1])}"]
+
+
+def full_tables():
+    """A reading, or a bad number, in every place of a table of degree 5 or 6."""
+    chance = random.Random(38)
+    yield from ["table 5 20480 1", "readings", "table 6 81920 0", "readings"]
+    for place in chosen_places(chance, 6, 30):
+        code = codes_of(6)[place]
+        yield chance.choice([f"clear {any_form(chance, code)}", set_line(code, place)])
+        yield from (f"get {any_form(chance, codes_of(6)[near])}" for near in (place - 1, place))
+    yield "readings"
+    yield from ["table 6 81920 -2", "readings"]
+    lists = [(-2, []), (-2, [(81919, NOTHING)]), (-2, [(0, 0), (1, NOTHING), (2, 100_000)]), (0, [(81919, -2)])]
+    lists += [(NOTHING, [(81919, 100_001)]), (100_000, [(40960, 2**31 - 1)])]
+    for fill, numbers in lists:
+        yield opened(6, 81920, fill, numbers)
+        yield from three_calls(chance, [codes_of(6)[0], codes_of(6)[40960], codes_of(6)[-1]])
+
+
+# ==== Internal checks of what the calls on a table are answered
+
+TABLE_LINE = re.compile(r"[ \t\r]*(table|set|clear|get|readings)(?![^ \t\r])")
+UNREAD = ("error: write it as ", "error: a line has ")
+
+
+class Soundings:
+    """An open table as "a simple map from code to reading or nothing". No call changes what is wrong with its list."""
+
+    def __init__(self, n, numbers=None):
+        self.n = n
+        self.map = {}
+        self.bad = [place for place, x in enumerate(numbers or []) if x < -1 or x > 100_000]
+        self.right_length = numbers is None or (n <= TABLE_DEEPEST and len(numbers) == len(codes_of(n)))
+        if numbers and self.right_length:
+            self.map = {code: x for code, x in zip(codes_of(n), numbers) if x != -1}
+
+    def own_refusals(self):
+        return when(1, self.n > 24) | when(20, 7 <= self.n <= 24) | when(22, not self.right_length)
+
+    def refusals(self, code, mm):
+        wrong = when(20, degree_of(code) != self.n) | when(21, mm not in range(100_001)) | when(23, self.bad)
+        return code_refusals(code) | self.own_refusals() | wrong
+
+    def answer(self, call, code, mm):
+        if call == "get":
+            return f"{self.map[code]} mm" if code in self.map else "no reading"
+        if call == "set":
+            self.map[code] = mm
+        else:
+            self.map.pop(code, None)
+        return "ok"
+
+    def readings(self):
+        count = sum(x in range(100_001) for x in self.map.values())
+        shown = [place_text(code, x) for code, x in sorted(self.map.items())]
+        return readings_text(count, shown)
+
+
+Sounded = namedtuple("Sounded", "call n no held code mm bad")
+
+
+def refused_text(no, bad):
+    return f"refused {no}: {REFUSALS[no]}" + (f"; place {min(bad)}" if no == 23 else "")
+
+
+def watched_call(table, call, words, text):
+    """A call on the open table, compared with the map's answer."""
+    code, mm = (read_code(words[0]) if words else 0), (read_signed(words[1]) if call == "set" else 0)
+    held = table.own_refusals() if call == "readings" else table.refusals(code, mm)
+    no = first(held)
+    if no:
+        found = refused_text(no, table.bad)
+    else:
+        found = table.readings() if call == "readings" else table.answer(call, code, mm)
+    must(text == found, "as the map answers", call, words, text[:200], found[:200])
+    return Sounded(call, table.n, no, frozenset(held), code, mm, table.bad[:1])
+
+
+def watched_calls(calls, answers):
+    """Every readable call on a table, with what it was answered."""
+    table = None
+    for line, text in zip(calls, answers):
+        if TABLE_LINE.match(line) and not text.startswith(UNREAD):
+            call, *words = parts_of(line)
+            if call != "table":
+                must((text == NO_TABLE) == (table is None), "no table is open", line)
+                if table is not None:
+                    yield watched_call(table, call, words, text)
+            else:
+                n, *numbers = read_table(words)
+                held = when(1, n > 24) | when(20, 7 <= n <= 24) if not numbers else set()
+                must(text.startswith(f"refused {first(held)}: " if held else f"degree {n}, "), "opened", line, text)
+                table = table if held else Soundings(n, *numbers)
+                yield Sounded(call, n, first(held), frozenset(held), 0, 0, [])
+
+
+def check_sounding_numbers(call, numbers, seen):
+    """Each refusal that the call can give is given, and no other. Each is seen alone, and each two hold at once and the
+    earlier one is answered; all without a third, but for 1: where that holds the code's degree is not the table's, for
+    20, or the list is too short for the table's degree, for 22."""
+    must({x.no for x in seen} == {0, *numbers}, "just these refusals, and answers", call)
+    held = {x.held for x in seen}
+    for some in [set(x) for x in alone_and_in_pairs(numbers) if x]:
+        must(any(x.held >= some and x.no == first(some) for x in seen), "at once", call, some)
+        if 1 not in some:
+            must(some in held, "without a third", call, some)
+        elif some - {1}:
+            must(some in held or some | {20} in held or some | {20, 22} in held, "with these alone", call, some)
+    must(all(x & {20, 22} for x in held if 1 in x), "1 is not alone", call)
+
+
+def check_bad_places(call, seen):
+    """23 is answered at every degree, with the first place, the last, the code's own, and one on either side of it."""
+    found = set()
+    for x in (x for x in seen if x.no == 23):
+        (bad,), own = x.bad, place_of(x.code)
+        found |= {(x.n, "first", bad == 0), (x.n, "last", bad == 20 * 4**x.n - 1)}
+        found.add((x.n, "beside", (bad > own) - (bad < own)))
+    for n in range(TABLE_DEEPEST + 1):
+        must({(n, "first", True), (n, "last", True)} <= found, "the first and the last", call, n)
+        must({(n, "beside", side) for side in (-1, 0, 1)} <= found, "its own, before and after", call, n)
+
+
+def check_sounded_codes(seen):
+    """Every place to degree 4 is set, and to degree 3 asked for and cleared; each call is answered at every degree; and
+    each bound of the readings is tried at every degree."""
+    answered = {(x.call, x.code) for x in seen if x.no == 0}
+    for n in range(TABLE_DEEPEST + 1):
+        for call in SOUNDING_NUMBERS:
+            if n <= (4 if call == "set" else 3):
+                must(all((call, code) in answered for code in codes_of(n)), "every place", call, n)
+            must(any(x.call == call and x.n == n and x.no == 0 for x in seen), "answered", call, n)
+        tried = {x.mm: x.no for x in seen if x.call == "set" and x.n == n and x.held <= {21}}
+        must(all(tried.get(mm) == (0 if is_reading(mm) else 21) for mm in READING_BOUNDS), "the bounds", n)
+
+
+def check_soundings(calls, answers):
+    # "Any sequence of calls answers as a simple map from code to reading or nothing."
+    seen = list(watched_calls(calls, answers))
+    for call, numbers in SOUNDING_NUMBERS.items():
+        some = [x for x in seen if x.call == call]
+        check_sounding_numbers(call, numbers, some)
+        check_bad_places(call, some)
+    check_sounded_codes(seen)
+    must({x.no for x in seen if x.call == "table"} == {0, 1, 20}, "tables refused")
+    must({x.no for x in seen if x.call == "readings"} == {0, 1, 20, 22}, "readings refused")
 
 
 # ==== Document 02, 2026-01, "Plotter host in C": the answers
@@ -2433,6 +3400,23 @@ SECTIONS = {
     "long lines": long_lines,
     "opposite corners, degrees 6 to 24": opposite_calls,
     "t close to a half or a whole number": close_calls,
+    "the last line without a table": last_without_table,
+    "no table is open": before_any_table,
+    "unreadable lines on a table": unreadable_on_table,
+    "readable lines on a table": readable_on_table,
+    "a day at the ice desk": ice_desk_calls,
+    "every place of the tables of degree 0 to 3": every_place,
+    "every place of a table of degree 4": every_place_of_four,
+    "one place alone": lone_places,
+    "some places of the tables of degree 3 to 6": some_places,
+    "histories": history_calls,
+    "refusals of a table, alone and in pairs": table_refusal_calls,
+    "bad numbers": bad_number_calls,
+    "other lengths": other_lengths,
+    "other degrees": other_degrees,
+    "many places in one line": many_places,
+    "a table that stays open": staying_calls,
+    "full tables": full_tables,
     "the last line": last_line,
 }
 
@@ -2456,8 +3440,9 @@ def calls_of(sections):
 def write_files(calls_path, answers_path):
     internal_checks()
     calls = calls_of(SECTIONS)
-    answers = [answer(line) for line in calls]
+    answers = answers_to(calls)
     check_answers(calls, answers)
+    check_soundings(calls, answers)
     write_bytes(calls_path, "\n".join(calls))
     write_bytes(answers_path, "".join(text + "\n" for text in answers))
 

@@ -9,7 +9,7 @@ use native.Mathlib.Omega.{arith}
 use borrow.Author.Tests.{eqb-false}
 use lib.Dec.{eqb}
 use lib.ListN.{length}
-use Rattle.frame.specs.Answers.{Answer, Known, Listed, over}
+use Rattle.frame.specs.Answers.{Answer, Known, settled, Listed, over}
 use Rattle.frame.specs.Promises.{Keeps, Says, _gives_}
 
 -- a call answers or refuses
@@ -48,6 +48,12 @@ module _ {A : Type 0} (f : ℕ) (v : A) (zeros : ℕ → A) where
 
   pub known-some : (r : A) × Known f v zeros r
   known-some = answer-some f (λ s. s ≡ v) zeros (λ z. (v, refl))
+
+-- which is the settled one
+pub known-settled : {A : Type 0} (f : ℕ) (v : A) (zeros : ℕ → A) (r : A) → Known f v zeros r
+    → r ≡ settled f v zeros
+known-settled zero v zeros r k = k .answered refl
+known-settled (suc f) v zeros r k = k .refused (λ e. omega (arith, e))
 
 -- a count with its list, where the list is one
 pub listed-one : {A B : Type 0} {Good : List B → Type 0} {counted : ℕ → A} {out : List B} {x y : A × List B}

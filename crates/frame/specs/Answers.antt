@@ -1,6 +1,6 @@
 -- Document 01, 'Refusal numbers': what a call answers, and how it leaves lent memory. Assumes nothing.
 use mathlib.Core.Path.{_≡_}
-use Prim.Native.Nat.{ℕ}
+use Prim.Native.Nat.{ℕ, zero, suc}
 use mathlib.Core.List.{List, _++_}
 use lib.ListN.{length, drop}
 
@@ -12,6 +12,11 @@ pub record Answer {A : Type 0} (f : ℕ) (Good : A → Type 0) (zeros : ℕ → 
 -- The same where what is answered is one value.
 abbrev pub Known : {A : Type 0} → (f : ℕ) (value : A) (zeros : ℕ → A) (r : A) → Type 0
 Known f v zeros r = Answer f (λ s. s ≡ v) zeros r
+
+-- The one answer that `Known` allows.
+abbrev pub settled : {A : Type 0} → (f : ℕ) (value : A) (zeros : ℕ → A) → A
+settled zero v zeros = v
+settled (suc f) v zeros = zeros (suc f)
 
 -- "lent memory keeps its contents": the same of an answer together with lent memory, which comes as `old` and is left
 -- as `new`. The memory is of any type: a list, or several.

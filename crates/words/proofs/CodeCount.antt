@@ -25,7 +25,7 @@ four-pow (suc n) =
     ap (λ (m : ℕ). 4 ^ m) s ∙ pow-add 4 n 1 ∙ ap (λ (x : ℕ). x * 4) (four-pow n) ∙ sym (pow-add 2 (2 * n) 2)
     ∙ ap (λ (m : ℕ). 2 ^ m) (sym e)
 
-four-pos : (n : ℕ) → 0 < 4 ^ n
+pub four-pos : (n : ℕ) → 0 < 4 ^ n
 four-pos n = rw (four-pow n) (pow-pos (2 * n))
 
 module _ (n i : ℕ) (n≤ : n ≤ 24) where
@@ -59,7 +59,7 @@ module _ (n i : ℕ) (n≤ : n ≤ 24) where
 
 -- each code has a place
 module _ {n : ℕ} {t : TriangleCode} (c : IsCode n t) where
-  place-is : placeOf t ≡ (sideOf (t .0) - 4) * 4 ^ n + path (digits (t .0) n)
+  pub place-is : placeOf t ≡ (sideOf (t .0) - 4) * 4 ^ n + path (digits (t .0) n)
   unfolding placeOf
   place-is = ap (λ (m : ℕ). (sideOf (t .0) - 4) * 4 ^ m + path (digits (t .0) m)) (c .degreeIs)
 

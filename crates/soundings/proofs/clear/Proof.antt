@@ -1,0 +1,16 @@
+-- A deed. Assumes nothing.
+use borrow.Author.Needs.{needs}
+use Rattle.soundings.proofs.clear.Statement.{statement}
+use Rattle.soundings.proofs.clear.Tie as tie
+
+act-requires : tie.Need-act-requires
+act-requires c κs = search needs
+
+same-length : tie.Need-same-length
+same-length c = search needs
+
+returns : tie.Need-returns
+returns c = c .before .act .ensures
+
+pub clear-spec : {M : Type 1} → statement M
+clear-spec = tie.close (tie.spec act-requires same-length returns)

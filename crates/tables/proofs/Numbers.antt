@@ -1,0 +1,76 @@
+-- The numbers of a table, by the tests that a program makes. Assumes nothing.
+use mathlib.Core.Path.{_≡_, refl, sym, ap, _∙_}
+use mathlib.Core.Bool.{Bool, true, false, true≢false}
+use Prim.Native.Nat.{ℕ, zero, suc}
+use native.Mathlib.Omega.{arith}
+use borrow.Author.Tests.{lt-ltb, le-ltb, leb-true, leb-false}
+use lib.Dec.{ltb, leb, eqb·suc-zero}
+use lib.IntN.{ℤ, pos, negsuc}
+use lib.Signed.{ltZ, leZ}
+use Rattle.tables.specs.Tables.{isReading, none, isBad, said, number}
+use Rattle.tables.specs.declared.Sounding.{Sounding}
+use Rattle.tables.specs.declared.Sounding.the-variants.{Nothing, Reading}
+
+-- ---- bad: below -1, or above 100,000
+
+pub bad-low : (x : ℤ) → ltZ x (negsuc 0) ≡ true → isBad x ≡ true
+bad-low (pos n) e = absurd (true≢false (sym e))
+bad-low (negsuc zero) e = absurd (true≢false (sym e))
+bad-low (negsuc (suc n)) e = rw (eqb·suc-zero n)
+
+pub bad-else : (x : ℤ) → ltZ x (negsuc 0) ≡ false → isBad x ≡ ltZ (pos 100000) x
+bad-else (pos n) e = go (leb n 100000) refl
+  where
+    go : (b : Bool) → leb n 100000 ≡ b → isBad (pos n) ≡ ltb 100000 n
+    go true b = rw b (sym (le-ltb 100000 n (leb-true n 100000 b)))
+    go false b = rw b (sym (lt-ltb 100000 n (leb-false n 100000 b)))
+bad-else (negsuc zero) e = refl
+bad-else (negsuc (suc n)) e = absurd (true≢false (sym (lt-ltb 0 (suc n) (omega arith)) ∙ e))
+
+-- ---- a reading: not below 0, and not above 100,000
+
+pub reading-low : (x : ℤ) → ltZ x (pos 0) ≡ true → isReading x ≡ false
+reading-low (pos n) e = absurd (true≢false (sym e ∙ le-ltb n 0 (omega arith)))
+reading-low (negsuc n) e = refl
+
+pub reading-else : (x : ℤ) → ltZ x (pos 0) ≡ false → leZ x (pos 100000) ≡ isReading x
+reading-else (pos n) e = refl
+reading-else (negsuc n) e = absurd (true≢false e)
+
+pub reading-good : (x : ℤ) → isReading x ≡ true → isBad x ≡ false
+reading-good x e = rw e
+
+-- ---- what a number says
+
+pub said-nothing : (x : ℤ) → ltZ x (pos 0) ≡ true → said x ≡ Nothing
+said-nothing (pos n) e = absurd (true≢false (sym e ∙ le-ltb n 0 (omega arith)))
+said-nothing (negsuc n) e = refl
+
+pub said-reading : (x : ℤ) → ltZ x (pos 0) ≡ false → said x ≡ Reading x
+said-reading (pos n) e = refl
+said-reading (negsuc n) e = absurd (true≢false e)
+
+pub said-is : (x : ℤ) → isReading x ≡ true → said x ≡ Reading x
+said-is (pos r) e = refl
+said-is (negsuc r) e = absurd (true≢false (sym e))
+
+-- a number that is not bad is that of what it says, and is a reading where it says one
+pub number-said : (x : ℤ) → isBad x ≡ false → number (said x) ≡ x
+number-said (pos n) e = refl
+number-said (negsuc zero) e = refl
+number-said (negsuc (suc n)) e = absurd (true≢false (sym (rw (eqb·suc-zero n)) ∙ e))
+
+abbrev isThere : Sounding → Bool
+isThere Nothing = false
+isThere (Reading x) = true
+
+pub no-reading : {s : Sounding} {x : ℤ} → s ≡ Nothing → s ≡ Reading x → ⊥
+no-reading e q = true≢false (sym (ap isThere q) ∙ ap isThere e)
+
+pub reading-said : (x y : ℤ) → isBad y ≡ false → said y ≡ Reading x → isReading x ≡ true
+reading-said x (pos n) e q = ap isReading (sym (ap number q)) ∙ go (leb n 100000) refl
+  where
+    go : (b : Bool) → leb n 100000 ≡ b → leb n 100000 ≡ true
+    go true b = b
+    go false b = absurd (true≢false (sym (rw b) ∙ e))
+reading-said x (negsuc n) e q = absurd (no-reading refl q)

@@ -1,0 +1,159 @@
+-- The refusals of a table's calls, test by test, and what an answered call knows. Assumes nothing.
+use mathlib.Core.Path.{_≡_, _∙_, refl, sym, ap}
+use mathlib.Core.Bool.{Bool, true, false, not}
+use mathlib.Core.List.{List, [], _∷_, _++_}
+use Prim.Native.Nat.{ℕ, _≤_, _<_}
+use native.Mathlib.Omega.{arith}
+use borrow.Author.Tests.{lt-ltb, le-ltb, eq-eqb, ne-eqb, ltb-false, eqb-true, not-false}
+use lib.Dec.{T, ltb, eqb}
+use lib.IntN.{ℤ}
+use lib.ListN.{length}
+use Rattle.frame.specs.Refusals.{_either_, Row, _when_, firstOf, order}
+use Rattle.frame.proofs.Refusing.{_or_, alone, numbers, inOrder, in-turn, turn-append, refusal-append, not-given}
+use Rattle.frame.proofs.Refusing.{or-first, or-next, or-zero}
+use Rattle.frame.proofs.Refusing.{here, next, nothing, refuse-first, refuse-before, refuse-after, NoneSo, none-so, none-after}
+use Rattle.frame.proofs.Refusing.{either-false}
+use Rattle.words.specs.Words.{degreeOf}
+use Rattle.words.specs.Refusals.{codeRows, checkCode, IsCode}
+use Rattle.words.specs.Counting.{placeOf}
+use Rattle.words.specs.declared.TriangleCode.{TriangleCode}
+use Rattle.words.proofs.CodeCount.{place-below}
+use Rattle.tables.specs.Tables.{places, anyBad}
+use Rattle.tables.specs.Refusals.{tableOrder, placeRows, outOfRange, readingRows, tableRows, refuseGet, refuseDeed}
+use Rattle.tables.specs.declared.Deed.{Deed}
+
+-- where the rows before refuse nothing, the refusal is that of the rest
+pub refuse-rest : (os os′ os″ : List ℕ) (xs ys : List Row) → T (inOrder os (numbers xs)) → T (inOrder os′ (numbers ys))
+    → T (inOrder os″ (numbers (xs ++ ys))) → firstOf os xs ≡ 0 → firstOf os′ ys ≡ firstOf os″ (xs ++ ys)
+refuse-rest os os′ os″ xs ys t u v z = or-next _ _ z (in-turn os′ ys u) ∙ sym (refusal-append os os″ xs ys t v)
+
+-- ---- of the degree and the code
+
+module _ (n : ℕ) (t : TriangleCode) where
+  abbrev wrongDegree : Bool
+  wrongDegree = ltb 6 n either not (eqb (degreeOf (t .0)) n)
+
+  in-three : firstOf tableOrder (placeRows n t)
+      ≡ alone (1 when ltb 24 n) or checkCode t or alone (20 when wrongDegree) or 0
+  unfolding checkCode
+  in-three =
+      in-turn tableOrder (placeRows n t) tt
+      ∙ ap (λ (k : ℕ). alone (1 when ltb 24 n) or k)
+      (turn-append (codeRows t) (20 when wrongDegree ∷ [])
+      ∙ ap (λ (k : ℕ). k or alone (20 when wrongDegree) or 0) (sym (in-turn order (codeRows t) tt)))
+
+  pub too-deep : 24 < n → 1 ≡ firstOf tableOrder (placeRows n t)
+  too-deep l = refuse-first tableOrder (placeRows n t) tt (here (lt-ltb 24 n l))
+
+  module _ (l : n ≤ 24) where
+    in-two : firstOf tableOrder (placeRows n t) ≡ checkCode t or alone (20 when wrongDegree) or 0
+    in-two = in-three ∙ rw (le-ltb 24 n l) refl
+
+    pub no-code : {f : ℕ} → f ≡ checkCode t → (f ≡ 0 → ⊥) → f ≡ firstOf tableOrder (placeRows n t)
+    no-code e some = or-first _ _ e some ∙ sym in-two
+
+    module _ (z : checkCode t ≡ 0) where
+      last-row : firstOf tableOrder (placeRows n t) ≡ alone (20 when wrongDegree) or 0
+      last-row = in-two ∙ sym (or-next (checkCode t) _ z refl)
+
+      pub too-large : 6 < n → 20 ≡ firstOf tableOrder (placeRows n t)
+      too-large m = sym (last-row ∙ rw (lt-ltb 6 n m) refl)
+
+      module _ (m : n ≤ 6) where
+        pub other-degree : (degreeOf (t .0) ≡ n → ⊥) → 20 ≡ firstOf tableOrder (placeRows n t)
+        other-degree d = sym (last-row ∙ rw (le-ltb 6 n m, ne-eqb (degreeOf (t .0)) n d) refl)
+
+        pub in-place : degreeOf (t .0) ≡ n → 0 ≡ firstOf tableOrder (placeRows n t)
+        in-place d = sym (last-row ∙ rw (le-ltb 6 n m, eq-eqb (degreeOf (t .0)) n d) refl)
+
+  pub place-not-23 : firstOf tableOrder (placeRows n t) ≡ 23 → ⊥
+  place-not-23 = not-given tableOrder (placeRows n t) 22 tt tt
+
+  -- where there is none, the word is a code of the table's degree
+  pub place-good : firstOf tableOrder (placeRows n t) ≡ 0 → (n ≤ 6) × IsCode n t
+  place-good e =
+      let z = or-zero (alone (1 when ltb 24 n)) (checkCode t or alone (20 when wrongDegree) or 0) (sym in-three ∙ e) in
+      let y = or-zero (checkCode t) (alone (20 when wrongDegree) or 0) (z .1) in
+      let d = either-false (ltb 6 n) (not (eqb (degreeOf (t .0)) n)) .0 (none wrongDegree (y .1)) in
+      (ltb-false 6 n (d .0), record { passes = y .0; degreeIs = eqb-true _ _ (not-false _ (d .1)) })
+    where
+      none : (b : Bool) → alone (20 when b) or 0 ≡ 0 → b ≡ false
+      none true q = absurd (omega (arith, q))
+      none false q = refl
+
+-- ---- of the list
+
+module _ (n : ℕ) (list : List ℤ) where
+  pub wrong-length : (length list ≡ places n → ⊥) → 22 ≡ firstOf tableOrder (tableRows n list)
+  wrong-length d = refuse-first tableOrder (tableRows n list) tt (here (rw (ne-eqb (length list) (places n) d) refl))
+
+  module _ (l : length list ≡ places n) where
+    long : not (eqb (length list) (places n)) ≡ false
+    long = rw (eq-eqb (length list) (places n) l) refl
+
+    pub bad-list : anyBad list ≡ true → 23 ≡ firstOf tableOrder (tableRows n list)
+    bad-list b = refuse-first tableOrder (tableRows n list) tt (next long (here b))
+
+    pub good-list : anyBad list ≡ false → 0 ≡ firstOf tableOrder (tableRows n list)
+    good-list b = refuse-first tableOrder (tableRows n list) tt (next long (next b nothing))
+
+  -- where there is none, the list is as long as it must be and has no bad number
+  pub list-good : NoneSo (tableRows n list)
+      → (length list ≡ places n) × (anyBad list ≡ false)
+  list-good z = (eqb-true _ _ (not-false _ (z .0)), z .1 .0)
+
+-- ---- a call's
+
+-- What an answered call of a table knows.
+pub record Passed (n : ℕ) (t : TriangleCode) (list : List ℤ) : Type 0 where
+  pub degree : n ≤ 6
+  pub code : IsCode n t
+  pub long : length list ≡ places n
+  pub good : anyBad list ≡ false
+  pub inList : placeOf t < length list
+
+module _ (n : ℕ) (t : TriangleCode) (list : List ℤ) where
+  passes : firstOf tableOrder (placeRows n t) ≡ 0 → (length list ≡ places n) × (anyBad list ≡ false) → Passed n t list
+  passes z g =
+      let c = place-good n t z in
+      record { degree = c .0; code = c .1; long = g .0; good = g .1; inList = rw (g .0) (place-below (c .1)) }
+
+  -- get: of the code, then of the list
+  pub get-first : {f : ℕ} → f ≡ firstOf tableOrder (placeRows n t) → (f ≡ 0 → ⊥) → f ≡ refuseGet n t list
+  unfolding refuseGet
+  get-first = refuse-before tableOrder tableOrder (placeRows n t) (tableRows n list) tt tt
+
+  pub get-then : firstOf tableOrder (placeRows n t) ≡ 0 → firstOf tableOrder (tableRows n list) ≡ refuseGet n t list
+  unfolding refuseGet
+  get-then z = refuse-rest tableOrder tableOrder tableOrder (placeRows n t) (tableRows n list) tt tt tt z
+
+  pub get-passed : refuseGet n t list ≡ 0 → Passed n t list
+  unfolding refuseGet
+  get-passed e =
+      let z = none-after tableOrder tableOrder (placeRows n t) (tableRows n list) tt tt .0 e in
+      passes (z .0) (list-good n list (z .1))
+
+  -- set and clear: of the code, of the reading, of the list
+  module _ (e : Deed) where
+    pub deed-first : {f : ℕ} → f ≡ firstOf tableOrder (placeRows n t) → (f ≡ 0 → ⊥) → f ≡ refuseDeed e n t list
+    unfolding refuseDeed
+    deed-first = refuse-before tableOrder tableOrder (placeRows n t) (readingRows e ++ tableRows n list) tt tt
+
+    module _ (z : firstOf tableOrder (placeRows n t) ≡ 0) where
+      pub deed-reading : outOfRange e ≡ true → 21 ≡ refuseDeed e n t list
+      unfolding refuseDeed
+      deed-reading b =
+          refuse-after tableOrder tableOrder (placeRows n t) (readingRows e ++ tableRows n list) tt tt z (here b)
+
+      pub deed-then : outOfRange e ≡ false → firstOf tableOrder (tableRows n list) ≡ refuseDeed e n t list
+      unfolding refuseDeed
+      deed-then b =
+          refuse-rest tableOrder tableOrder tableOrder (readingRows e) (tableRows n list) tt tt tt
+          (none-so tableOrder (readingRows e) tt .1 (b, tt))
+          ∙ refuse-rest tableOrder tableOrder tableOrder (placeRows n t) (readingRows e ++ tableRows n list) tt tt tt z
+
+    pub deed-passed : refuseDeed e n t list ≡ 0 → Passed n t list × (outOfRange e ≡ false)
+    unfolding refuseDeed
+    deed-passed q =
+        let z = none-after tableOrder tableOrder (placeRows n t) (readingRows e ++ tableRows n list) tt tt .0 q in
+        (passes (z .0) (list-good n list (z .1 .1)), z .1 .0)

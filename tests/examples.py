@@ -3,8 +3,9 @@
 
 `rt ci` runs the console on the calls of crates/plot_main/stdin and holds what it writes to crates/plot_main/stdout. The
 first call is help; every line after it has one line as its answer. Here each example must stand there with just that
-answer, or, where a document cuts the answer short by ` ..`, with one that begins so. Each call must have one form, in
-the console's table, in the help and in the table of docs/CONSOLE.md, and all but help an example in the help.
+answer, or, where a document cuts the answer short by ` ..`, with one that begins so. Calls on a table of soundings work
+on what the calls before them left: those of one example must stand there one after the other. Each call must have one
+form, in the console's table, in the help and in the table of docs/CONSOLE.md, and all but help an example in the help.
 """
 import pathlib
 import re
@@ -22,12 +23,13 @@ def constant(file, name):
 
 
 HELP = constant("help.rt", "HELP")
-FORMS = constant("tables.rt", "CALLS").splitlines()
+FORMS = constant("texts.rt", "CALLS").splitlines()
 NAMES = [form.split()[0] for form in FORMS]
+ON_TABLE = ("table", "set", "get", "clear", "readings")
 
 
 def stored():
-    """The answer to each call of the pair, but for help."""
+    """The calls of the pair with their answers, but for help."""
     calls = (PAIR / "stdin").read_text().splitlines()
     text = (PAIR / "stdout").read_text()
     answers = text[len(HELP) + 1 :].splitlines()
@@ -35,19 +37,27 @@ def stored():
         wrong.append("plot_main: stdin begins with its one call help, stdout with all of HELP of console/src/help.rt")
     if len(calls) != len(answers) + 1:
         wrong.append(f"plot_main: stdin has {len(calls) - 1} lines after help, and stdout {len(answers)}")
-    return dict(zip(calls[1:], answers))
+    return list(zip(calls[1:], answers))
 
 
 STORED = stored()
 
 
 def compare(place, call, answer):
-    known = STORED.get(call)
+    known = [text for line, text in STORED if line == call]
     cut = answer.endswith(" ..")
-    if known is None:
+    if not known:
         wrong.append(f"{place}: plot_main/stdin has no line {call!r}")
-    elif not (known.startswith(answer[:-2]) if cut else known == answer):
-        wrong.append(f"{place}: {call!r} is said to answer {answer!r}, and in plot_main/stdout its answer is {known!r}")
+    elif not any(text.startswith(answer[:-2]) if cut else text == answer for text in known):
+        shown = " or ".join(map(repr, dict.fromkeys(known)))
+        wrong.append(f"{place}: {call!r} is said to answer {answer!r}, and in plot_main/stdout its answer is {shown}")
+
+
+def compare_row(place, examples):
+    """Calls with their answers that must stand there one after the other."""
+    starts = range(len(STORED) - len(examples) + 1)
+    if not examples or not any(STORED[k : k + len(examples)] == examples for k in starts):
+        wrong.append(f"{place}: plot_main has these nowhere in a row: {examples}")
 
 
 def compare_forms(place, forms):
@@ -62,19 +72,35 @@ def compare_forms(place, forms):
 def check_help():
     paragraphs = [p.splitlines() for p in HELP.split("\n\n") if p.split()[0] in NAMES]
     compare_forms("help", [lines[0].split("  ")[0] for lines in paragraphs])
-    count = 0
+    count, on_table = 0, []
     for lines in paragraphs:
+        name = lines[0].split()[0]
         examples = [re.fullmatch(r"  (\S.*?)  +(\S.*)", line) for line in lines[1:]]
-        examples = [found for found in examples if found]
-        if not examples and lines[0].split()[0] != "help":
-            wrong.append(f"help: {lines[0].split()[0]} has no example")
-        for found in examples:
-            compare("help", found[1], found[2])
+        examples = [(found[1], found[2]) for found in examples if found]
+        if not examples and name != "help":
+            wrong.append(f"help: {name} has no example")
+        if name in ON_TABLE:
+            on_table += examples
+        else:
+            for call, answer in examples:
+                compare("help", call, answer)
         count += len(examples)
+    compare_row("help", on_table)
     return count
 
 
-# ---- docs/CONSOLE.md: `CALL` answers `ANSWER`; the forms in the first column of the table
+# ---- docs/CONSOLE.md: `CALL` answers `ANSWER`; the forms in the first column of the table; the day at the ice desk,
+# ---- indented by four, a call and its answer to a line
+
+def check_day(place, text):
+    day = text.split("A day at the ice desk", 1)[1].split("\n\n", 2)[1]
+    lines = [re.fullmatch(r"    (\S.*?)  +(\S.*)", line) for line in day.splitlines()]
+    if None in lines:
+        wrong.append(f"{place}: a line of the day at the ice desk cannot be read")
+        return 0
+    compare_row(place, [(found[1], found[2]) for found in lines])
+    return len(lines)
+
 
 def check_console():
     place = "docs/CONSOLE.md"
@@ -85,23 +111,29 @@ def check_console():
     for call, answer in examples:
         compare(place, call, answer)
     # No call and no answer stands there in another way, where nothing would compare it.
-    compared = {part for example in examples for part in example} | set(FORMS) | set(STORED.values())
+    compared = {part for example in examples for part in example} | set(FORMS) | {text for _, text in STORED}
     for code in re.findall(r"`([^`\n]+)`", text):
         is_call = code.split()[:1] and code.split()[0] in NAMES
         is_answer = re.match(r"(refused|error:) .", code) and not code.endswith(" ")
         if (is_call or is_answer) and code not in compared:
             wrong.append(f"{place}: nothing compares {code!r}")
-    return len(examples)
+    return len(examples) + check_day(place, text)
 
 
-# ---- README.md: `$ ./plot CALL`, a remark after #, and the answer in the next line that is no remark
+# ---- README.md: `$ ./plot CALL`, a remark after #, and the answer in the next line that is no remark; or
+# ---- `$ ./plot <<END`, calls, END, and as many answers
 
 def check_readme():
     place = "README.md"
     lines = [line.strip() for line in (ROOT / place).read_text().splitlines()]
     count = 0
     for k, line in enumerate(lines):
-        if line.startswith("$ ./plot "):
+        if line == "$ ./plot <<END":
+            calls = lines[k + 1 : lines.index("END", k)]
+            answers = lines[k + len(calls) + 2 :][: len(calls)]
+            compare_row(place, list(zip(calls, answers)))
+            count += len(calls)
+        elif line.startswith("$ ./plot "):
             call = line[len("$ ./plot ") :].split("#")[0].strip()
             compare(place, call, next(after for after in lines[k + 1 :] if not after.startswith("#")))
             count += 1
@@ -112,7 +144,8 @@ def check_readme():
 
 def check_table():
     for name, form in zip(NAMES, FORMS):
-        compare("tables.rt", "help help" if name == "help" else name, f"error: write it as {form}")
+        # A call without arguments cannot be read with one.
+        compare("texts.rt", f"{name} {name}" if name == form else name, f"error: write it as {form}")
 
 
 counts = {"help": check_help(), "docs/CONSOLE.md": check_console(), "README.md": check_readme()}

@@ -16,7 +16,7 @@ calls below that, and those to be refused, are a choice.
 For the table of soundings of request 2026-03 the console has a state: the one open table, which is a list. A code's
 place is its place among all codes of the degree in rising order. It calls for every place of the tables of degree 0 to
 4, and for some at 5 and 6; for long histories; for every refusal, alone and with each other one; and for bad lists. All
-answers are then compared with those of a map from code to reading, which knows of no places.
+answers are then compared with those of "a simple map from code to reading or nothing".
 
 For the plotter host in C of request 2026-01 it writes the lines of the host's test bench, and answers them with the
 same searches: every triangle to degree 4 is checked, and crossed over each edge; cross, file and list are lent slices
@@ -1167,6 +1167,7 @@ def check_places():
         must(all(x < y for x, y in zip(codes_of(n), codes_of(n)[1:])), "rising codes", n)
         must(not any(map(code_refusals, codes_of(n))), "codes", n)
         must(n > WHOLE or codes_of(n) == list(whole_degree(n)), "the triangles of the degree", n)
+        must(len(set(map(mm_of, places))) == len(places), "a reading of its own for each place", n)
 
 
 def check_table_lines():
@@ -1180,6 +1181,7 @@ def check_table_lines():
 def check_ice_desk():
     for (line, text), found in zip(ICE_DESK, answers_to(line for line, _ in ICE_DESK)):
         must(found == text, "by hand", line, text, found)
+    must(answers_to(["table 0", "get 0x2050000000000001"])[1] == refused(4), "4 before 20")
 
 
 def internal_checks():
@@ -2080,7 +2082,6 @@ ICE_DESK_TEXT = """
     readings -> refused 22: the list's length isn't 20*4^degree
     set 100 100001 -> refused 21: reading out of range
     set 1001 100001 -> refused 20: wrong degree
-    set 0x2050000000000001 -1 -> refused 4: the four zero bits are not zero, or the corner number does not fit the kind of word
     set 0x2050000000000041 -1 -> refused 3: a digit beyond the degree is not 0
     set 0xC050000000000041 -1 -> refused 2: a is 0, 6 or 7
     set 0xC650000000000041 -1 -> refused 1: a degree, as field or argument, is above 24

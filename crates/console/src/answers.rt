@@ -1,5 +1,5 @@
 // Writing the answers of the calls, in a buffer from its start, and their parts at a place.
-use crate::tables;
+use crate::texts;
 use grid::CodeAnswer;
 use grid::CoordinatesAnswer;
 use grid::Golden;
@@ -20,13 +20,13 @@ pub fn refused(f: u64, out: &mut [u8]) -> usize
     let colon = lines::put_decimal(f, out, number);
     let space = lines::put_byte(b':', out, colon);
     let reason = lines::put_byte(b' ', out, space);
-    tables::put_reason(f, out, reason)
+    texts::put_reason(f, out, reason)
 }
 
 // ---- codes and names
 
 // A code as document 01 writes it. A word with a degree above 24 is none.
-fn put_digits(w: u64, out: &mut [u8], at: usize) -> usize
+pub fn put_digits(w: u64, out: &mut [u8], at: usize) -> usize
     requires { ⌜ at + 27 ≤ length (now out) ⌝ }
     ensures { λ r. ⌜ r ≤ at + 27 ⌝ }
 {

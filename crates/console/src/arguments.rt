@@ -12,8 +12,8 @@ pub struct Found {
     pub next: usize,
 }
 
-// A coordinate in the same way.
-pub struct Coordinate {
+// A signed number in the same way.
+pub struct FoundSigned {
     pub read: bool,
     pub value: i32,
     pub next: usize,
@@ -59,16 +59,16 @@ fn number_found(n: Number, next: usize) -> Found
     }
 }
 
-fn coordinate_found(n: Signed, next: usize) -> Coordinate
+fn signed_found(n: Signed, next: usize) -> FoundSigned
     ensures { λ r. ⌜ r .next ≤ next ⌝ }
 {
     match n {
-        Signed::Whole(value) => Coordinate {
+        Signed::Whole(value) => FoundSigned {
             read: true,
             value,
             next,
         },
-        Signed::Faulty => Coordinate {
+        Signed::Faulty => FoundSigned {
             read: false,
             value: 0,
             next,
@@ -114,14 +114,14 @@ pub fn name_at(line: &[u8], at: usize) -> Found
     number_found(lines::read_hexadecimal(&line[from..end]), end)
 }
 
-fn coordinate_at(line: &[u8], at: usize) -> Coordinate
+pub fn signed_at(line: &[u8], at: usize) -> FoundSigned
     requires { ⌜ at ≤ length (now line) ⌝ }
     ensures { λ r. ⌜ r .next ≤ length (now (line .entry)) ⌝ }
 {
     let w = lines::next_word(line, at);
     let from = w.from;
     let end = w.end;
-    coordinate_found(lines::read_signed(&line[from..end]), end)
+    signed_found(lines::read_signed(&line[from..end]), end)
 }
 
 pub fn code_and_number(line: &[u8], at: usize) -> Pair
@@ -143,9 +143,9 @@ pub fn degree_and_direction(line: &[u8], at: usize) -> Aim
     ensures { λ r. ⌜ r .next ≤ length (now (line .entry)) ⌝ }
 {
     let n = number_at(line, at);
-    let x = coordinate_at(line, n.next);
-    let y = coordinate_at(line, x.next);
-    let z = coordinate_at(line, y.next);
+    let x = signed_at(line, n.next);
+    let y = signed_at(line, x.next);
+    let z = signed_at(line, y.next);
     let direction = Direction {
         x: x.value,
         y: y.value,

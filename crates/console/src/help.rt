@@ -3,7 +3,7 @@ use crate::arguments;
 ghost use Prim.Native.Nat.{_≤_};
 ghost use lib.ListN.{length};
 
-const HELP: [u8; 3496] = *b"The grid of the globe: one call to a line, and one line for its answer.
+const HELP: [u8; 4373] = *b"The grid of the globe: one call to a line, and one line for its answer.
 
   WORD     0x and 1 to 16 hexadecimal digits
   CODE     a triangle code, as 10003 for side 100 and digits 0 and 3; or a WORD
@@ -11,6 +11,7 @@ const HELP: [u8; 3496] = *b"The grid of the globe: one call to a line, and one l
   X Y Z    a direction: three whole numbers
   PLACES   0 to 16: how many places the lent list has. They hold 1, 2, 3 and so on before the call,
            and stand after the answer as the call leaves them
+  MM       millimetres, 0 to 100000
 
 Any other number is decimal, or a WORD. A line that begins with # is a remark.
 Under each call stand an example and its answer. A refused call answers its number and the reason.
@@ -75,6 +76,24 @@ file DEGREE X Y Z                   the least code that holds a direction
 
 list DEGREE X Y Z [PLACES]          all codes that hold it, rising
   list 0 0 0 1                      2: 100 0x2000000000000000, 500 0xA000000000000000
+
+table DEGREE [LENGTH FILL [PLACE VALUE]..]
+                                    opens a table of soundings with no readings, of degree 0 to 6; or any
+                                    list of LENGTH numbers, FILL but at each PLACE its VALUE, to try refusals
+  table 1                           degree 1, 80 places
+
+set CODE MM                         sets a triangle's reading, in millimetres
+  set 1001 1250                     ok
+
+get CODE                            its reading
+  get 1001                          1250 mm
+  get 1002                          no reading
+
+readings                            how many readings the table has, and each with its triangle
+  readings                          1 reading: 1001 1250 mm
+
+clear CODE                          leaves a triangle with no reading
+  clear 1001                        ok
 
 help                                these lines";
 

@@ -1,20 +1,44 @@
-// The console: one line of text to its answer. The first word names a call, the others are its arguments (tables).
+// The console: one line of text to its answer. The first word names a call, the others are its arguments (tables). It
+// holds a table of soundings, which the caller keeps for it: `Held`, and a list of at least 81,921 numbers.
 mod answers;
 mod arguments;
 mod calls;
+mod desk;
 mod help;
 mod lists;
-mod tables;
+mod texts;
 
 ghost use Prim.Native.Nat.{_≤_};
 ghost use lib.ListN.{length};
 
+pub use desk::Held;
+pub use desk::Reply;
+
+// The answer of many readings goes on.
+pub use desk::go_on;
+
+// Before the first line no table is open.
+pub fn none_held() -> Held {
+    Held {
+        open: false,
+        degree: 0,
+        length: 0,
+    }
+}
+
 // A line that is too long is skipped whole.
-pub fn too_long(out: &mut [u8]) -> usize
+pub fn too_long(held: Held, out: &mut [u8]) -> Reply
     requires { ⌜ 8192 ≤ length (now out) ⌝ }
-    ensures { λ r. ⌜ r ≤ 8000 ⌝ }
+    ensures { λ r. ⌜ r .size ≤ 8000 ⌝ }
 {
-    lines::put_bytes(b"error: a line has at most 1000 bytes", out, 0)
+    desk::whole(lines::put_bytes(b"error: a line has at most 1000 bytes", out, 0), held)
+}
+
+// No answer.
+pub fn nothing(held: Held) -> Reply
+    ensures { λ r. ⌜ r .size ≤ 8000 ⌝ }
+{
+    desk::whole(0, held)
 }
 
 fn unknown(out: &mut [u8]) -> usize
@@ -30,7 +54,7 @@ fn usage(call: u64, out: &mut [u8]) -> usize
     ensures { λ r. ⌜ r ≤ 8000 ⌝ }
 {
     let at = lines::put_bytes(b"error: write it as ", out, 0);
-    tables::put_form(call, out, at)
+    texts::put_form(call, out, at)
 }
 
 // The answer of a call, by its row of the table, whose arguments stand from a place of a line on; 0 where they cannot be read.
@@ -53,24 +77,48 @@ fn call_answer(call: u64, line: &[u8], at: usize, out: &mut [u8]) -> usize
     }
 }
 
-// One line to its answer, without the line end: how many bytes of the buffer it takes. No word, or a first word that begins with #: none.
-pub fn answer(line: &[u8], out: &mut [u8]) -> usize
-    requires { ⌜ 8192 ≤ length (now out) ⌝ }
+// The answer of a call on the table.
+fn desk_answer(call: u64, line: &[u8], at: usize, held: Held, list: &mut [i32], out: &mut [u8]) -> Reply
+    requires { ⌜ (at ≤ length (now line)) × (81921 ≤ length (now list)) × (8192 ≤ length (now out)) ⌝ }
+    ensures { λ r. ⌜ r .size ≤ 8000 ⌝ }
+{
+    let r = desk::answer(call, line, at, held, list, out);
+    if r.size == 0 {
+        return desk::whole(usage(call, out), held);
+    }
+    r
+}
+
+// The answer of any other call.
+fn plain_answer(call: u64, line: &[u8], at: usize, out: &mut [u8]) -> usize
+    requires { ⌜ (at ≤ length (now line)) × (8192 ≤ length (now out)) ⌝ }
     ensures { λ r. ⌜ r ≤ 8000 ⌝ }
+{
+    let n = call_answer(call, line, at, out);
+    if n == 0 {
+        return usage(call, out);
+    }
+    n
+}
+
+// One line to its answer, without the line end: how many bytes of the buffer it takes, and what is held then. No word,
+// or a first word that begins with #: none. Where `rest` is not 0, `go_on` has the next part of the answer.
+pub fn answer(line: &[u8], held: Held, list: &mut [i32], out: &mut [u8]) -> Reply
+    requires { ⌜ (81921 ≤ length (now list)) × (8192 ≤ length (now out)) ⌝ }
+    ensures { λ r. ⌜ r .size ≤ 8000 ⌝ }
 {
     let w = lines::next_word(line, 0);
     let from = w.from;
     let end = w.end;
     if from == end {
-        return 0;
+        return nothing(held);
     }
     if line[from] == 35 {
-        return 0;
+        return nothing(held);
     }
-    let call = tables::call_named(&line[from..end]);
-    let n = call_answer(call, line, end, out);
-    if n == 0 {
-        return usage(call, out);
+    let call = texts::call_named(&line[from..end]);
+    match call {
+        21..=25 => desk_answer(call, line, end, held, list, out),
+        _ => desk::whole(plain_answer(call, line, end, out), held),
     }
-    n
 }

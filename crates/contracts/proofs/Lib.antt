@@ -1,2 +1,3 @@
 -- The contracts, by computation.
 pub mod Host
+pub mod Soundings

@@ -1,2 +1,3 @@
 -- What a reader must believe: that a call's contract is just its promise.
 pub mod Host
+pub mod Soundings

@@ -75,3 +75,7 @@ same-places m n = go (ltb m n) (ltb n m) refl refl
     go false false e f =
         let q : m ≡ n = omega (arith, ltb-false m n e, ltb-false n m f) in
         eq-eqb (places n) (places m) (ap places (sym q)) ∙ sym (eq-eqb m n q)
+
+-- no table has more than that of degree 6
+pub places-most : (n : ℕ) → n ≤ 6 → places n ≤ 81920
+places-most n l = let h : 4 ^ n ≤ 4 ^ 6 = pow-le-pow-right (omega arith) l in omega (arith, h)

@@ -1,5 +1,5 @@
--- `talk::all_turns` is safe and ends. The loop's invariant: the three buffers have their lengths. The measure is a
--- count of turns that no input lasts for. Assumes nothing.
+-- `talk::all_turns` is safe and ends. The loop's invariant: the four buffers have their lengths. The measure is a count
+-- of turns that no input lasts for. Assumes nothing.
 use mathlib.Core.Path.{_≡_}
 use lib.ListN.{length}
 use borrow.Author.Needs.{needs}
@@ -7,11 +7,16 @@ use Rattle.talk.proofs.all_turns.Statement.{statement}
 use Rattle.talk.proofs.all_turns.Tie as tie
 
 abbrev Inv-loop : tie.InvT-loop
-Inv-loop chunk₀ line₀ answers₀ n₀ turns₀ chunk line answers n turns =
-    (length chunk ≡ length chunk₀) × (length line ≡ length line₀) × (length answers ≡ length answers₀)
+Inv-loop chunk₀ line₀ list₀ answers₀ n₀ held₀ turns₀ chunk line list answers n held turns =
+    (length chunk ≡ length chunk₀) × (length line ≡ length line₀) × (length list ≡ length list₀)
+    × (length answers ≡ length answers₀)
 
 abbrev μ-loop : tie.MeasureT-loop
-μ-loop chunk₀ line₀ answers₀ n₀ turns₀ chunk line answers n turns = turns
+μ-loop chunk₀ line₀ list₀ answers₀ n₀ held₀ turns₀ chunk line list answers n held turns =
+    turns
+
+none-held-requires : tie.Need-none-held-requires Inv-loop μ-loop
+none-held-requires c κs = search needs
 
 loop-holds : tie.Need-loop-holds Inv-loop μ-loop
 loop-holds c = search needs
@@ -31,6 +36,9 @@ same-length-2 c = search needs
 same-length-3 : tie.Need-same-length-3 Inv-loop μ-loop
 same-length-3 c = search needs
 
+same-length-4 : tie.Need-same-length-4 Inv-loop μ-loop
+same-length-4 c = search needs
+
 returns : tie.Need-returns Inv-loop μ-loop
 returns c = search needs
 
@@ -43,14 +51,17 @@ loop-less c = search needs
 loop-again : tie.Need-loop-again Inv-loop μ-loop
 loop-again c = search needs
 
-same-length-4 : tie.Need-same-length-4 Inv-loop μ-loop
-same-length-4 c = search needs
-
 same-length-5 : tie.Need-same-length-5 Inv-loop μ-loop
 same-length-5 c = search needs
 
 same-length-6 : tie.Need-same-length-6 Inv-loop μ-loop
 same-length-6 c = search needs
+
+same-length-7 : tie.Need-same-length-7 Inv-loop μ-loop
+same-length-7 c = search needs
+
+same-length-8 : tie.Need-same-length-8 Inv-loop μ-loop
+same-length-8 c = search needs
 
 returns-2 : tie.Need-returns-2 Inv-loop μ-loop
 returns-2 c = search needs
@@ -61,17 +72,20 @@ all-turns-spec =
     (tie.spec
     Inv-loop
     μ-loop
+    none-held-requires
     loop-holds
     turn-requires
     enum-known-t
     same-length
     same-length-2
     same-length-3
+    same-length-4
     returns
     sub-turns
     loop-less
     loop-again
-    same-length-4
     same-length-5
     same-length-6
+    same-length-7
+    same-length-8
     returns-2)

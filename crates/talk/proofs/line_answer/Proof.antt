@@ -15,6 +15,9 @@ same-length c = search needs
 returns : tie.Need-returns
 returns c = search needs
 
+nothing-requires : tie.Need-nothing-requires
+nothing-requires c κs = search needs
+
 returns-2 : tie.Need-returns-2
 returns-2 c = search needs
 
@@ -29,6 +32,9 @@ answer-requires c κs = search needs
 same-length-2 : tie.Need-same-length-2
 same-length-2 c = search needs
 
+same-length-3 : tie.Need-same-length-3
+same-length-3 c = search needs
+
 returns-3 : tie.Need-returns-3
 returns-3 c = search needs
 
@@ -39,8 +45,10 @@ line-answer-spec =
     too-long-requires
     same-length
     returns
+    nothing-requires
     returns-2
     slice-aggregate-answer
     answer-requires
     same-length-2
+    same-length-3
     returns-3)

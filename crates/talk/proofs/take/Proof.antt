@@ -1,4 +1,4 @@
--- `talk::take` is safe and ends. The loop's invariant: the answers so far fit, and the two buffers have their lengths.
+-- `talk::take` is safe and ends. The loop's invariant: the answers so far fit, and the three buffers have their lengths.
 -- The measure is what is left of the chunk. Assumes nothing.
 use mathlib.Core.Path.{_≡_}
 use Prim.Native.Nat.{_≤_, _-_}
@@ -8,11 +8,12 @@ use Rattle.talk.proofs.take.Statement.{statement}
 use Rattle.talk.proofs.take.Tie as tie
 
 abbrev Inv-loop : tie.InvT-loop
-Inv-loop chunk line₀ answers₀ p₀ i₀ line answers p i =
-    (p .filled ≤ 65536) × (length line ≡ length line₀) × (length answers ≡ length answers₀)
+Inv-loop chunk line₀ list₀ answers₀ p₀ i₀ line list answers p i =
+    (p .filled ≤ 65536) × (length line ≡ length line₀) × (length list ≡ length list₀)
+    × (length answers ≡ length answers₀)
 
 abbrev μ-loop : tie.MeasureT-loop
-μ-loop chunk line₀ answers₀ p₀ i₀ line answers p i = length chunk - i
+μ-loop chunk line₀ list₀ answers₀ p₀ i₀ line list answers p i = length chunk - i
 
 loop-holds : tie.Need-loop-holds Inv-loop μ-loop
 loop-holds c = search needs
@@ -29,6 +30,9 @@ same-length c = search needs
 same-length-2 : tie.Need-same-length-2 Inv-loop μ-loop
 same-length-2 c = search needs
 
+same-length-3 : tie.Need-same-length-3 Inv-loop μ-loop
+same-length-3 c = search needs
+
 returns : tie.Need-returns Inv-loop μ-loop
 returns c = search needs
 
@@ -41,11 +45,14 @@ loop-less c = search needs
 loop-again : tie.Need-loop-again Inv-loop μ-loop
 loop-again c = search needs
 
-same-length-3 : tie.Need-same-length-3 Inv-loop μ-loop
-same-length-3 c = search needs
-
 same-length-4 : tie.Need-same-length-4 Inv-loop μ-loop
 same-length-4 c = search needs
+
+same-length-5 : tie.Need-same-length-5 Inv-loop μ-loop
+same-length-5 c = search needs
+
+same-length-6 : tie.Need-same-length-6 Inv-loop μ-loop
+same-length-6 c = search needs
 
 returns-2 : tie.Need-returns-2 Inv-loop μ-loop
 returns-2 c = search needs
@@ -61,10 +68,12 @@ take-spec =
     take-byte-requires
     same-length
     same-length-2
+    same-length-3
     returns
     add-i
     loop-less
     loop-again
-    same-length-3
     same-length-4
+    same-length-5
+    same-length-6
     returns-2)

@@ -3,7 +3,7 @@ ghost use Prim.Native.Nat.{_+_, _≤_};
 ghost use lib.ListN.{length};
 
 // How each call is written. A call is known by the number of its row, from 0.
-const CALLS: [u8; 359] = *b"help
+const CALLS: [u8; 443] = *b"help
 check CODE
 parent CODE
 check-name NAME
@@ -23,7 +23,12 @@ name-weights NAME [PLACES]
 ring NAME [PLACES]
 list DEGREE X Y Z [PLACES]
 file DEGREE X Y Z
-back DEGREE WEIGHTS";
+back DEGREE WEIGHTS
+table DEGREE [LENGTH FILL [PLACE VALUE]..]
+set CODE MM
+get CODE
+clear CODE
+readings";
 
 // Document 01, 'Refusal numbers': when each is given, from 1.
 const REASONS: [u8; 559] = *b"a degree, as field or argument, is above 24
@@ -37,6 +42,12 @@ a direction coordinate lies outside -1,000,000,000 to 1,000,000,000
 a lent list is too short: 12 for weights, 6 for triangles
 a word passes 1 to 4 as a corner name and is not the canonical one
 no corner of the degree has the twelve weights";
+
+// Document 02: the same, from 20.
+const TABLE_REASONS: [u8; 126] = *b"wrong degree
+reading out of range
+the list's length isn't 20*4^degree
+the list holds a number that is neither a reading nor -1";
 
 // Where the row ends that a place stands in.
 fn row_end(table: &[u8], at: usize) -> usize
@@ -134,9 +145,9 @@ fn row_named(table: &[u8], rows: u64, word: &[u8]) -> u64 {
     rows
 }
 
-// The call that a word names; 21 where it names none.
+// The call that a word names; 26 where it names none.
 pub fn call_named(word: &[u8]) -> u64 {
-    row_named(&CALLS, 21, word)
+    row_named(&CALLS, 26, word)
 }
 
 // The form of a call.
@@ -154,6 +165,9 @@ pub fn put_reason(refusal: u64, out: &mut [u8], at: usize) -> usize
 {
     if refusal == 0 {
         return at;
+    }
+    if 20 <= refusal {
+        return put_row(&TABLE_REASONS, refusal - 20, out, at);
     }
     put_row(&REASONS, refusal - 1, out, at)
 }

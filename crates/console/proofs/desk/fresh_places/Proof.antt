@@ -1,0 +1,16 @@
+-- `console::desk::fresh_places` is safe: 20·4^6 is 81,920. Assumes nothing.
+use mathlib.Core.Path.{_≡_}
+use native.Mathlib.Omega.{arith}
+use Rattle.tables.proofs.Places.{places-most}
+use borrow.Author.Needs.{needs}
+use Rattle.console.proofs.desk.fresh_places.Statement.{statement}
+use Rattle.console.proofs.desk.fresh_places.Tie as tie
+
+places-of-requires : tie.Need-places-of-requires
+places-of-requires c κs = search needs
+
+returns : tie.Need-returns
+returns c = omega (arith, c .places-of .ensures, places-most (c .before .args .degree) (c .before .pre))
+
+pub fresh-places-spec : {M : Type 1} → statement M
+fresh-places-spec = tie.close (tie.spec places-of-requires returns)

@@ -1,0 +1,11 @@
+-- What each function of a table asks and ensures is what specs/Soundings.antt says: the two are the same, by
+-- computation. Assumes nothing.
+use Rattle.frame.proofs.Answering.{says-itself}
+use Rattle.contracts.specs.Soundings.{Contracts}
+
+pub contracts : Contracts
+contracts = record {
+  get = λ κs n t list r. says-itself;
+  set = λ κs n t x list new r. says-itself;
+  clear = λ κs n t list new r. says-itself;
+}

@@ -1,4 +1,5 @@
-/* The calls of document 01, as crates/bench exports them, and as crates/host does: all of its own, and checking. */
+/* The calls of document 01 and of a table of soundings, as crates/bench exports them, and those that crates/host does:
+ * all of its own, and checking. */
 #include "../../include/dogrzewin.h"
 #include "directions.h"
 #include "driver.h"
@@ -10,7 +11,7 @@ uint64_t bench_name(uint64_t code, uint64_t corner);
 uint64_t bench_weights(uint64_t code, uint64_t corner, uint64_t *out, size_t places);
 any_function bench_parent, bench_child, bench_cross, bench_back, bench_name_weights,
     bench_ring, bench_exact, bench_name_exact, bench_t, bench_name_t, bench_drawn, bench_name_drawn, bench_file,
-    bench_list;
+    bench_list, bench_get, bench_set, bench_clear;
 
 /* ---- words */
 
@@ -126,6 +127,55 @@ static int give_direction_and_bytes(struct input *in, const char *kind, uint64_t
     return give_direction(in, kind, degree);
 }
 
+/* ---- a table of soundings: a list of numbers, each a reading or -1 */
+
+#define PLACES_OF_DEGREE_6 81920
+static int32_t readings[PLACES_OF_DEGREE_6];
+
+static int32_t random_reading(void) {
+    return (int32_t)below(100001);
+}
+
+/* The list of the degree, from an argument on: half of its places have a reading. It is filled once. */
+static void give_readings(struct input *in, int first, uint64_t degree) {
+    size_t places = (size_t)20 << (2 * degree);
+    for (size_t k = 0; readings[0] == 0 && k < PLACES_OF_DEGREE_6; k++) {
+        readings[k] = k > 0 && below(2) == 0 ? random_reading() : -1;
+    }
+    in->argument[first] = (uint64_t)readings;
+    in->argument[first + 1] = places;
+}
+
+static int give_table(struct input *in, const char *kind, uint64_t degree) {
+    in->argument[0] = degree;
+    in->argument[1] = random_code(degree);
+    give_readings(in, 2, degree);
+    return degree <= 6 && is_random(kind);
+}
+
+static int give_table_and_reading(struct input *in, const char *kind, uint64_t degree) {
+    in->argument[0] = degree;
+    in->argument[1] = random_code(degree);
+    in->argument[2] = (uint64_t)random_reading();
+    give_readings(in, 3, degree);
+    return degree <= 6 && is_random(kind);
+}
+
+static int give_readings_alone(struct input *in, const char *kind, uint64_t degree) {
+    give_readings(in, 0, degree);
+    return degree <= 6 && is_random(kind);
+}
+
+/* What a call on a table is measured by: a plain loop that adds up the same list, which the compiler may make as fast as
+ * it can. */
+__attribute__((noinline, optimize("O3"))) static int64_t add_up(const int32_t *list, size_t places) {
+    int64_t sum = 0;
+    for (size_t k = 0; k < places; k++) {
+        sum += list[k];
+    }
+    return sum;
+}
+
 /* ---- the calls */
 
 const struct call calls[] = {
@@ -147,6 +197,10 @@ const struct call calls[] = {
     {"ring", bench_ring, CODES, give_name_and_list},
     {"file", bench_file, WORD, give_direction},
     {"list", bench_list, CODES, give_direction_and_list},
+    {"table-get", bench_get, WORD, give_table},
+    {"table-set", bench_set, WORD, give_table_and_reading},
+    {"table-clear", bench_clear, WORD, give_table},
+    {"add-up", (any_function *)add_up, WORD, give_readings_alone},
     {"host-cross", (any_function *)grid_cross, WEIGHTS, give_code_number_and_bytes},
     {"host-file", (any_function *)grid_file, WEIGHTS, give_direction_and_bytes},
     {"host-list", (any_function *)grid_list, WEIGHTS, give_direction_and_bytes},

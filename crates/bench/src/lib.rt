@@ -1,4 +1,5 @@
-// The calls of document 01 exported to C, for `./bench` to count; checking is the crate host's. Each is thin: it hands
+// The calls of document 01, and those of a table of soundings, exported to C, for `./bench` to count; checking is the
+// crate host's. Each is thin: it hands
 // the numbers on, and answers one number that depends on all numbers of the answer, so that the compiler can leave
 // nothing out. Where a code or a name is answered, this is the code (with the edge's number in its lowest bits) or the
 // name, or the refusal's number.
@@ -10,6 +11,7 @@ use grid::Direction;
 use grid::Point;
 use grid::Ticks;
 use grid::TriangleCode;
+use soundings::Sounding;
 ghost use mathlib.Core.Path.{_≡_};
 ghost use lib.Bits.{bitXor};
 ghost use Rattle.words.specs.Family.{codeOf, ParentAnswer, ChildAnswer};
@@ -21,6 +23,8 @@ ghost use Rattle.corners.specs.declared.StepAnswer.{StepAnswer};
 ghost use Rattle.corners.specs.declared.NameAnswer.{NameAnswer};
 ghost use Rattle.corners.specs.declared.CountAnswer.{CountAnswer};
 ghost use Rattle.directions.specs.Answers.{FileAnswer, ListAnswer};
+ghost use Rattle.tables.specs.Answers.{SetAnswer, ClearAnswer};
+ghost use Rattle.tables.specs.declared.TableAnswer.{TableAnswer};
 
 // ---- words
 
@@ -172,4 +176,41 @@ pub extern "C" fn bench_list(degree: u64, x: i32, y: i32, z: i32, out: &mut [u64
 {
     let r = grid::list(degree, Direction { x, y, z }, out);
     r.count ^ r.refusal
+}
+
+// ---- a table of soundings
+
+fn mixed_sounding(s: Sounding) -> i32 {
+    match s {
+        Sounding::Nothing => -1,
+        Sounding::Reading(x) => x,
+    }
+}
+
+// The reading, or -1; that of a refused call is none.
+#[no_mangle]
+pub extern "C" fn bench_get(degree: u64, code: u64, list: &[i32]) -> i32 {
+    mixed_sounding(soundings::get(degree, TriangleCode(code), list).sounding)
+}
+
+#[no_mangle]
+pub extern "C" fn bench_set(degree: u64, code: u64, reading: i32, list: &mut [i32]) -> u64
+    ensures { λ r. ⌜
+        ((a : TableAnswer) × SetAnswer degree (codeOf code) reading (now (list .entry)) a (now (list .exit))
+        × (r ≡ bitXor (a .refusal) (a .place)))
+        ⌝ }
+{
+    let r = soundings::set(degree, TriangleCode(code), reading, list);
+    r.refusal ^ r.place
+}
+
+#[no_mangle]
+pub extern "C" fn bench_clear(degree: u64, code: u64, list: &mut [i32]) -> u64
+    ensures { λ r. ⌜
+        ((a : TableAnswer) × ClearAnswer degree (codeOf code) (now (list .entry)) a (now (list .exit))
+        × (r ≡ bitXor (a .refusal) (a .place)))
+        ⌝ }
+{
+    let r = soundings::clear(degree, TriangleCode(code), list);
+    r.refusal ^ r.place
 }

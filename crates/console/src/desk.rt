@@ -119,7 +119,10 @@ fn get(line: &[u8], at: usize, held: Held, list: &[i32], out: &mut [u8]) -> usiz
     if !held.open {
         return none_open(out);
     }
-    put_got(soundings::get(held.degree, TriangleCode(c.value), list), out)
+    put_got(
+        soundings::get(held.degree, TriangleCode(c.value), list),
+        out,
+    )
 }
 
 fn set(line: &[u8], at: usize, held: Held, list: &mut [i32], out: &mut [u8]) -> usize
@@ -134,7 +137,10 @@ fn set(line: &[u8], at: usize, held: Held, list: &mut [i32], out: &mut [u8]) -> 
     if !held.open {
         return none_open(out);
     }
-    put_done(soundings::set(held.degree, TriangleCode(c.value), x.value, list), out)
+    put_done(
+        soundings::set(held.degree, TriangleCode(c.value), x.value, list),
+        out,
+    )
 }
 
 fn clear(line: &[u8], at: usize, held: Held, list: &mut [i32], out: &mut [u8]) -> usize
@@ -148,7 +154,10 @@ fn clear(line: &[u8], at: usize, held: Held, list: &mut [i32], out: &mut [u8]) -
     if !held.open {
         return none_open(out);
     }
-    put_done(soundings::clear(held.degree, TriangleCode(c.value), list), out)
+    put_done(
+        soundings::clear(held.degree, TriangleCode(c.value), list),
+        out,
+    )
 }
 
 // ---- opening a table
@@ -269,7 +278,15 @@ fn open_fresh(degree: u64, held: Held, list: &mut [i32], out: &mut [u8]) -> Repl
 }
 
 // With the pairs that the rest of the line has.
-fn open_list(degree: u64, n: usize, x: i32, line: &[u8], at: usize, list: &mut [i32], out: &mut [u8]) -> Reply
+fn open_list(
+    degree: u64,
+    n: usize,
+    x: i32,
+    line: &[u8],
+    at: usize,
+    list: &mut [i32],
+    out: &mut [u8],
+) -> Reply
     requires { ⌜ (n ≤ 81921) × (at ≤ length (now line)) × (81921 ≤ length (now list)) × (8192 ≤ length (now out)) ⌝ }
     ensures { λ r. ⌜ r .size ≤ 8000 ⌝ }
 {
@@ -408,7 +425,14 @@ fn put_place(degree: u64, place: usize, x: i32, later: bool, out: &mut [u8], at:
 }
 
 // The places from `from` on, as many as there is room for, and how many are left. `later`: places were shown before.
-fn put_places(degree: u64, list: &[i32], from: usize, later: bool, out: &mut [u8], start: usize) -> Part
+fn put_places(
+    degree: u64,
+    list: &[i32],
+    from: usize,
+    later: bool,
+    out: &mut [u8],
+    start: usize,
+) -> Part
     requires { ⌜ (degree ≤ 6) × (length (now list) ≡ places degree) × (start ≤ 100) × (8192 ≤ length (now out)) ⌝ }
     ensures { λ r. ⌜ (r .size ≤ 8000) × (r .rest ≤ length (now (list .entry)) - from - 1) ⌝ }
 {
@@ -424,10 +448,7 @@ fn put_places(degree: u64, list: &[i32], from: usize, later: bool, out: &mut [u8
         at = put_place(degree, i, list[i], later | (start < at), out, at);
         i += 1;
     }
-    Part {
-        size: at,
-        rest: 0,
-    }
+    Part { size: at, rest: 0 }
 }
 
 // The answer of `readings`: its first part.
@@ -488,7 +509,14 @@ pub fn go_on(held: Held, rest: usize, list: &[i32], out: &mut [u8]) -> Reply
 // ---- the calls, by their rows of the table of calls; a size of 0 where the arguments cannot be read
 
 // On the places that are the table's own.
-fn on_table(call: u64, line: &[u8], at: usize, held: Held, list: &mut [i32], out: &mut [u8]) -> Reply
+fn on_table(
+    call: u64,
+    line: &[u8],
+    at: usize,
+    held: Held,
+    list: &mut [i32],
+    out: &mut [u8],
+) -> Reply
     requires { ⌜ (at ≤ length (now line)) × (8192 ≤ length (now out)) ⌝ }
     ensures { λ r. ⌜ r .size ≤ 8000 ⌝ }
 {
@@ -504,7 +532,14 @@ fn on_table(call: u64, line: &[u8], at: usize, held: Held, list: &mut [i32], out
     }
 }
 
-pub fn answer(call: u64, line: &[u8], at: usize, held: Held, list: &mut [i32], out: &mut [u8]) -> Reply
+pub fn answer(
+    call: u64,
+    line: &[u8],
+    at: usize,
+    held: Held,
+    list: &mut [i32],
+    out: &mut [u8],
+) -> Reply
     requires { ⌜ (at ≤ length (now line)) × (81921 ≤ length (now list)) × (8192 ≤ length (now out)) ⌝ }
     ensures { λ r. ⌜ r .size ≤ 8000 ⌝ }
 {

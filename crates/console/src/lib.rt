@@ -10,7 +10,6 @@ mod texts;
 
 ghost use Prim.Native.Nat.{_≤_};
 ghost use lib.ListN.{length};
-
 pub use desk::Held;
 pub use desk::Reply;
 
@@ -31,7 +30,10 @@ pub fn too_long(held: Held, out: &mut [u8]) -> Reply
     requires { ⌜ 8192 ≤ length (now out) ⌝ }
     ensures { λ r. ⌜ r .size ≤ 8000 ⌝ }
 {
-    desk::whole(lines::put_bytes(b"error: a line has at most 1000 bytes", out, 0), held)
+    desk::whole(
+        lines::put_bytes(b"error: a line has at most 1000 bytes", out, 0),
+        held,
+    )
 }
 
 // No answer.
@@ -78,7 +80,14 @@ fn call_answer(call: u64, line: &[u8], at: usize, out: &mut [u8]) -> usize
 }
 
 // The answer of a call on the table.
-fn desk_answer(call: u64, line: &[u8], at: usize, held: Held, list: &mut [i32], out: &mut [u8]) -> Reply
+fn desk_answer(
+    call: u64,
+    line: &[u8],
+    at: usize,
+    held: Held,
+    list: &mut [i32],
+    out: &mut [u8],
+) -> Reply
     requires { ⌜ (at ≤ length (now line)) × (81921 ≤ length (now list)) × (8192 ≤ length (now out)) ⌝ }
     ensures { λ r. ⌜ r .size ≤ 8000 ⌝ }
 {

@@ -77,16 +77,17 @@ fn any_bad(list: &[i32]) -> bool
 fn least_bad(list: &[i32]) -> usize
     ensures { λ r. ⌜ r ≡ leastBad (now (list .entry)) ⌝ }
 {
-    let mut i = 0;
-    while i < list.len() {
-        if is_bad(list[i]) {
-            return i;
+    let mut place = 0;
+    while place < list.len() {
+        if is_bad(list[place]) {
+            return place;
         }
-        i += 1;
+        place += 1;
     }
-    i
+    place
 }
 
+// Whether a number is a reading.
 pub fn is_reading(x: i32) -> bool
     ensures { λ r. ⌜ r ≡ isReading x ⌝ }
 {
@@ -97,13 +98,13 @@ pub fn is_reading(x: i32) -> bool
 }
 
 // What a number of the list says.
-fn said_of(x: i32) -> Sounding
-    ensures { λ r. ⌜ r ≡ said x ⌝ }
+fn said_of(number: i32) -> Sounding
+    ensures { λ r. ⌜ r ≡ said number ⌝ }
 {
-    if x < 0 {
+    if number < 0 {
         return Sounding::Nothing;
     }
-    Sounding::Reading(x)
+    Sounding::Reading(number)
 }
 
 // ---- refusals
@@ -236,12 +237,12 @@ fn store(t: TriangleCode, x: i32, list: &mut [i32])
 fn act(deed: Deed, degree: u64, t: TriangleCode, list: &mut [i32]) -> TableAnswer
     ensures { λ r. ⌜ DeedAnswer deed degree t (now (list .entry)) r (now (list .exit)) ⌝ }
 {
-    let a = refuse_deed(deed, degree, t, list);
-    if a.refusal != 0 {
-        return a;
+    let checked = refuse_deed(deed, degree, t, list);
+    if checked.refusal != 0 {
+        return checked;
     }
     store(t, number_after(deed), list);
-    a
+    checked
 }
 
 // Sets the reading of a triangle.

@@ -170,7 +170,13 @@ fn take_byte(b: u8, line: &mut [u8], list: &mut [i32], answers: &mut [u8], p: Pr
 }
 
 // The bytes that one read brought, to the first write that fails.
-fn take(chunk: &[u8], line: &mut [u8], list: &mut [i32], answers: &mut [u8], before: Progress) -> Progress
+fn take(
+    chunk: &[u8],
+    line: &mut [u8],
+    list: &mut [i32],
+    answers: &mut [u8],
+    before: Progress,
+) -> Progress
     requires { ⌜ (before .filled ≤ 65536) × (1000 ≤ length (now line)) × (81921 ≤ length (now list)) × (65536 ≤ length (now answers)) ⌝ }
     ensures { λ r. ⌜ r .filled ≤ 65536 ⌝ }
 {
@@ -214,7 +220,14 @@ fn begun(n: usize, held: Held) -> Progress
 }
 
 // The answers of the lines that end in what one read brought, after n bytes of a line.
-fn answer_chunk(chunk: &[u8], line: &mut [u8], list: &mut [i32], answers: &mut [u8], n: usize, held: Held) -> Outcome
+fn answer_chunk(
+    chunk: &[u8],
+    line: &mut [u8],
+    list: &mut [i32],
+    answers: &mut [u8],
+    n: usize,
+    held: Held,
+) -> Outcome
     requires { ⌜ (1000 ≤ length (now line)) × (81921 ≤ length (now list)) × (65536 ≤ length (now answers)) ⌝ }
 {
     let p = take(chunk, line, list, answers, begun(n, held));
@@ -237,7 +250,14 @@ fn finish(line: &[u8], list: &mut [i32], answers: &mut [u8], n: usize, held: Hel
 }
 
 // One read, and the answers of the lines that end in it, after n bytes of a line.
-fn turn(chunk: &mut [u8], line: &mut [u8], list: &mut [i32], answers: &mut [u8], n: usize, held: Held) -> Outcome
+fn turn(
+    chunk: &mut [u8],
+    line: &mut [u8],
+    list: &mut [i32],
+    answers: &mut [u8],
+    n: usize,
+    held: Held,
+) -> Outcome
     requires { ⌜ (1000 ≤ length (now line)) × (81921 ≤ length (now list)) × (65536 ≤ length (now answers)) ⌝ }
 {
     let read = libc::read(0, chunk);

@@ -39,7 +39,7 @@ returns c =
     let q : c .before .is-bad .result ≡ isBad x =
     rw (toZ-ofZ w32 x (record { sfits = c .before .before .is-bad-arg .given })) at (c .before .is-bad .ensures) in
     let h = stops isBad (s .before .args .list .now) (s .loop .place) (pos 0) l (sym q ∙ c .if1 .taken) in
-    omega (arith, h, s .loop .placenv .1)
+    omega (arith, h, s .loop .inv .1)
 
 add-place : tie.Need-add-place Inv-loop μ-loop
 add-place c = search needs
@@ -55,13 +55,13 @@ loop-again c =
     let q : c .before .is-bad .result ≡ isBad x =
     rw (toZ-ofZ w32 x (record { sfits = c .before .before .is-bad-arg .given })) at (c .before .is-bad .ensures) in
     let h = passes isBad (s .before .args .list .now) (s .loop .place) (pos 0) l (sym q ∙ c .if1 .left) in
-    (omega arith, simp add-one (omega (arith, h, s .loop .placenv .1)))
+    (omega arith, simp add-one (omega (arith, h, s .loop .inv .1)))
 
 returns-2 : tie.Need-returns-2 Inv-loop μ-loop
 returns-2 c =
     let s = c .before in
     let h = none-left isBad (s .before .args .list .now) (s .loop .place) (omega arith) in
-    omega (arith, h, s .loop .placenv .1)
+    omega (arith, h, s .loop .inv .1)
 
 pub least-bad-spec : {M : Type 1} → statement M
 least-bad-spec =

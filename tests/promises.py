@@ -17,8 +17,8 @@ demands' it may be one of grid/specs/Demands.antt, and above its table one that 
 answers the second column has fields of records `Mistakes`, those of grid/specs/Mistakes.antt by their names and others
 as places, all of them, and the last one must-fail edits, as `crate/edit`; a crate holds for the edits after it in its
 row. In the table by calls each call of document 01 (a method of words/src/lib.rt's TriangleCode, or what
-grid/src/lib.rt hands on) and each call exported to C has its row, with two edits or more of code. Every edit stands in
-a row. Each of these calls has its row where contracts are held to promises, under the name that its promise has.
+grid/src/lib.rt hands on), each call of a table and each call exported to C has its row, with two edits or more of code.
+Every edit stands in a row. Each of these calls has its row where contracts are held to promises, under the name that its promise has.
 
 The crates in the tables of README.md and ARCHITECTURE.md are the libraries of crates.txt, and the modules that
 ARCHITECTURE.md names stand in their crates. LANDINGS.md tells what was, and is not read.
@@ -38,6 +38,7 @@ ARCHITECTURE = "docs/ARCHITECTURE.md"
 DOCS = (README, PROMISES, DECISIONS, ARCHITECTURE, "docs/FILING.md", "docs/CONSOLE.md", "docs/PERFORMANCE.md")
 DEMANDS, MISTAKES = "grid/specs/Demands.antt", "grid/specs/Mistakes.antt"
 CONTRACTS, HOST_CONTRACTS = "crates/grid/specs/Contracts.antt", "crates/contracts/specs/Host.antt"
+TABLE_CONTRACTS, TABLE_PROMISES = "crates/contracts/specs/Soundings.antt", "tables/specs/Promises.antt"
 ASKED = "The demands"
 WRONG_ANSWERS = "Wrong answers that are ruled out, as theorems"
 BY_CALL = "Wrong programs and definitions, call by call"
@@ -201,11 +202,20 @@ def exported():
 
 
 @functools.cache
+def of_table():
+    """The calls of a table of soundings: those of its functions that a promise names."""
+    promised = {name for _, name in file_names(TABLE_PROMISES).parts["OneAnswer"]}
+    lib = (CRATES / "soundings/src/lib.rt").read_text(encoding="utf-8")
+    return [name for name in re.findall(r"^pub fn (\w+)\(", lib, re.MULTILINE) if name in promised]
+
+
+@functools.cache
 def contracts():
     """Where calls are held to their promises: the file with a row for each, the record of promises, the calls."""
     return (
         (CONTRACTS, DEMANDS, "Demand1", calls()),
         (HOST_CONTRACTS, "host/specs/Promises.antt", "OneAnswer", exported()),
+        (TABLE_CONTRACTS, TABLE_PROMISES, "OneAnswer", of_table()),
     )
 
 
@@ -348,7 +358,8 @@ class Documents:
         return found
 
     def check_promises(self):
-        refuted, named, of_call, titles = set(), set(), {c: set() for c in calls() + exported()}, set()
+        refuted, named, titles = set(), set(), set()
+        of_call = {c: set() for c in calls() + of_table() + exported()}
         for title, rows, other in self.sections(PROMISES):
             titles.add(title)
             width = 3 if title == WRONG_ANSWERS else 2
@@ -365,7 +376,7 @@ class Documents:
                         if call in of_call:
                             of_call[call].update(e for e in found if edits()[e])
                         elif not call.startswith("./"):
-                            self.say(PROMISES, f"{call} is no call of document 01, and none for C")
+                            self.say(PROMISES, f"{call} is no call of document 01, of a table or for C")
                 else:
                     self.check_bare(PROMISES, row[1], [DEMANDS] if title == ASKED else [])
             if title == ASKED:
@@ -497,6 +508,8 @@ TAKEN = (
     ("a row of Demand1", CONTRACTS, "  pub ring :", "ring is a row of Contracts or of Demand1"),
     ("an exported call's contract", HOST_CONTRACTS, "Says (grid_list.Asked", "grid_list has not one row"),
     ("an exported call's row", PROMISES, "`grid_cross`", "grid_cross has fewer than two"),
+    ("a table call's contract", TABLE_CONTRACTS, "Says (clear.Asked", "clear has not one row"),
+    ("a table call's row", PROMISES, "`clear`", "clear has fewer than two"),
     ("a mistake's row of another file", PROMISES, "Mistakes.reversed", "no row for Mistakes.reversed"),
 )
 

@@ -190,7 +190,9 @@ fn mixed_sounding(s: Sounding) -> i32 {
 // The reading, or -1; that of a refused call is none.
 #[no_mangle]
 pub extern "C" fn bench_get(degree: u64, code: u64, list: &[i32]) -> i32 {
-    mixed_sounding(soundings::get(degree, TriangleCode(code), list).sounding)
+    let r = soundings::get(degree, TriangleCode(code), list);
+    let s = r.sounding;
+    mixed_sounding(s)
 }
 
 #[no_mangle]

@@ -5,7 +5,7 @@ use Rattle.contracts.specs.Soundings.{Contracts}
 
 pub contracts : Contracts
 contracts = record {
-  get = λ κs n t list r. says-itself;
+  get = λ κs n t list new r. says-itself;
   set = λ κs n t x list new r. says-itself;
   clear = λ κs n t list new r. says-itself;
 }

@@ -7,8 +7,7 @@ use contract.Lifetimes.{Lfts}
 use denote.Ref.{RefT, now}
 use Rattle.frame.specs.Promises.{Says}
 use Rattle.words.specs.declared.TriangleCode.{TriangleCode}
-use Rattle.tables.specs.Answers.{GetAnswer, DeedAnswer}
-use Rattle.tables.specs.declared.Deed.the-variants.{Setting, Clearing}
+use Rattle.tables.specs.Answers.{GetAnswer, SetAnswer, ClearAnswer}
 use Rattle.tables.specs.declared.TableAnswer.{TableAnswer}
 use Rattle.tables.specs.declared.SoundingAnswer.{SoundingAnswer}
 use Rattle.soundings.proofs.get.Reads as get
@@ -21,13 +20,13 @@ Readings = RefT (List ℤ)
 
 -- For any arguments, any result, and lists left with any contents.
 pub record Contracts : Type 0 where
-  pub get : (κs : Lfts 1) (n : ℕ) (t : TriangleCode) (list : Readings) (r : SoundingAnswer)
-      → Says (get.Asked κs (n, (t, (list, tt)))) (get.Learnt κs (n, (t, (list, tt))) r (n, (t, (list, tt))))
+  pub get : (κs : Lfts 1) (n : ℕ) (t : TriangleCode) (list new : Readings) (r : SoundingAnswer)
+      → Says (get.Asked κs (n, (t, (list, tt)))) (get.Learnt κs (n, (t, (list, tt))) r (n, (t, (new, tt))))
       (GetAnswer n t (now list) r)
   pub set : (κs : Lfts 1) (n : ℕ) (t : TriangleCode) (x : ℤ) (list new : Readings) (r : TableAnswer)
       → Says (set.Asked κs (n, (t, (x, (list, tt)))))
       (set.Learnt κs (n, (t, (x, (list, tt)))) r (n, (t, (x, (new, tt)))))
-      (DeedAnswer (Setting x) n t (now list) r (now new))
+      (SetAnswer n t x (now list) r (now new))
   pub clear : (κs : Lfts 1) (n : ℕ) (t : TriangleCode) (list new : Readings) (r : TableAnswer)
       → Says (clear.Asked κs (n, (t, (list, tt)))) (clear.Learnt κs (n, (t, (list, tt))) r (n, (t, (new, tt))))
-      (DeedAnswer Clearing n t (now list) r (now new))
+      (ClearAnswer n t (now list) r (now new))

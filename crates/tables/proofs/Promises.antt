@@ -5,25 +5,34 @@ use mathlib.Core.Logic.{_↔_, ⊎-elim}
 use mathlib.Core.List.{List}
 use Prim.Native.Nat.{ℕ}
 use lib.IntN.{ℤ}
+use Rattle.frame.specs.Promises.{KeepsLent}
 use Rattle.frame.proofs.Answering.{answers-or-not, keeps-known}
 use Rattle.frame.proofs.Answering as frame
 use Rattle.words.specs.declared.TriangleCode.{TriangleCode}
 use Rattle.tables.specs.Tables.{isReading, none, isBad, said, number, readingAt}
 use Rattle.tables.specs.Refusals.{refuseGet, refuseDeed}
-use Rattle.tables.specs.Answers.{noSounding, found, GetAnswer, carriedOut, turnedDown}
+use Rattle.tables.specs.Answers.{refused, noSounding, found, GetAnswer, carriedOut, turnedDown, DeedAnswer}
 use Rattle.tables.specs.Promises.{OneAnswer, Least, Visible}
 use Rattle.tables.specs.declared.Sounding.{Sounding}
 use Rattle.tables.specs.declared.Sounding.the-variants.{Nothing, Reading}
+use Rattle.tables.specs.declared.Deed.{Deed}
+use Rattle.tables.specs.declared.Deed.the-variants.{Setting, Clearing}
 use Rattle.tables.specs.declared.SoundingAnswer.{SoundingAnswer}
 use Rattle.tables.proofs.Scanning.{first-there, none-before, none-at}
 use Rattle.tables.proofs.Numbers.{number-said, no-reading, reading-said}
 use Rattle.tables.proofs.Refused.{get-passed}
 
+-- of a call that writes
+deeds : (e : Deed) (n : ℕ) (t : TriangleCode) (list : List ℤ)
+    → KeepsLent (refuseDeed e n t list) (DeedAnswer e n t list) (λ r. r .refusal) (refused list) list
+deeds e n t list =
+    keeps-known (refuseDeed e n t list) (carriedOut e t list) (turnedDown list) (λ x. x .0 .refusal) refl refl
+
 pub one-answer : OneAnswer
 one-answer = record {
   get = λ n t list. keeps-known (refuseGet n t list) (found t list) (noSounding list) (λ r. r .refusal) refl refl;
-  deeds = λ e n t list.
-      keeps-known (refuseDeed e n t list) (carriedOut e t list) (turnedDown list) (λ x. x .0 .refusal) refl refl;
+  set = λ n t x. deeds (Setting x) n t;
+  clear = deeds Clearing;
 }
 
 pub least : Least

@@ -13,11 +13,12 @@ use Rattle.words.specs.Counting.{codeAt, placeOf}
 use Rattle.words.specs.declared.TriangleCode.{TriangleCode}
 use Rattle.tables.specs.Tables.{places, isReading, none, isBad, anyBad, leastBad, said, number, readingAt}
 use Rattle.tables.specs.Refusals.{tableOrder, tableRows, refuseGet, refuseDeed}
-use Rattle.tables.specs.Answers.{refused, noSounding, GetAnswer, DeedAnswer}
+use Rattle.tables.specs.Answers.{refused, noSounding, GetAnswer, DeedAnswer, SetAnswer, ClearAnswer}
 use Rattle.tables.specs.Histories.{Call, asks, does, got, done, answers, onList, mapOf, empty, onMap}
 use Rattle.tables.specs.declared.Sounding.{Sounding}
 use Rattle.tables.specs.declared.Sounding.the-variants.{Nothing, Reading}
 use Rattle.tables.specs.declared.Deed.{Deed}
+use Rattle.tables.specs.declared.Deed.the-variants.{Setting, Clearing}
 use Rattle.tables.specs.declared.TableAnswer.{TableAnswer}
 use Rattle.tables.specs.declared.SoundingAnswer.{SoundingAnswer}
 
@@ -26,8 +27,10 @@ use Rattle.tables.specs.declared.SoundingAnswer.{SoundingAnswer}
 pub record OneAnswer : Type 0 where
   pub get : (n : ℕ) (t : TriangleCode) (list : List ℤ)
       → Keeps (refuseGet n t list) (GetAnswer n t list) (λ r. r .refusal) (noSounding list)
-  pub deeds : (e : Deed) (n : ℕ) (t : TriangleCode) (list : List ℤ)
-      → KeepsLent (refuseDeed e n t list) (DeedAnswer e n t list) (λ r. r .refusal) (refused list) list
+  pub set : (n : ℕ) (t : TriangleCode) (x : ℤ) (list : List ℤ)
+      → KeepsLent (refuseDeed (Setting x) n t list) (SetAnswer n t x list) (λ r. r .refusal) (refused list) list
+  pub clear : (n : ℕ) (t : TriangleCode) (list : List ℤ)
+      → KeepsLent (refuseDeed Clearing n t list) (ClearAnswer n t list) (λ r. r .refusal) (refused list) list
 
 -- "It holds one reading for each triangle of one degree .. ordered by code": each has its own place, and the places are
 -- those of the codes in rising order.

@@ -166,8 +166,8 @@ static int give_readings_alone(struct input *in, const char *kind, uint64_t degr
     return degree <= 6 && is_random(kind);
 }
 
-/* What a call on a table is measured by: a plain loop that adds up the same list, which the compiler may make as fast as
- * it can. */
+/* What a call on a table is measured by: a plain loop that adds up the same list, which the compiler may make as fast
+ * as it can. */
 __attribute__((noinline, optimize("O3"))) static int64_t add_up(const int32_t *list, size_t places) {
     int64_t sum = 0;
     for (size_t k = 0; k < places; k++) {

@@ -59,7 +59,8 @@ fn usage(call: u64, out: &mut [u8]) -> usize
     texts::put_form(call, out, at)
 }
 
-// The answer of a call, by its row of the table, whose arguments stand from a place of a line on; 0 where they cannot be read.
+// The answer of a call, by its row of the table, whose arguments stand from a place of a line on; 0 where they cannot
+// be read.
 fn call_answer(call: u64, line: &[u8], at: usize, out: &mut [u8]) -> usize
     requires { ⌜ (at ≤ length (now line)) × (8192 ≤ length (now out)) ⌝ }
     ensures { λ r. ⌜ r ≤ 8000 ⌝ }

@@ -180,6 +180,12 @@ module _ (os os′ : List ℕ) (xs ys : List Row) {k : ℕ} (t : T (inOrder os (
   pub refuse-after : firstOf os xs ≡ 0 → First ys k → k ≡ firstOf os′ (xs ++ ys)
   refuse-after z f = or-next _ _ z (first-turn f) ∙ sym (refusal-append os os′ xs ys t u)
 
+-- where the other refused nothing, what is refused is what the rest of the rows refuses
+pub refuse-rest : (os os′ os″ : List ℕ) (xs ys : List Row) → T (inOrder os (numbers xs))
+    → T (inOrder os′ (numbers ys)) → T (inOrder os″ (numbers (xs ++ ys))) → firstOf os xs ≡ 0
+    → firstOf os′ ys ≡ firstOf os″ (xs ++ ys)
+refuse-rest os os′ os″ xs ys t u v z = or-next _ _ z (in-turn os′ ys u) ∙ sym (refusal-append os os″ xs ys t v)
+
 -- ---- no refusal
 
 abbrev pub NoneSo : List Row → Type 0

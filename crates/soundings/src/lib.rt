@@ -1,6 +1,6 @@
-// The table of soundings (document 02, 2026-03): one reading for each triangle of one degree from 0 to 6, in a lent list
-// ordered by code. `get`, `set` and `clear` are its calls. None has a `requires`; each states its complete answer, and
-// the crate contracts holds it to that.
+// The calls of a table of soundings (document 02, 2026-03), which has one reading for each triangle of one degree from 0
+// to 6, in a lent list ordered by code: `get`, `set` and `clear`. None has a `requires`; each states its complete answer,
+// and the crate contracts holds it to that.
 use tables::Deed;
 use words::TriangleCode;
 ghost use mathlib.Core.Path.{_≡_};

@@ -5,27 +5,22 @@ use mathlib.Core.List.{List, [], _∷_, _++_}
 use Prim.Native.Nat.{ℕ, _≤_, _<_}
 use native.Mathlib.Omega.{arith}
 use borrow.Author.Tests.{lt-ltb, le-ltb, eq-eqb, ne-eqb, ltb-false, eqb-true, not-false}
-use lib.Dec.{T, ltb, eqb}
+use lib.Dec.{ltb, eqb}
 use lib.IntN.{ℤ}
 use lib.ListN.{length}
-use Rattle.frame.specs.Refusals.{_either_, Row, _when_, firstOf, order}
-use Rattle.frame.proofs.Refusing.{_or_, alone, numbers, inOrder, in-turn, turn-append, refusal-append, not-given}
-use Rattle.frame.proofs.Refusing.{or-first, or-next, or-zero}
-use Rattle.frame.proofs.Refusing.{here, next, nothing, refuse-first, refuse-before, refuse-after, NoneSo, none-so, none-after}
-use Rattle.frame.proofs.Refusing.{either-false}
+use Rattle.frame.specs.Refusals.{_either_, _when_, firstOf, order}
+use Rattle.frame.proofs.Refusing.{_or_, alone, in-turn, turn-append, not-given, or-first, or-next, or-zero}
+use Rattle.frame.proofs.Refusing.{here, next, nothing, refuse-first, refuse-before, refuse-after, refuse-rest}
+use Rattle.frame.proofs.Refusing.{NoneSo, none-so, none-after, either-false}
 use Rattle.words.specs.Words.{degreeOf}
 use Rattle.words.specs.Refusals.{codeRows, checkCode, IsCode}
 use Rattle.words.specs.Counting.{placeOf}
 use Rattle.words.specs.declared.TriangleCode.{TriangleCode}
 use Rattle.words.proofs.CodeCount.{place-below}
 use Rattle.tables.specs.Tables.{places, anyBad}
-use Rattle.tables.specs.Refusals.{tableOrder, placeRows, outOfRange, readingRows, tableRows, refuseGet, refuseDeed}
+use Rattle.tables.specs.Refusals.{tableOrder, placeRows, outOfRange, readingRows, tableRows}
+use Rattle.tables.specs.Refusals.{refuseGet, refuseDeed}
 use Rattle.tables.specs.declared.Deed.{Deed}
-
--- where the rows before refuse nothing, the refusal is that of the rest
-pub refuse-rest : (os os′ os″ : List ℕ) (xs ys : List Row) → T (inOrder os (numbers xs)) → T (inOrder os′ (numbers ys))
-    → T (inOrder os″ (numbers (xs ++ ys))) → firstOf os xs ≡ 0 → firstOf os′ ys ≡ firstOf os″ (xs ++ ys)
-refuse-rest os os′ os″ xs ys t u v z = or-next _ _ z (in-turn os′ ys u) ∙ sym (refusal-append os os″ xs ys t v)
 
 -- ---- of the degree and the code
 

@@ -18,11 +18,12 @@ use Rattle.words.specs.Refusals.{IsCode}
 use Rattle.words.specs.Counting.{placeOf}
 use Rattle.words.specs.declared.TriangleCode.{TriangleCode}
 use Rattle.words.proofs.CodeCount.{place-below}
-use Rattle.tables.specs.Tables.{places, isReading, none, isBad, said, number, readingAt, soundingAfter, readingsAfter}
-use Rattle.tables.specs.Refusals.{tableOrder, placeRows, outOfRange, readingRows, tableRows, refuseGet, refuseDeed}
+use Rattle.tables.specs.Tables.{places, none, isBad, said, number, readingAt, soundingAfter, readingsAfter}
+use Rattle.tables.specs.Refusals.{tableOrder, placeRows, outOfRange, readingRows, tableRows}
+use Rattle.tables.specs.Refusals.{refuseGet, refuseDeed}
 use Rattle.tables.specs.Answers.{tableAnswer, soundingAnswer, noSounding, found, carriedOut, turnedDown}
-use Rattle.tables.specs.Histories.{Call, asks, does, Answered, got, done, answers, doing, onList, Map, empty, with}
-use Rattle.tables.specs.Histories.{mapOf, otherDegreeRows, refuseAsked, refuseDone, onMap}
+use Rattle.tables.specs.Histories.{Call, asks, does, Answered, got, done, answers, doing, onList}
+use Rattle.tables.specs.Histories.{Map, with, otherDegreeRows, refuseAsked, refuseDone, onMap}
 use Rattle.tables.specs.Promises.{IsTable, fresh, SimpleMap}
 use Rattle.tables.specs.declared.Sounding.{Sounding}
 use Rattle.tables.specs.declared.Sounding.the-variants.{Nothing, Reading}
@@ -159,7 +160,8 @@ module _ {n : ℕ} {list : List ℤ} {map : Map} (a : Agree n list map) where
     where
       go : (f : ℕ) → (f ≡ 23 → ⊥) → (f ≡ 0 → IsCode n t × (outOfRange e ≡ false))
           → (let x = settled f (carriedOut e t list) (turnedDown list) in
-          let y = settled {A = TableAnswer × Map} f (tableAnswer 0 0, with t (soundingAfter e) map) (λ k. (tableAnswer k 0, map)) in
+          let new = with t (soundingAfter e) map in
+          let y = settled {A = TableAnswer × Map} f (tableAnswer 0 0, new) (λ k. (tableAnswer k 0, map)) in
           (done (x .0) ≡ done (y .0)) × Agree n (x .1) (y .1))
       go zero d h = let k = h refl in (refl, carry-out e t a (k .0) (k .1))
       go (suc f) d h = (ap done (sym (no-place list (suc f) d)), a)
@@ -186,14 +188,16 @@ begun n l = record {
 
 is-table : (n : ℕ) (list : List ℤ) → n ≤ 6 → IsTable n list ↔ (firstOf tableOrder (tableRows n list) ≡ 0)
 is-table n list l = (
-  λ is. none-so tableOrder (tableRows n list) tt .1 (rw (eq-eqb (length list) (places n) (is .long)) refl, (is .good, tt)),
+  λ is. none-so tableOrder (tableRows n list) tt .1
+      (rw (eq-eqb (length list) (places n) (is .long)) refl, (is .good, tt)),
   λ e. let g = list-good n list (none-so tableOrder (tableRows n list) tt .0 e) in
       record { degree = l; long = g .0; good = g .1 },
 )
 
 pub simple-map : SimpleMap
 simple-map = record {
-  asked = λ n t list r p. ap (λ x. (got x, list)) (sym (known-settled (refuseGet n t list) (found t list) (noSounding list) r p));
+  asked = λ n t list r p.
+      ap (λ x. (got x, list)) (sym (known-settled (refuseGet n t list) (found t list) (noSounding list) r p));
   deed = λ e n t list r new p.
       ap doing (sym (known-settled (refuseDeed e n t list) (carriedOut e t list) (turnedDown list) (r, new) p));
   isTable = is-table;

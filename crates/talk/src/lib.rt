@@ -20,8 +20,8 @@ struct Progress {
     held: Held,
 }
 
-// How a turn ends: with so many bytes of a line that goes on and a table, with the input, or with a read or a write that
-// failed.
+// How a turn ends: with so many bytes of a line that goes on, and the table; with the input; or with a read or a write
+// that failed.
 enum Outcome {
     Line(usize, Held),
     End,
@@ -154,7 +154,10 @@ fn add_byte(b: u8, line: &mut [u8], n: usize) -> usize
 
 // One byte of the input.
 fn take_byte(b: u8, line: &mut [u8], list: &mut [i32], answers: &mut [u8], p: Progress) -> Progress
-    requires { ⌜ (p .filled ≤ 65536) × (1000 ≤ length (now line)) × (81921 ≤ length (now list)) × (65536 ≤ length (now answers)) ⌝ }
+    requires { ⌜
+        (p .filled ≤ 65536) × (1000 ≤ length (now line)) × (81921 ≤ length (now list))
+        × (65536 ≤ length (now answers))
+        ⌝ }
     ensures { λ r. ⌜ r .filled ≤ 65536 ⌝ }
 {
     if b == b'\n' {
@@ -177,7 +180,10 @@ fn take(
     answers: &mut [u8],
     before: Progress,
 ) -> Progress
-    requires { ⌜ (before .filled ≤ 65536) × (1000 ≤ length (now line)) × (81921 ≤ length (now list)) × (65536 ≤ length (now answers)) ⌝ }
+    requires { ⌜
+        (before .filled ≤ 65536) × (1000 ≤ length (now line)) × (81921 ≤ length (now list))
+        × (65536 ≤ length (now answers))
+        ⌝ }
     ensures { λ r. ⌜ r .filled ≤ 65536 ⌝ }
 {
     let mut p = before;

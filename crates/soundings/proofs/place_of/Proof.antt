@@ -31,7 +31,8 @@ mul-result : tie.Need-mul-result
 mul-result c =
     let s = c .before .before .before in
     let k = is-code (s .args .t) (s .pre) in
-    let e : (c .before .side-of .result - 4) * c .power .result ≡ (sideOf (s .args .t .0) - 4) * 2 ^ (2 * degreeOf (s .args .t .0)) = cc in
+    let w = s .args .t .0 in
+    let e : (c .before .side-of .result - 4) * c .power .result ≡ (sideOf w - 4) * 2 ^ (2 * degreeOf w) = cc in
     omega (arith, e, place-word k, place-fits k)
 
 path-of-requires : tie.Need-path-of-requires
@@ -43,7 +44,8 @@ add-result : tie.Need-add-result
 add-result c =
     let s = c .before .before .before .before in
     let k = is-code (s .args .t) (s .pre) in
-    let e : (c .before .before .side-of .result - 4) * c .before .power .result + c .path-of .result ≡ placeOf (s .args .t) = cc (place-word k) in
+    let side = c .before .before .side-of .result in
+    let e : (side - 4) * c .before .power .result + c .path-of .result ≡ placeOf (s .args .t) = cc (place-word k) in
     omega (arith, e, place-fits k)
 
 returns : tie.Need-returns

@@ -37,4 +37,6 @@ returns-5 c =
     (sym (c .before .degree-of .ensures) ∙ c .if4 .left)
 
 pub refuse-place-spec : {M : Type 1} → statement M
-refuse-place-spec = tie.close (tie.spec returns check-requires returns-2 returns-3 degree-of-requires returns-4 returns-5)
+refuse-place-spec =
+    tie.close
+    (tie.spec returns check-requires returns-2 returns-3 degree-of-requires returns-4 returns-5)

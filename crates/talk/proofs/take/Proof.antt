@@ -1,4 +1,4 @@
--- `talk::take` is safe and ends. The loop's invariant: the answers so far fit, and the three buffers have their lengths.
+-- `talk::take` is safe and ends. The loop's invariant: the answers so far fit, and the three lists have their lengths.
 -- The measure is what is left of the chunk. Assumes nothing.
 use mathlib.Core.Path.{_≡_}
 use Prim.Native.Nat.{_≤_, _-_}

@@ -17,7 +17,9 @@ returns-2 : tie.Need-returns-2
 returns-2 c = search needs
 
 returns-3 : tie.Need-returns-3
-returns-3 c = λ z. let e = c .before .before in (e .before .refuse-degree .ensures (e .if1 .left), c .if2 .left ∙ c .before .places-of .ensures)
+returns-3 c =
+    let e = c .before .before in
+    λ z. (e .before .refuse-degree .ensures (e .if1 .left), c .if2 .left ∙ c .before .places-of .ensures)
 
 pub refuse-readings-spec : {M : Type 1} → statement M
 refuse-readings-spec =

@@ -62,7 +62,7 @@ def compare_row(place, examples):
 
 def compare_forms(place, forms):
     for form in sorted(set(forms) ^ set(FORMS)):
-        wrong.append(f"{place}: the form {form!r} is {'not in tables.rt' if form in forms else 'missing'}")
+        wrong.append(f"{place}: the form {form!r} is {'not in texts.rt' if form in forms else 'missing'}")
     if len(forms) != len(set(forms)):
         wrong.append(f"{place}: a form stands there twice")
 

@@ -204,10 +204,9 @@ def exported():
 
 @functools.cache
 def of_table():
-    """The calls of a table of soundings: those of its functions that a promise names."""
-    promised = {name for _, name in file_names(TABLE_PROMISES).parts["OneAnswer"]}
+    """The calls of a table of soundings."""
     lib = (CRATES / "soundings/src/lib.rt").read_text(encoding="utf-8")
-    return [name for name in re.findall(r"^pub fn (\w+)\(", lib, re.MULTILINE) if name in promised]
+    return re.findall(r"^pub fn (\w+)\(", lib, re.MULTILINE)
 
 
 @functools.cache

@@ -798,8 +798,8 @@ def call_list(n, x, y, z, places=None):
 
 # ==== The console's table: docs/CONSOLE.md, "A table of soundings"
 
-# "The console holds one table (document 02, 2026-03), from the line that opens it to the next such line or the end of
-# the input." This is all that is carried from line to line.
+# "The console holds one table (document 02, 2026-03), from the line that opens it to the next one that does, or the end
+# of the input". This is all that is carried from line to line.
 CONSOLE = SimpleNamespace(table=None)
 NO_TABLE = "error: no table is open; table DEGREE opens one"
 
@@ -812,7 +812,7 @@ def call_table(n, places=None):
         return f"degree {n}, {len(CONSOLE.table.places)} places"
 
     # "The degree may be any number, and nothing is refused", if a list is given. Of a fresh table: "A degree of 7 to 24
-    # is refused with 20, one above 24 with 1; the table that was open before stays open, as it is."
+    # is refused with 20, one above 24 with 1." "A table line that is refused .. leaves the open table as it is."
     return either(table_degree_refusals(n) if places is None else set(), say)
 
 
@@ -857,7 +857,7 @@ def place_text(code, number):
 
 
 def readings_text(count, shown):
-    # "The number is followed by `reading` where there is just one."
+    # "It says `1 reading`, and `readings` after any other count."
     return f"{count} reading{'' if count == 1 else 's'}" + (": " + ", ".join(shown) if shown else "")
 
 
@@ -868,7 +868,7 @@ def call_readings(table):
         shown = [place_text(code, x) for code, x in zip(codes_of(n), places) if x != NOTHING]
         return readings_text(sum(map(is_reading, places)), shown)
 
-    # "it is refused: 1 for a degree above 24, 20 for one of 7 to 24, 22 for the length"
+    # "it is refused, in this order: 1 for a degree above 24, 20 for one of 7 to 24, 22 for the length"
     return either(table_degree_refusals(n) | length_refusals(n, places), say)
 
 
@@ -963,8 +963,8 @@ def read_table(given):
     if len(given) == 1:
         return [read_number(given[0])]
     within(len(given) % 2, 1, 1)
-    # "LENGTH places (0 to 81921) that all hold FILL, and then each PLACE, which is below LENGTH, its VALUE; of two for
-    # one PLACE the later holds"
+    # "LENGTH places (0 to 81921, ..) that all hold FILL, but at each PLACE, which is below LENGTH, its VALUE; of two
+    # for one PLACE the later holds"
     length = within(read_number(given[1]), 0, LONGEST_TABLE)
     places = [read_signed(given[2])] * length
     for place, value in zip(given[3::2], given[4::2]):
@@ -2148,8 +2148,8 @@ def unknown_table_lines():
 
 
 def before_any_table():
-    # "Before the first, `set`, `get`, `clear` and `readings` are answered by" the error. What can not be read is said
-    # before that, and opens no table; nor does a table that is refused.
+    # "Where no table is open, a line that can be read as one of these is answered before anything is refused". What can
+    # not be read is said before that, and opens no table; nor does a table that is refused.
     yield from written(WITHOUT_TABLE)
     for line in [*unreadable_table_lines(), *unknown_table_lines()]:
         yield line

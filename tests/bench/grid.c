@@ -139,8 +139,9 @@ static int32_t random_reading(void) {
 /* The list of the degree, from an argument on: half of its places have a reading. It is filled once. */
 static void give_readings(struct input *in, int first, uint64_t degree) {
     size_t places = (size_t)20 << (2 * degree);
-    for (size_t k = 0; readings[0] == 0 && k < PLACES_OF_DEGREE_6; k++) {
-        readings[k] = k > 0 && below(2) == 0 ? random_reading() : -1;
+    /* Its first place is filled last, and tells that it is. */
+    for (size_t k = PLACES_OF_DEGREE_6; readings[0] == 0 && k-- > 0;) {
+        readings[k] = k == 0 || below(2) == 0 ? -1 : random_reading();
     }
     in->argument[first] = (uint64_t)readings;
     in->argument[first + 1] = places;

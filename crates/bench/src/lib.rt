@@ -1,9 +1,9 @@
 // The calls of document 01, and those of a table of soundings, exported to C, for `./bench` to count; checking is the
-// crate host's. Each is thin: it hands
-// the numbers on, and answers one number that depends on all numbers of the answer, so that the compiler can leave
-// nothing out. Where a code or a name is answered, this is the code (with the edge's number in its lowest bits) or the
-// name, or the refusal's number.
-// One call is counted without all of its answer: crossing drops how the corners turned, as the call for a C host does.
+// crate host's. Each is thin: it hands the numbers on, and answers one number that depends on all numbers of the
+// answer, so that the compiler can leave nothing out. Where a code or a name is answered, this is the code (with the
+// edge's number in its lowest bits) or the name, or the refusal's number.
+// Two calls are counted without all of their answer: crossing drops how the corners turned, as the call for a C host
+// does, and get answers what the table has alone.
 // A contract says that the number is made of the call's own answer; those that mix signed numbers or floats have none.
 use grid::Coordinates;
 use grid::CornerName;
@@ -180,19 +180,19 @@ pub extern "C" fn bench_list(degree: u64, x: i32, y: i32, z: i32, out: &mut [u64
 
 // ---- a table of soundings
 
-fn mixed_sounding(s: Sounding) -> i32 {
+// A reading, or -1.
+fn number_of(s: Sounding) -> i32 {
     match s {
         Sounding::Nothing => -1,
         Sounding::Reading(x) => x,
     }
 }
 
-// The reading, or -1; that of a refused call is none.
 #[no_mangle]
 pub extern "C" fn bench_get(degree: u64, code: u64, list: &[i32]) -> i32 {
     let r = soundings::get(degree, TriangleCode(code), list);
     let s = r.sounding;
-    mixed_sounding(s)
+    number_of(s)
 }
 
 #[no_mangle]

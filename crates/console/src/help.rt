@@ -3,7 +3,7 @@ use crate::arguments;
 ghost use Prim.Native.Nat.{_≤_};
 ghost use lib.ListN.{length};
 
-const HELP: [u8; 4373] = *b"The grid of the globe: one call to a line, and one line for its answer.
+const HELP: [u8; 4440] = *b"The grid of the globe: one call to a line, and one line for its answer.
 
   WORD     0x and 1 to 16 hexadecimal digits
   CODE     a triangle code, as 10003 for side 100 and digits 0 and 3; or a WORD
@@ -11,7 +11,7 @@ const HELP: [u8; 4373] = *b"The grid of the globe: one call to a line, and one l
   X Y Z    a direction: three whole numbers
   PLACES   0 to 16: how many places the lent list has. They hold 1, 2, 3 and so on before the call,
            and stand after the answer as the call leaves them
-  MM       millimetres, 0 to 100000
+  MM       millimetres, a whole number: a reading is 0 to 100000. FILL and VALUE are whole numbers too
 
 Any other number is decimal, or a WORD. A line that begins with # is a remark.
 Under each call stand an example and its answer. A refused call answers its number and the reason.

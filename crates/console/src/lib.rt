@@ -1,20 +1,21 @@
-// The console: one line of text to its answer. The first word names a call, the others are its arguments (tables). It
+// The console: one line of text to its answer. The first word names a call, the others are its arguments (texts). It
 // holds a table of soundings, which the caller keeps for it: `Held`, and a list of at least 81,921 numbers.
 mod answers;
 mod arguments;
 mod calls;
-mod desk;
+mod held;
 mod help;
 mod lists;
 mod texts;
 
 ghost use Prim.Native.Nat.{_≤_};
 ghost use lib.ListN.{length};
-pub use desk::Held;
-pub use desk::Reply;
+pub use held::Held;
+pub use held::Part;
+pub use held::Reply;
 
 // The answer of many readings goes on.
-pub use desk::go_on;
+pub use held::go_on;
 
 // Before the first line no table is open.
 pub fn none_held() -> Held {
@@ -30,7 +31,7 @@ pub fn too_long(held: Held, out: &mut [u8]) -> Reply
     requires { ⌜ 8192 ≤ length (now out) ⌝ }
     ensures { λ r. ⌜ r .size ≤ 8000 ⌝ }
 {
-    desk::whole(
+    held::whole(
         lines::put_bytes(b"error: a line has at most 1000 bytes", out, 0),
         held,
     )
@@ -40,7 +41,7 @@ pub fn too_long(held: Held, out: &mut [u8]) -> Reply
 pub fn nothing(held: Held) -> Reply
     ensures { λ r. ⌜ r .size ≤ 8000 ⌝ }
 {
-    desk::whole(0, held)
+    held::whole(0, held)
 }
 
 fn unknown(out: &mut [u8]) -> usize
@@ -59,7 +60,7 @@ fn usage(call: u64, out: &mut [u8]) -> usize
     texts::put_form(call, out, at)
 }
 
-// The answer of a call, by its row of the table, whose arguments stand from a place of a line on; 0 where they cannot
+// The answer of a call, by its row of CALLS, whose arguments stand from a place of a line on; 0 where they cannot
 // be read.
 fn call_answer(call: u64, line: &[u8], at: usize, out: &mut [u8]) -> usize
     requires { ⌜ (at ≤ length (now line)) × (8192 ≤ length (now out)) ⌝ }
@@ -81,7 +82,7 @@ fn call_answer(call: u64, line: &[u8], at: usize, out: &mut [u8]) -> usize
 }
 
 // The answer of a call on the table.
-fn desk_answer(
+fn table_answer(
     call: u64,
     line: &[u8],
     at: usize,
@@ -92,9 +93,9 @@ fn desk_answer(
     requires { ⌜ (at ≤ length (now line)) × (81921 ≤ length (now list)) × (8192 ≤ length (now out)) ⌝ }
     ensures { λ r. ⌜ r .size ≤ 8000 ⌝ }
 {
-    let r = desk::answer(call, line, at, held, list, out);
+    let r = held::answer(call, line, at, held, list, out);
     if r.size == 0 {
-        return desk::whole(usage(call, out), held);
+        return held::whole(usage(call, out), held);
     }
     r
 }
@@ -128,7 +129,7 @@ pub fn answer(line: &[u8], held: Held, list: &mut [i32], out: &mut [u8]) -> Repl
     }
     let call = texts::call_named(&line[from..end]);
     match call {
-        21..=25 => desk_answer(call, line, end, held, list, out),
-        _ => desk::whole(plain_answer(call, line, end, out), held),
+        21..=25 => table_answer(call, line, end, held, list, out),
+        _ => held::whole(plain_answer(call, line, end, out), held),
     }
 }

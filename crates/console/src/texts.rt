@@ -44,7 +44,7 @@ a word passes 1 to 4 as a corner name and is not the canonical one
 no corner of the degree has the twelve weights";
 
 // Document 02: the same, from 20.
-const TABLE_REASONS: [u8; 126] = *b"wrong degree
+const REASONS_FROM_20: [u8; 126] = *b"wrong degree
 reading out of range
 the list's length isn't 20*4^degree
 the list holds a number that is neither a reading nor -1";
@@ -167,7 +167,7 @@ pub fn put_reason(refusal: u64, out: &mut [u8], at: usize) -> usize
         return at;
     }
     if 20 <= refusal {
-        return put_row(&TABLE_REASONS, refusal - 20, out, at);
+        return put_row(&REASONS_FROM_20, refusal - 20, out, at);
     }
     put_row(&REASONS, refusal - 1, out, at)
 }

@@ -1,6 +1,6 @@
 -- Laws of answers and promises: what a program returns, that there is one answer and no other, and the number that it
 -- has. With lent memory an answer is the two together (`Lent`), so that each law serves both. Assumes nothing.
-use mathlib.Core.Path.{_≡_, _∙_, refl, sym, ap}
+use mathlib.Core.Path.{_≡_, _∙_, refl, sym, ap, subst}
 use mathlib.Core.Bool.{false}
 use mathlib.Core.Logic.{_⊎_, inl, inr, ⊎-elim}
 use mathlib.Core.List.{List}
@@ -23,6 +23,10 @@ module _ {A : Type 0} {f : ℕ} {Good : A → Type 0} {zeros : ℕ → A} where
   -- refusal k was found, and it is not 0
   pub refusing : {k : ℕ} → k ≡ f → (k ≡ 0 → ⊥) → Answer f Good zeros (zeros k)
   refusing e no-zero = record { answered = λ z. absurd (no-zero (e ∙ z)); refused = λ n. ap zeros e }
+
+  -- what is returned is the refusal f with its zeros
+  pub refused-as : {r : A} → r ≡ zeros f → (f ≡ 0 → ⊥) → Answer f Good zeros r
+  refused-as e some = record { answered = λ z. absurd (some z); refused = λ n. e }
 
   pub answering : {r : A} → f ≡ 0 → Good r → Answer f Good zeros r
   answering z g = record { answered = λ e. g; refused = λ n. absurd (n z) }
@@ -114,6 +118,16 @@ keeps-is {number = number} v h k = record {
 pub gives-one : {A : Type 0} {P : A → Type 0} {r : A} → ((s s′ : A) → P s → P s′ → s ≡ s′) → P r
     → P gives r
 gives-one {r = r} one is = record { meets = is; only = λ s a. one s r a is }
+
+-- where what is answered is one value
+pub known-gives : {A : Type 0} {f : ℕ} {v : A} {zeros : ℕ → A} {r : A} → settled f v zeros ≡ r
+    → Known f v zeros gives r
+known-gives {f = f} {v = v} {zeros = zeros} e =
+    let x = known-some f v zeros in
+    record {
+      meets = subst (Known f v zeros) (known-settled f v zeros (x .0) (x .1) ∙ e) (x .1);
+      only = λ s k. known-settled f v zeros s k ∙ e;
+    }
 
 -- beside the only answer no other, told by one of its numbers
 pub no-other : {A : Type 0} {P : A → Type 0} {r s : A} (number : A → ℕ) → P gives r

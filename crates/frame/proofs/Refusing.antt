@@ -7,7 +7,6 @@ use mathlib.Core.Bool.{Bool, true, false, not, cond, _&&_, true≢false}
 use mathlib.Core.List.{List, [], _∷_, _++_}
 use Prim.Native.Nat.{ℕ, zero, suc}
 use native.Mathlib.Omega.{arith}
-use borrow.Author.Tests.{eqb-false}
 use lib.Dec.{T, eqb, eqb→eq, eqb·suc-zero}
 use Rattle.frame.specs.Refusals.{Row, _when_, _either_, given, firstOf}
 
@@ -107,21 +106,21 @@ in-turn (suc o ∷ os) [] t = in-turn os [] t
 in-turn (suc o ∷ os) (r ∷ rs) t =
     step o os r rs (eqb (suc o) (r .number)) (r .so) refl refl (in-turn os (r ∷ rs)) (in-turn (suc o ∷ os) rs) t
 
--- a number that no row has is not given
-turn-not : (k : ℕ) (rs : List Row) → T (absent (suc k) (numbers rs)) → inTurn rs ≡ suc k → ⊥
-turn-not k [] t e = omega (arith, e)
-turn-not k (r ∷ rs) t e = go (r .so) (r .number) (eqb (suc k) (r .number)) refl t (turn-not k rs) e
+-- a number that is refused with is one that some row gives
+pub given-so : (os : List ℕ) (rs : List Row) (k : ℕ) → firstOf os rs ≡ suc k → given (suc k) rs ≡ true
+unfolding firstOf
+given-so [] rs k e = absurd (omega (arith, e))
+given-so (o ∷ os) rs k e = go (given o rs) refl (given-so os rs k)
   where
-    go : (s : Bool) (m : ℕ) (b : Bool) → eqb (suc k) m ≡ b → T (not (eqb (suc k) m) && absent (suc k) (numbers rs))
-        → (T (absent (suc k) (numbers rs)) → inTurn rs ≡ suc k → ⊥) → (cond s m 0 or inTurn rs) ≡ suc k → ⊥
-    go s m true b t ih e = absurd (rw b at t)
-    go true zero false b t ih e = ih (rw b at t) e
-    go true (suc m) false b t ih e = eqb-false (suc k) (suc m) b (sym e)
-    go false m false b t ih e = ih (rw b at t) e
+    go : (b : Bool) → given o rs ≡ b → (firstOf os rs ≡ suc k → given (suc k) rs ≡ true)
+        → given (suc k) rs ≡ true
+    go true b ih = let q : o ≡ suc k = rw b at e in ap (λ (m : ℕ). given m rs) (sym q) ∙ b
+    go false b ih = ih (rw b at e)
 
-pub not-given : (os : List ℕ) (rs : List Row) (k : ℕ) → T (inOrder os (numbers rs))
-    → T (absent (suc k) (numbers rs)) → firstOf os rs ≡ suc k → ⊥
-not-given os rs k t u e = turn-not k rs u (sym (in-turn os rs t) ∙ e)
+-- so a number that no row has is not
+pub not-given : (os : List ℕ) (rs : List Row) (k : ℕ) → T (absent (suc k) (numbers rs))
+    → firstOf os rs ≡ suc k → ⊥
+not-given os rs k t e = true≢false (sym (given-so os rs k e) ∙ absent-given (suc k) rs t)
 
 -- ---- a chain of refusals
 

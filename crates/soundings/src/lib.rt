@@ -1,61 +1,23 @@
-// The calls of a table of soundings (document 02, 2026-03), which has one reading for each triangle of one degree from 0
-// to 6, in a lent list ordered by code: `get`, `set` and `clear`. None has a `requires`; each states its complete answer,
-// and the crate contracts holds it to that.
+// The calls of a table of soundings (document 02, 2026-03), which has one reading for each triangle of one degree from
+// 0 to 6, in a lent list ordered by code: `get`, `set` and `clear`. None has a `requires`; each states its complete
+// answer, and the crate contracts holds it to that.
 use tables::Deed;
+use tables::is_bad;
 use words::TriangleCode;
 ghost use mathlib.Core.Path.{_≡_};
 ghost use Prim.Native.Nat.{_<_, _≤_};
 ghost use lib.ListN.{length, set};
 ghost use Rattle.frame.specs.Refusals.{firstOf};
 ghost use Rattle.words.specs.Refusals.{checkCode};
-ghost use Rattle.words.specs.Counting.{placeOf, codeAt};
-ghost use Rattle.tables.specs.Tables.{places, isReading, isBad, anyBad, leastBad, said, number, soundingAfter};
-ghost use Rattle.tables.specs.Refusals.{tableOrder, placeRows, outOfRange, tableRows, refuseGet, refuseDeed};
+ghost use Rattle.words.specs.Counting.{placeOf};
+ghost use Rattle.tables.specs.Tables.{anyBad, leastBad, said, number, soundingAfter};
+ghost use Rattle.tables.specs.Refusals.{tableOrder, triangleRows, outOfRange, tableRows, refuseCall};
 ghost use Rattle.tables.specs.Answers.{tableAnswer, refused, GetAnswer, DeedAnswer, SetAnswer, ClearAnswer};
 pub use tables::Sounding;
 pub use tables::SoundingAnswer;
 pub use tables::TableAnswer;
 
-// ---- places
-
-// How many places the list of a degree has.
-pub fn places_of(degree: u64) -> u64
-    requires { ⌜ degree ≤ 6 ⌝ }
-    ensures { λ r. ⌜ r ≡ places degree ⌝ }
-{
-    20 * words::power(2 * degree)
-}
-
-// The place of a code among those of its degree.
-pub fn place_of(t: TriangleCode) -> usize
-    requires { ⌜ checkCode t ≡ 0 ⌝ }
-    ensures { λ r. ⌜ r ≡ placeOf t ⌝ }
-{
-    let w = t.0;
-    let n = words::degree_of(w);
-    ((words::side_of(w) - 4) * words::power(2 * n) + words::path_of(w, n)) as usize
-}
-
-// The code that has a place.
-pub fn code_at(degree: u64, place: u64) -> TriangleCode
-    requires { ⌜ (degree ≤ 6) × (place < places degree) ⌝ }
-    ensures { λ r. ⌜ r ≡ codeAt degree place ⌝ }
-{
-    let each = words::power(2 * degree);
-    TriangleCode(words::word_of(4 + place / each, degree, place % each))
-}
-
-// ---- the numbers of the list
-
-// Whether a number is neither a reading nor -1.
-fn is_bad(x: i32) -> bool
-    ensures { λ r. ⌜ r ≡ isBad x ⌝ }
-{
-    if x < -1 {
-        return true;
-    }
-    100000 < x
-}
+// ---- the list
 
 // Whether the list holds a bad number. It looks at every place whatever it finds, so that it is compiled to vector
 // instructions: every call goes through the whole list.
@@ -87,24 +49,13 @@ fn least_bad(list: &[i32]) -> usize
     place
 }
 
-// Whether a number is a reading.
-pub fn is_reading(x: i32) -> bool
-    ensures { λ r. ⌜ r ≡ isReading x ⌝ }
+// A number stored for a triangle.
+fn store(t: TriangleCode, x: i32, list: &mut [i32])
+    requires { ⌜ (checkCode t ≡ 0) × (placeOf t < length (now list)) ⌝ }
+    ensures { λ _. ⌜ now (list .exit) ≡ set (now (list .entry)) (placeOf t) x ⌝ }
 {
-    if x < 0 {
-        return false;
-    }
-    x <= 100000
-}
-
-// What a number of the list says.
-fn said_of(number: i32) -> Sounding
-    ensures { λ r. ⌜ r ≡ said number ⌝ }
-{
-    if number < 0 {
-        return Sounding::Nothing;
-    }
-    Sounding::Reading(number)
+    let i = words::place_of(t) as usize;
+    list[i] = x;
 }
 
 // ---- refusals
@@ -120,10 +71,9 @@ fn refuse(f: u64) -> TableAnswer
 }
 
 // 1 to 4 and 20: of the degree and the code.
-fn refuse_place(degree: u64, t: TriangleCode) -> u64
-    ensures { λ r. ⌜ r ≡ firstOf tableOrder (placeRows degree t) ⌝ }
+fn refuse_triangle(degree: u64, t: TriangleCode) -> u64
+    ensures { λ r. ⌜ r ≡ firstOf tableOrder (triangleRows degree t) ⌝ }
 {
-    let w = t.0;
     if 24 < degree {
         return 1;
     }
@@ -134,6 +84,7 @@ fn refuse_place(degree: u64, t: TriangleCode) -> u64
     if 6 < degree {
         return 20;
     }
+    let w = t.0;
     if words::degree_of(w) != degree {
         return 20;
     }
@@ -143,9 +94,11 @@ fn refuse_place(degree: u64, t: TriangleCode) -> u64
 // 22 and 23: of the list.
 fn refuse_list(degree: u64, list: &[i32]) -> TableAnswer
     requires { ⌜ degree ≤ 6 ⌝ }
-    ensures { λ r. ⌜ r ≡ refused (now (list .entry)) (firstOf tableOrder (tableRows degree (now (list .entry)))) ⌝ }
+    ensures { λ r. ⌜
+        r ≡ refused (now (list .entry)) (firstOf tableOrder (tableRows degree (now (list .entry))))
+        ⌝ }
 {
-    if list.len() as u64 != places_of(degree) {
+    if list.len() as u64 != words::codes_of(degree) {
         return refuse(22);
     }
     if any_bad(list) {
@@ -157,48 +110,37 @@ fn refuse_list(degree: u64, list: &[i32]) -> TableAnswer
     refuse(0)
 }
 
-// All refusals of get.
-fn refuse_get(degree: u64, t: TriangleCode, list: &[i32]) -> TableAnswer
-    ensures { λ r. ⌜ r ≡ refused (now (list .entry)) (refuseGet degree t (now (list .entry))) ⌝ }
+// All refusals of a call; `out` says whether it is handed a reading out of range.
+fn refuse_call(out: bool, degree: u64, t: TriangleCode, list: &[i32]) -> TableAnswer
+    ensures { λ r. ⌜ r ≡ refused (now (list .entry)) (refuseCall out degree t (now (list .entry))) ⌝ }
 {
-    let f = refuse_place(degree, t);
+    let f = refuse_triangle(degree, t);
     if f != 0 {
         return refuse(f);
     }
-    refuse_list(degree, list)
-}
-
-// 21: of the reading that is to be set.
-fn is_out_of_range(deed: Deed) -> bool
-    ensures { λ r. ⌜ r ≡ outOfRange deed ⌝ }
-{
-    match deed {
-        Deed::Setting(x) => !is_reading(x),
-        Deed::Clearing => false,
-    }
-}
-
-// All refusals of a call that writes.
-fn refuse_deed(deed: Deed, degree: u64, t: TriangleCode, list: &[i32]) -> TableAnswer
-    ensures { λ r. ⌜ r ≡ refused (now (list .entry)) (refuseDeed deed degree t (now (list .entry))) ⌝ }
-{
-    let f = refuse_place(degree, t);
-    if f != 0 {
-        return refuse(f);
-    }
-    if is_out_of_range(deed) {
+    if out {
         return refuse(21);
     }
     refuse_list(degree, list)
 }
 
-// ---- the calls
+// ---- get
+
+// What a number of the list says.
+fn said_of(number: i32) -> Sounding
+    ensures { λ r. ⌜ r ≡ said number ⌝ }
+{
+    if number == -1 {
+        return Sounding::Nothing;
+    }
+    Sounding::Reading(number)
+}
 
 // What the table has for a triangle.
 pub fn get(degree: u64, t: TriangleCode, list: &[i32]) -> SoundingAnswer
     ensures { λ r. ⌜ GetAnswer degree t (now (list .entry)) r ⌝ }
 {
-    let a = refuse_get(degree, t, list);
+    let a = refuse_call(false, degree, t, list);
     if a.refusal != 0 {
         return SoundingAnswer {
             refusal: a.refusal,
@@ -206,11 +148,23 @@ pub fn get(degree: u64, t: TriangleCode, list: &[i32]) -> SoundingAnswer
             sounding: Sounding::Nothing,
         };
     }
-    let i = place_of(t);
+    let i = words::place_of(t) as usize;
     SoundingAnswer {
         refusal: 0,
         place: 0,
         sounding: said_of(list[i]),
+    }
+}
+
+// ---- set and clear
+
+// 21: of the reading that is to be set.
+fn is_out_of_range(deed: Deed) -> bool
+    ensures { λ r. ⌜ r ≡ outOfRange deed ⌝ }
+{
+    match deed {
+        Deed::Setting(x) => !tables::is_reading(x),
+        Deed::Clearing => false,
     }
 }
 
@@ -224,20 +178,11 @@ fn number_after(deed: Deed) -> i32
     }
 }
 
-// A number stored for a triangle.
-fn store(t: TriangleCode, x: i32, list: &mut [i32])
-    requires { ⌜ (checkCode t ≡ 0) × (placeOf t < length (now list)) ⌝ }
-    ensures { λ _. ⌜ now (list .exit) ≡ set (now (list .entry)) (placeOf t) x ⌝ }
-{
-    let i = place_of(t);
-    list[i] = x;
-}
-
-// Does a deed: checks all, and then writes one place.
-fn act(deed: Deed, degree: u64, t: TriangleCode, list: &mut [i32]) -> TableAnswer
+// Checks all, and then writes one place.
+fn carry_out(deed: Deed, degree: u64, t: TriangleCode, list: &mut [i32]) -> TableAnswer
     ensures { λ r. ⌜ DeedAnswer deed degree t (now (list .entry)) r (now (list .exit)) ⌝ }
 {
-    let checked = refuse_deed(deed, degree, t, list);
+    let checked = refuse_call(is_out_of_range(deed), degree, t, list);
     if checked.refusal != 0 {
         return checked;
     }
@@ -249,12 +194,12 @@ fn act(deed: Deed, degree: u64, t: TriangleCode, list: &mut [i32]) -> TableAnswe
 pub fn set(degree: u64, t: TriangleCode, reading: i32, list: &mut [i32]) -> TableAnswer
     ensures { λ r. ⌜ SetAnswer degree t reading (now (list .entry)) r (now (list .exit)) ⌝ }
 {
-    act(Deed::Setting(reading), degree, t, list)
+    carry_out(Deed::Setting(reading), degree, t, list)
 }
 
 // Leaves a triangle with no reading.
 pub fn clear(degree: u64, t: TriangleCode, list: &mut [i32]) -> TableAnswer
     ensures { λ r. ⌜ ClearAnswer degree t (now (list .entry)) r (now (list .exit)) ⌝ }
 {
-    act(Deed::Clearing, degree, t, list)
+    carry_out(Deed::Clearing, degree, t, list)
 }

@@ -1,14 +1,12 @@
 -- What the calls return, and that it is the one answer that is promised. Assumes nothing.
 use mathlib.Core.Path.{_≡_, _∙_, refl, sym, ap}
-use mathlib.Core.Bool.{false}
 use mathlib.Core.List.{List}
 use Prim.Native.Nat.{ℕ}
 use borrow.Author.Tests.{ne-eqb}
-use lib.Dec.{eqb}
 use lib.IntN.{ℤ}
-use Rattle.frame.proofs.Answering.{answering}
+use Rattle.frame.proofs.Answering.{answering, refused-as}
 use Rattle.words.specs.declared.TriangleCode.{TriangleCode}
-use Rattle.tables.specs.Tables.{leastBad, said, readingAt, readingsAfter}
+use Rattle.tables.specs.Tables.{leastBad, said, numberAt, listAfter}
 use Rattle.tables.specs.Refusals.{refuseGet, refuseDeed}
 use Rattle.tables.specs.Answers.{tableAnswer, soundingAnswer, refused, GetAnswer, DeedAnswer}
 use Rattle.tables.specs.declared.Sounding.{Sounding}
@@ -34,41 +32,35 @@ module _ (list : List ℤ) where
   pub answer-bad : {f p : ℕ} → 23 ≡ f → p ≡ leastBad list → tableAnswer 23 p ≡ refused list f
   answer-bad q e = ap (tableAnswer 23) e ∙ ap (refused list) q
 
-number : {a b : TableAnswer} → a ≡ b → a .refusal ≡ b .refusal
-number e = ap (λ (r : TableAnswer). r .refusal) e
+-- ---- what a call returns over the check a, whose refusal is f
 
--- ---- over the check a of get
+module _ (list : List ℤ) (f : ℕ) (a : TableAnswer) (e : a ≡ refused list f) where
+  pub checked : a .refusal ≡ f
+  checked = ap (λ (r : TableAnswer). r .refusal) e
+
+  some : (a .refusal ≡ 0 → ⊥) → f ≡ 0 → ⊥
+  some d z = d (checked ∙ z)
+
+  none : a .refusal ≡ 0 → f ≡ 0
+  none z = sym checked ∙ z
 
 module _ (n : ℕ) (t : TriangleCode) (list : List ℤ) (a : TableAnswer) (e : a ≡ refused list (refuseGet n t list))
   where
-    pub get-number : a .refusal ≡ refuseGet n t list
-    get-number = number e
-
     pub get-refused : (a .refusal ≡ 0 → ⊥) → GetAnswer n t list (soundingAnswer (a .refusal) (a .place) Nothing)
-    get-refused some = record {
-      answered = λ z. absurd (some (get-number ∙ z));
-      refused = λ no. ap (λ (r : TableAnswer). soundingAnswer (r .refusal) (r .place) Nothing) e;
-    }
+    get-refused d =
+        refused-as (ap (λ (r : TableAnswer). soundingAnswer (r .refusal) (r .place) Nothing) e) (some list _ a e d)
 
-    pub get-found : a .refusal ≡ 0 → {s : Sounding} → s ≡ said (readingAt t list)
+    pub get-found : a .refusal ≡ 0 → {s : Sounding} → s ≡ said (numberAt t list)
         → GetAnswer n t list (soundingAnswer 0 0 s)
-    get-found z q = answering (sym get-number ∙ z) (ap (soundingAnswer 0 0) q)
-
--- ---- over the check a of a call that writes
+    get-found z q = answering (none list _ a e z) (ap (soundingAnswer 0 0) q)
 
 module _ (d : Deed) (n : ℕ) (t : TriangleCode) (list : List ℤ) (a : TableAnswer)
     (e : a ≡ refused list (refuseDeed d n t list)) where
-  pub deed-number : a .refusal ≡ refuseDeed d n t list
-  deed-number = number e
-
   pub deed-refused : (a .refusal ≡ 0 → ⊥) → DeedAnswer d n t list a list
-  deed-refused some = record {
-    answered = λ z. absurd (some (deed-number ∙ z));
-    refused = λ no. ap (λ (r : TableAnswer). (r, list)) e;
-  }
+  deed-refused k = refused-as (ap (λ (r : TableAnswer). (r, list)) e) (some list _ a e k)
 
-  pub deed-done : a .refusal ≡ 0 → {new : List ℤ} → new ≡ readingsAfter d t list → DeedAnswer d n t list a new
+  pub deed-done : a .refusal ≡ 0 → {new : List ℤ} → new ≡ listAfter d t list → DeedAnswer d n t list a new
   deed-done z q =
-      let f : refuseDeed d n t list ≡ 0 = sym deed-number ∙ z in
+      let f = none list _ a e z in
       let k : a ≡ tableAnswer 0 0 = e ∙ ap (refused list) f in
       answering f (λ i. (k i, q i))

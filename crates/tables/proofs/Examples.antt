@@ -1,21 +1,19 @@
 -- The examples, bounds and mistakes of specs/Examples.antt, computed. Assumes nothing.
-use mathlib.Core.Path.{_≡_, refl, ap, subst, _∙_}
+use mathlib.Core.Path.{_≡_, refl}
 use mathlib.Core.Bool.{false}
 use mathlib.Core.List.{List}
 use Prim.Native.Nat.{ℕ, suc, _+_}
-use borrow.Author.Tests.{eqb-false}
 use lib.Dec.{eqb}
 use lib.IntN.{ℤ, pos, negsuc}
 use lib.ListN.{getD}
 use Rattle.frame.specs.Refusals.{firstOf}
 use Rattle.frame.specs.Answers.{Known, settled}
-use Rattle.frame.specs.Promises.{_gives_}
-use Rattle.frame.proofs.Answering.{known-some, known-settled}
+use Rattle.frame.proofs.Answering.{known-gives, no-other}
 use Rattle.words.specs.Words.{digits, path, wordOf}
 use Rattle.words.specs.Counting.{placeOf}
 use Rattle.grid.specs.Writing.{decimals, written}
 use Rattle.tables.specs.Tables.{some, firstPlace, number}
-use Rattle.tables.specs.Refusals.{refuseGet, refuseDeed}
+use Rattle.tables.specs.Refusals.{refuseCall}
 use Rattle.tables.specs.Histories.{answers, after}
 use Rattle.tables.specs.Examples.{Examples, Bounds, Mistakes}
 use Rattle.tables.specs.declared.Sounding.{Sounding}
@@ -24,7 +22,7 @@ use Rattle.tables.specs.declared.SoundingAnswer.{SoundingAnswer}
 use Rattle.tables.specs.declared.TableAnswer.{TableAnswer}
 
 pub examples : Examples
-unfolding placeOf some firstPlace firstOf refuseGet refuseDeed answers after decimals written path wordOf digits
+unfolding placeOf some firstPlace firstOf refuseCall answers after decimals written path wordOf digits
 examples = record {
   first = refl;
   second = refl;
@@ -40,17 +38,8 @@ examples = record {
   left-bad = refl;
 }
 
--- an answer that is computed, and no other
-given : {A : Type 0} {f : ℕ} {v : A} {zeros : ℕ → A} {r : A} → settled f v zeros ≡ r → Known f v zeros gives r
-given {f = f} {v = v} {zeros = zeros} e =
-    let x = known-some f v zeros in
-    record {
-      meets = subst (Known f v zeros) (known-settled f v zeros (x .0) (x .1) ∙ e) (x .1);
-      only = λ s k. known-settled f v zeros s k ∙ e;
-    }
-
 pub bounds : Bounds
-unfolding placeOf some firstPlace firstOf refuseGet refuseDeed decimals written path wordOf digits
+unfolding placeOf some firstPlace firstOf refuseCall decimals written path wordOf digits
 bounds = record {
   reading-0 = refl;
   reading-most = refl;
@@ -63,31 +52,33 @@ bounds = record {
   table-7 = refl;
   table-24 = refl;
   table-25 = refl;
+  code-25 = refl;
   places-19 = refl;
   places-21 = refl;
   places-80 = refl;
-  bad-get = given refl;
-  bad-later = given refl;
-  bad-first = given refl;
-  bad-last = given refl;
-  bad-set = given refl;
-  bad-clear = given refl;
-  bad-own = given refl;
+  bad-get = known-gives refl;
+  bad-later = known-gives refl;
+  bad-first = known-gives refl;
+  bad-last = known-gives refl;
+  bad-set = known-gives refl;
+  bad-clear = known-gives refl;
+  bad-own = known-gives refl;
   one-first = refl;
   two-before-20 = refl;
+  three-before-20 = refl;
   four-before-20 = refl;
   twenty-before-21 = refl;
   twentyone-before-22 = refl;
   twentyone-before-23 = refl;
   twentytwo-before-23 = refl;
-  no-place = given refl;
+  no-place = known-gives refl;
 }
 
 -- ---- an answer that differs from the computed one in some number
 
 wrong : {A : Type 0} {f : ℕ} {v : A} {zeros : ℕ → A} {r : A} (tell : A → ℕ)
     → eqb (tell r) (tell (settled f v zeros)) ≡ false → Known f v zeros r → ⊥
-wrong {f = f} {v = v} {zeros = zeros} {r = r} tell d k = eqb-false _ _ d (ap tell (known-settled f v zeros r k))
+wrong tell = no-other tell (known-gives refl)
 
 -- each whole number as a natural one
 abbrev told : ℤ → ℕ
@@ -109,7 +100,7 @@ case Nothing = 0
 case (Reading x) = 1
 
 pub mistakes : Mistakes
-unfolding placeOf some firstPlace firstOf refuseGet refuseDeed decimals written path wordOf digits
+unfolding placeOf some firstPlace firstOf refuseCall decimals written path wordOf digits
 mistakes = record {
   unwritten = wrong (at 0) refl;
   elsewhere = wrong (at 0) refl;

@@ -1,7 +1,7 @@
 -- The numbers of a table, by the tests that a program makes. Assumes nothing.
 use mathlib.Core.Path.{_≡_, refl, sym, ap, _∙_}
 use mathlib.Core.Bool.{Bool, true, false, true≢false}
-use Prim.Native.Nat.{ℕ, zero, suc}
+use Prim.Native.Nat.{zero, suc}
 use native.Mathlib.Omega.{arith}
 use borrow.Author.Tests.{lt-ltb, le-ltb, leb-true, leb-false}
 use lib.Dec.{ltb, leb, eqb·suc-zero}
@@ -42,13 +42,13 @@ reading-good x e = rw e
 
 -- ---- what a number says
 
-pub said-nothing : (x : ℤ) → ltZ x (pos 0) ≡ true → said x ≡ Nothing
-said-nothing (pos n) e = absurd (true≢false (sym e ∙ le-ltb n 0 (omega arith)))
-said-nothing (negsuc n) e = refl
+pub said-nothing : (x : ℤ) → x ≡ none → said x ≡ Nothing
+said-nothing x e = ap said e
 
-pub said-reading : (x : ℤ) → ltZ x (pos 0) ≡ false → said x ≡ Reading x
-said-reading (pos n) e = refl
-said-reading (negsuc n) e = absurd (true≢false e)
+pub said-reading : (x : ℤ) → (x ≡ none → ⊥) → said x ≡ Reading x
+said-reading (pos n) d = refl
+said-reading (negsuc zero) d = absurd (d refl)
+said-reading (negsuc (suc n)) d = rw (eqb·suc-zero n)
 
 pub said-is : (x : ℤ) → isReading x ≡ true → said x ≡ Reading x
 said-is (pos r) e = refl
@@ -73,4 +73,5 @@ reading-said x (pos n) e q = ap isReading (sym (ap number q)) ∙ go (leb n 1000
     go : (b : Bool) → leb n 100000 ≡ b → leb n 100000 ≡ true
     go true b = b
     go false b = absurd (true≢false (sym (rw b) ∙ e))
-reading-said x (negsuc n) e q = absurd (no-reading refl q)
+reading-said x (negsuc zero) e q = absurd (no-reading refl q)
+reading-said x (negsuc (suc n)) e q = absurd (true≢false (sym (rw (eqb·suc-zero n)) ∙ e))

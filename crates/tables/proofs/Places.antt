@@ -2,20 +2,17 @@
 use mathlib.Core.Path.{_≡_, _∙_, refl, sym, ap}
 use mathlib.Core.Bool.{Bool, true, false, cond}
 use mathlib.Core.List.{List}
-use Prim.Native.Nat.{ℕ, suc, _+_, _-_, _*_, _^_, _≤_, _<_}
+use Prim.Native.Nat.{ℕ, suc, _^_, _≤_, _<_}
 use native.Mathlib.Nat.{pow-le-pow-right, pow-suc}
 use native.Mathlib.Omega.{arith}
 use borrow.Author.Tests.{eq-eqb, ne-eqb, ltb-true, ltb-false, eqb-true, eqb-false}
 use lib.Dec.{ltb, eqb}
-use lib.Pow.{pow-mono}
 use lib.ListN.{length, getD, set}
 use lib.Seq.{getD-set-same, getD-set-other}
-use Rattle.words.specs.Words.{digits, sideOf, path}
 use Rattle.words.specs.Refusals.{IsCode}
-use Rattle.words.specs.Counting.{codeAt, placeOf}
+use Rattle.words.specs.Counting.{placeOf}
 use Rattle.words.specs.declared.TriangleCode.{TriangleCode}
-use Rattle.words.proofs.Codes.{code-degree}
-use Rattle.words.proofs.CodeCount.{four-pow, four-pos, place-is, place-below, at-place, code-at, place-at, places-rise}
+use Rattle.words.proofs.CodeCount.{four-pos, place-below, at-place, one-place, code-at, place-at, places-rise}
 use Rattle.tables.specs.Tables.{places}
 use Rattle.tables.specs.Promises.{Ordered}
 
@@ -26,19 +23,6 @@ ordered = record {
   code = λ n i h l. (code-at n i h l, place-at n i h);
   rising = λ n t u c d. places-rise c d;
 }
-
-module _ {n : ℕ} {t : TriangleCode} (c : IsCode n t) where
-  -- as it is computed
-  pub place-word : placeOf t ≡ (sideOf (t .0) - 4) * 2 ^ (2 * n) + path (digits (t .0) n)
-  place-word = place-is c ∙ ap (λ (k : ℕ). (sideOf (t .0) - 4) * k + path (digits (t .0) n)) (four-pow n)
-
-  pub place-fits : placeOf t < 2 ^ 53
-  place-fits =
-      omega (arith, place-below c, four-pow n, pow-mono {i = 2 * n} {j = 48} (omega (arith, code-degree c)))
-
--- two codes of one degree have one place only where they are one
-pub one-place : {n : ℕ} {t u : TriangleCode} → IsCode n t → IsCode n u → placeOf u ≡ placeOf t → u .0 ≡ t .0
-one-place {n} c d e = ap (λ (x : TriangleCode). x .0) (sym (at-place d) ∙ ap (codeAt n) e ∙ at-place c)
 
 -- what stands at any code's place when one has been written
 pub at-set : {A : Type 0} {n : ℕ} {t : TriangleCode} (list : List A) (x d : A) → length list ≡ places n → IsCode n t

@@ -9,7 +9,7 @@ use lib.Dec.{ltb, eqb}
 use lib.IntN.{ℤ}
 use lib.ListN.{length}
 use Rattle.frame.specs.Refusals.{_either_, _when_, firstOf, order}
-use Rattle.frame.proofs.Refusing.{_or_, alone, in-turn, turn-append, not-given, or-first, or-next, or-zero}
+use Rattle.frame.proofs.Refusing.{_or_, alone, in-turn, turn-append, given-so, not-given, or-first, or-next, or-zero}
 use Rattle.frame.proofs.Refusing.{here, next, nothing, refuse-first, refuse-before, refuse-after, refuse-rest}
 use Rattle.frame.proofs.Refusing.{NoneSo, none-so, none-after, either-false}
 use Rattle.words.specs.Words.{degreeOf}
@@ -18,9 +18,7 @@ use Rattle.words.specs.Counting.{placeOf}
 use Rattle.words.specs.declared.TriangleCode.{TriangleCode}
 use Rattle.words.proofs.CodeCount.{place-below}
 use Rattle.tables.specs.Tables.{places, anyBad}
-use Rattle.tables.specs.Refusals.{tableOrder, placeRows, outOfRange, readingRows, tableRows}
-use Rattle.tables.specs.Refusals.{refuseGet, refuseDeed}
-use Rattle.tables.specs.declared.Deed.{Deed}
+use Rattle.tables.specs.Refusals.{tableOrder, triangleRows, tableRows, callRows, refuseCall}
 
 -- ---- of the degree and the code
 
@@ -28,45 +26,45 @@ module _ (n : ℕ) (t : TriangleCode) where
   abbrev wrongDegree : Bool
   wrongDegree = ltb 6 n either not (eqb (degreeOf (t .0)) n)
 
-  in-three : firstOf tableOrder (placeRows n t)
+  in-three : firstOf tableOrder (triangleRows n t)
       ≡ alone (1 when ltb 24 n) or checkCode t or alone (20 when wrongDegree) or 0
   unfolding checkCode
   in-three =
-      in-turn tableOrder (placeRows n t) tt
+      in-turn tableOrder (triangleRows n t) tt
       ∙ ap (λ (k : ℕ). alone (1 when ltb 24 n) or k)
       (turn-append (codeRows t) (20 when wrongDegree ∷ [])
       ∙ ap (λ (k : ℕ). k or alone (20 when wrongDegree) or 0) (sym (in-turn order (codeRows t) tt)))
 
-  pub too-deep : 24 < n → 1 ≡ firstOf tableOrder (placeRows n t)
-  too-deep l = refuse-first tableOrder (placeRows n t) tt (here (lt-ltb 24 n l))
+  pub too-deep : 24 < n → 1 ≡ firstOf tableOrder (triangleRows n t)
+  too-deep l = refuse-first tableOrder (triangleRows n t) tt (here (lt-ltb 24 n l))
 
   module _ (l : n ≤ 24) where
-    in-two : firstOf tableOrder (placeRows n t) ≡ checkCode t or alone (20 when wrongDegree) or 0
+    in-two : firstOf tableOrder (triangleRows n t) ≡ checkCode t or alone (20 when wrongDegree) or 0
     in-two = in-three ∙ rw (le-ltb 24 n l) refl
 
-    pub no-code : {f : ℕ} → f ≡ checkCode t → (f ≡ 0 → ⊥) → f ≡ firstOf tableOrder (placeRows n t)
+    pub no-code : {f : ℕ} → f ≡ checkCode t → (f ≡ 0 → ⊥) → f ≡ firstOf tableOrder (triangleRows n t)
     no-code e some = or-first _ _ e some ∙ sym in-two
 
     module _ (z : checkCode t ≡ 0) where
-      last-row : firstOf tableOrder (placeRows n t) ≡ alone (20 when wrongDegree) or 0
+      last-row : firstOf tableOrder (triangleRows n t) ≡ alone (20 when wrongDegree) or 0
       last-row = in-two ∙ sym (or-next (checkCode t) _ z refl)
 
-      pub too-large : 6 < n → 20 ≡ firstOf tableOrder (placeRows n t)
+      pub too-large : 6 < n → 20 ≡ firstOf tableOrder (triangleRows n t)
       too-large m = sym (last-row ∙ rw (lt-ltb 6 n m) refl)
 
       module _ (m : n ≤ 6) where
-        pub other-degree : (degreeOf (t .0) ≡ n → ⊥) → 20 ≡ firstOf tableOrder (placeRows n t)
+        pub other-degree : (degreeOf (t .0) ≡ n → ⊥) → 20 ≡ firstOf tableOrder (triangleRows n t)
         other-degree d = sym (last-row ∙ rw (le-ltb 6 n m, ne-eqb (degreeOf (t .0)) n d) refl)
 
-        pub in-place : degreeOf (t .0) ≡ n → 0 ≡ firstOf tableOrder (placeRows n t)
-        in-place d = sym (last-row ∙ rw (le-ltb 6 n m, eq-eqb (degreeOf (t .0)) n d) refl)
+        pub in-table : degreeOf (t .0) ≡ n → 0 ≡ firstOf tableOrder (triangleRows n t)
+        in-table d = sym (last-row ∙ rw (le-ltb 6 n m, eq-eqb (degreeOf (t .0)) n d) refl)
 
-  pub place-not-23 : firstOf tableOrder (placeRows n t) ≡ 23 → ⊥
-  place-not-23 = not-given tableOrder (placeRows n t) 22 tt tt
+  pub triangle-not-23 : firstOf tableOrder (triangleRows n t) ≡ 23 → ⊥
+  triangle-not-23 = not-given tableOrder (triangleRows n t) 22 tt
 
   -- where there is none, the word is a code of the table's degree
-  pub place-good : firstOf tableOrder (placeRows n t) ≡ 0 → (n ≤ 6) × IsCode n t
-  place-good e =
+  pub triangle-good : firstOf tableOrder (triangleRows n t) ≡ 0 → (n ≤ 6) × IsCode n t
+  triangle-good e =
       let z = or-zero (alone (1 when ltb 24 n)) (checkCode t or alone (20 when wrongDegree) or 0) (sym in-three ∙ e) in
       let y = or-zero (checkCode t) (alone (20 when wrongDegree) or 0) (z .1) in
       let d = either-false (ltb 6 n) (not (eqb (degreeOf (t .0)) n)) .0 (none wrongDegree (y .1)) in
@@ -108,47 +106,46 @@ pub record Passed (n : ℕ) (t : TriangleCode) (list : List ℤ) : Type 0 where
   pub inList : placeOf t < length list
 
 module _ (n : ℕ) (t : TriangleCode) (list : List ℤ) where
-  passes : firstOf tableOrder (placeRows n t) ≡ 0 → (length list ≡ places n) × (anyBad list ≡ false) → Passed n t list
+  passes : firstOf tableOrder (triangleRows n t) ≡ 0 → (length list ≡ places n) × (anyBad list ≡ false)
+      → Passed n t list
   passes z g =
-      let c = place-good n t z in
+      let c = triangle-good n t z in
       record { degree = c .0; code = c .1; long = g .0; good = g .1; inList = rw (g .0) (place-below (c .1)) }
 
-  -- get: of the code, then of the list
-  pub get-first : {f : ℕ} → f ≡ firstOf tableOrder (placeRows n t) → (f ≡ 0 → ⊥) → f ≡ refuseGet n t list
-  unfolding refuseGet
-  get-first = refuse-before tableOrder tableOrder (placeRows n t) (tableRows n list) tt tt
+  module _ (out : Bool) where
+    -- of the triangle
+    pub call-first : {f : ℕ} → f ≡ firstOf tableOrder (triangleRows n t) → (f ≡ 0 → ⊥)
+        → f ≡ refuseCall out n t list
+    unfolding refuseCall
+    call-first = refuse-before tableOrder tableOrder (triangleRows n t) (21 when out ∷ tableRows n list) tt tt
 
-  pub get-then : firstOf tableOrder (placeRows n t) ≡ 0 → firstOf tableOrder (tableRows n list) ≡ refuseGet n t list
-  unfolding refuseGet
-  get-then z = refuse-rest tableOrder tableOrder tableOrder (placeRows n t) (tableRows n list) tt tt tt z
+    module _ (z : firstOf tableOrder (triangleRows n t) ≡ 0) where
+      -- of the reading
+      pub call-reading : out ≡ true → 21 ≡ refuseCall out n t list
+      unfolding refuseCall
+      call-reading b =
+          refuse-after tableOrder tableOrder (triangleRows n t) (21 when out ∷ tableRows n list) tt tt z (here b)
 
-  pub get-passed : refuseGet n t list ≡ 0 → Passed n t list
-  unfolding refuseGet
-  get-passed e =
-      let z = none-after tableOrder tableOrder (placeRows n t) (tableRows n list) tt tt .0 e in
-      passes (z .0) (list-good n list (z .1))
+      -- of the list
+      pub call-then : out ≡ false → firstOf tableOrder (tableRows n list) ≡ refuseCall out n t list
+      unfolding refuseCall
+      call-then b =
+          refuse-rest tableOrder tableOrder tableOrder (21 when out ∷ []) (tableRows n list) tt tt tt
+          (none-so tableOrder (21 when out ∷ []) tt .1 (b, tt))
+          ∙ refuse-rest tableOrder tableOrder tableOrder (triangleRows n t) (21 when out ∷ tableRows n list) tt tt tt
+          z
 
-  -- set and clear: of the code, of the reading, of the list
-  module _ (e : Deed) where
-    pub deed-first : {f : ℕ} → f ≡ firstOf tableOrder (placeRows n t) → (f ≡ 0 → ⊥) → f ≡ refuseDeed e n t list
-    unfolding refuseDeed
-    deed-first = refuse-before tableOrder tableOrder (placeRows n t) (readingRows e ++ tableRows n list) tt tt
-
-    module _ (z : firstOf tableOrder (placeRows n t) ≡ 0) where
-      pub deed-reading : outOfRange e ≡ true → 21 ≡ refuseDeed e n t list
-      unfolding refuseDeed
-      deed-reading b =
-          refuse-after tableOrder tableOrder (placeRows n t) (readingRows e ++ tableRows n list) tt tt z (here b)
-
-      pub deed-then : outOfRange e ≡ false → firstOf tableOrder (tableRows n list) ≡ refuseDeed e n t list
-      unfolding refuseDeed
-      deed-then b =
-          refuse-rest tableOrder tableOrder tableOrder (readingRows e) (tableRows n list) tt tt tt
-          (none-so tableOrder (readingRows e) tt .1 (b, tt))
-          ∙ refuse-rest tableOrder tableOrder tableOrder (placeRows n t) (readingRows e ++ tableRows n list) tt tt tt z
-
-    pub deed-passed : refuseDeed e n t list ≡ 0 → Passed n t list × (outOfRange e ≡ false)
-    unfolding refuseDeed
-    deed-passed q =
-        let z = none-after tableOrder tableOrder (placeRows n t) (readingRows e ++ tableRows n list) tt tt .0 q in
+    pub call-passed : refuseCall out n t list ≡ 0 → Passed n t list × (out ≡ false)
+    unfolding refuseCall
+    call-passed q =
+        let z = none-after tableOrder tableOrder (triangleRows n t) (21 when out ∷ tableRows n list) tt tt .0 q in
         (passes (z .0) (list-good n list (z .1 .1)), z .1 .0)
+
+    -- 23 is given where the list holds a bad number
+    pub call-bad : refuseCall out n t list ≡ 23 → anyBad list ≡ true
+    unfolding refuseCall
+    call-bad e = is-so (anyBad list) (given-so tableOrder (callRows out n t list) 22 e)
+      where
+        is-so : (b : Bool) → b either false ≡ true → b ≡ true
+        is-so true q = refl
+        is-so false q = q

@@ -1,6 +1,6 @@
 -- Looking through a list for what passes a test: place by place, with a way out at the first or without one. Assumes
 -- nothing.
-use mathlib.Core.Path.{_≡_, refl, sym, ap, _∙_}
+use mathlib.Core.Path.{_≡_, refl, sym, _∙_}
 use mathlib.Core.Bool.{Bool, true, false, true≢false}
 use mathlib.Core.List.{List, [], _∷_}
 use Prim.Native.Nat.{ℕ, zero, suc, _≤_, _<_}
@@ -34,13 +34,14 @@ module _ {A : Type 0} (f : A → Bool) where
       unfolding some
       finds b e = inv ∙ rw (drop-cons list i d l, b, e) (either-right found true refl)
 
-      pub goes-on : f (getD list i d) ≡ false → new ≡ found → some f list ≡ new either some f (drop (suc i) list)
+      pub goes-on : f (getD list i d) ≡ false → new ≡ found
+          → some f list ≡ new either some f (drop (suc i) list)
       unfolding some
       goes-on b e = inv ∙ rw (drop-cons list i d l, b, e)
 
   -- past the last place
-  pub ends : (list : List A) (i : ℕ) (found : Bool) → length list ≤ i → some f list ≡ found either some f (drop i list)
-      → some f list ≡ found
+  pub ends : (list : List A) (i : ℕ) (found : Bool) → length list ≤ i
+      → some f list ≡ found either some f (drop i list) → some f list ≡ found
   unfolding some
   ends list i found l e = e ∙ rw (drop-of-length-le list {i = i} l) (either-none found)
 
@@ -74,7 +75,8 @@ module _ {A : Type 0} (f : A → Bool) where
       go false b (suc i) l ih = let k : suc i < suc (firstPlace f xs) = rw b at l in ih i (omega (arith, k))
 
   -- where nothing passes, and what stands past the end does not
-  pub none-at : (d : A) → f d ≡ false → (list : List A) (i : ℕ) → some f list ≡ false → f (getD list i d) ≡ false
+  pub none-at : (d : A) → f d ≡ false → (list : List A) (i : ℕ) → some f list ≡ false
+      → f (getD list i d) ≡ false
   unfolding some
   none-at d q [] i e = q
   none-at d q (x ∷ xs) zero e = either-false (f x) (some f xs) .0 e .0
@@ -82,7 +84,8 @@ module _ {A : Type 0} (f : A → Bool) where
 
   -- ---- a place written, and a list of one number
 
-  pub none-set : (list : List A) (i : ℕ) (x : A) → some f list ≡ false → f x ≡ false → some f (set list i x) ≡ false
+  pub none-set : (list : List A) (i : ℕ) (x : A) → some f list ≡ false → f x ≡ false
+      → some f (set list i x) ≡ false
   unfolding some
   none-set [] i x g b = g
   none-set (y ∷ ys) zero x g b = either-false (f x) (some f ys) .1 (b, either-false (f y) (some f ys) .0 g .1)

@@ -5,12 +5,11 @@ use mathlib.Core.Bool.{Bool, true, false, not, cond}
 use mathlib.Core.Logic.{_↔_}
 use mathlib.Core.List.{List, [], _∷_, _++_}
 use Prim.Native.Nat.{ℕ, zero, suc, _≤_}
-use native.Mathlib.Omega.{arith}
 use borrow.Author.Tests.{eq-eqb, eqb-true, not-false}
 use lib.Dec.{eqb}
 use lib.IntN.{ℤ}
 use lib.ListN.{length, set, length-set, length-replicate, getD-replicate}
-use Rattle.frame.specs.Refusals.{Row, firstOf}
+use Rattle.frame.specs.Refusals.{_when_, firstOf}
 use Rattle.frame.specs.Answers.{settled}
 use Rattle.frame.proofs.Answering.{known-settled}
 use Rattle.frame.proofs.Refusing.{_or_, inTurn, refusal-append, none-so, none-after, not-given}
@@ -18,22 +17,23 @@ use Rattle.words.specs.Refusals.{IsCode}
 use Rattle.words.specs.Counting.{placeOf}
 use Rattle.words.specs.declared.TriangleCode.{TriangleCode}
 use Rattle.words.proofs.CodeCount.{place-below}
-use Rattle.tables.specs.Tables.{places, none, isBad, said, number, readingAt, soundingAfter, readingsAfter}
-use Rattle.tables.specs.Refusals.{tableOrder, placeRows, outOfRange, readingRows, tableRows}
-use Rattle.tables.specs.Refusals.{refuseGet, refuseDeed}
-use Rattle.tables.specs.Answers.{tableAnswer, soundingAnswer, noSounding, found, carriedOut, turnedDown}
-use Rattle.tables.specs.Histories.{Call, asks, does, Answered, got, done, answers, doing, onList}
-use Rattle.tables.specs.Histories.{Map, with, otherDegreeRows, refuseAsked, refuseDone, onMap}
-use Rattle.tables.specs.Promises.{IsTable, fresh, SimpleMap}
+use Rattle.tables.specs.Tables.{places, none, isBad, IsTable, fresh, said, number}
+use Rattle.tables.specs.Tables.{numberAt, soundingAfter, listAfter}
+use Rattle.tables.specs.Refusals.{tableOrder, triangleRows, outOfRange, tableRows}
+use Rattle.tables.specs.Refusals.{refuseCall, refuseGet, refuseDeed}
+use Rattle.tables.specs.Answers.{tableAnswer, soundingAnswer, refusedGet, found, carriedOut, refusedDeed}
+use Rattle.tables.specs.Histories.{Call, asks, does, got, done, answers, doing, onList}
+use Rattle.tables.specs.Histories.{Map, with, otherDegreeRows, refuseOnMap, onMap}
+use Rattle.tables.specs.Promises.{SimpleMap}
 use Rattle.tables.specs.declared.Sounding.{Sounding}
-use Rattle.tables.specs.declared.Sounding.the-variants.{Nothing, Reading}
+use Rattle.tables.specs.declared.Sounding.the-variants.{Nothing}
 use Rattle.tables.specs.declared.Deed.{Deed}
 use Rattle.tables.specs.declared.Deed.the-variants.{Setting, Clearing}
 use Rattle.tables.specs.declared.TableAnswer.{TableAnswer}
 use Rattle.tables.proofs.Scanning.{none-set, none-replicate}
 use Rattle.tables.proofs.Numbers.{reading-good, said-is}
 use Rattle.tables.proofs.Places.{at-set, same-places}
-use Rattle.tables.proofs.Refused.{place-good, list-good}
+use Rattle.tables.proofs.Refused.{triangle-good, list-good}
 use Rattle.tables.proofs.Answering.{no-place}
 
 -- ---- two ways to answer the same calls, where what they work on stays related
@@ -59,48 +59,26 @@ module _ {n : ℕ} {list : List ℤ} (is : IsTable n list) where
       no-last zero = refl
       no-last (suc k) = refl
 
-  pub get-by-map : (m : ℕ) (t : TriangleCode) → refuseGet m t list ≡ refuseAsked n m t
-  unfolding refuseGet refuseAsked
-  get-by-map m t =
-      refusal-append tableOrder tableOrder (placeRows m t) (tableRows m list) tt tt
-      ∙ ap (λ (k : ℕ). firstOf tableOrder (placeRows m t) or k) (list-rows m)
-      ∙ sym (refusal-append tableOrder tableOrder (placeRows m t) (otherDegreeRows n m) tt tt)
-
-  pub deed-by-map : (e : Deed) (m : ℕ) (t : TriangleCode) → refuseDeed e m t list ≡ refuseDone n e m t
-  unfolding refuseDeed refuseDone
-  deed-by-map e m t =
-      refusal-append tableOrder tableOrder (placeRows m t) (readingRows e ++ tableRows m list) tt tt
-      ∙ ap (λ (k : ℕ). firstOf tableOrder (placeRows m t) or cond (outOfRange e) 21 0 or k) (list-rows m)
-      ∙ sym (refusal-append tableOrder tableOrder (placeRows m t) (readingRows e ++ otherDegreeRows n m) tt tt)
+  call-by-map : (out : Bool) (m : ℕ) (t : TriangleCode) → refuseCall out m t list ≡ refuseOnMap n out m t
+  unfolding refuseCall refuseOnMap
+  call-by-map out m t =
+      refusal-append tableOrder tableOrder (triangleRows m t) (21 when out ∷ tableRows m list) tt tt
+      ∙ ap (λ (k : ℕ). firstOf tableOrder (triangleRows m t) or cond out 21 0 or k) (list-rows m)
+      ∙ sym (refusal-append tableOrder tableOrder (triangleRows m t) (21 when out ∷ otherDegreeRows n m) tt tt)
 
 -- no refusal of the map answers a place
-asked-not-23 : (n m : ℕ) (t : TriangleCode) → refuseAsked n m t ≡ 23 → ⊥
-unfolding refuseAsked
-asked-not-23 n m t = not-given tableOrder (placeRows m t ++ otherDegreeRows n m) 22 tt tt
-
-done-not-23 : (n : ℕ) (e : Deed) (m : ℕ) (t : TriangleCode) → refuseDone n e m t ≡ 23 → ⊥
-unfolding refuseDone
-done-not-23 n e m t = not-given tableOrder (placeRows m t ++ readingRows e ++ otherDegreeRows n m) 22 tt tt
+map-not-23 : (n : ℕ) (out : Bool) (m : ℕ) (t : TriangleCode) → refuseOnMap n out m t ≡ 23 → ⊥
+unfolding refuseOnMap
+map-not-23 n out m t = not-given tableOrder (triangleRows m t ++ (21 when out ∷ otherDegreeRows n m)) 22 tt
 
 -- a code that the map does not refuse is one of the table's
-code-of-table : (n m : ℕ) (t : TriangleCode) → firstOf tableOrder (placeRows m t) ≡ 0 → not (eqb m n) ≡ false
-    → IsCode n t
-code-of-table n m t z e =
-    let q : m ≡ n = eqb-true m n (not-false _ e) in
-    rw q at (place-good m t z .1)
-
-pub asked-good : (n m : ℕ) (t : TriangleCode) → refuseAsked n m t ≡ 0 → IsCode n t
-unfolding refuseAsked
-asked-good n m t e =
-    let z = none-after tableOrder tableOrder (placeRows m t) (otherDegreeRows n m) tt tt .0 e in
-    code-of-table n m t (z .0) (z .1 .0)
-
-pub done-good : (n : ℕ) (e : Deed) (m : ℕ) (t : TriangleCode) → refuseDone n e m t ≡ 0
-    → IsCode n t × (outOfRange e ≡ false)
-unfolding refuseDone
-done-good n e m t q =
-    let z = none-after tableOrder tableOrder (placeRows m t) (readingRows e ++ otherDegreeRows n m) tt tt .0 q in
-    (code-of-table n m t (z .0) (z .1 .1 .0), z .1 .0)
+map-good : (n : ℕ) (out : Bool) (m : ℕ) (t : TriangleCode) → refuseOnMap n out m t ≡ 0
+    → IsCode n t × (out ≡ false)
+unfolding refuseOnMap
+map-good n out m t e =
+    let z = none-after tableOrder tableOrder (triangleRows m t) (21 when out ∷ otherDegreeRows n m) tt tt .0 e in
+    let q : m ≡ n = eqb-true m n (not-false _ (z .1 .1 .0)) in
+    (rw q at (triangle-good m t (z .0) .1), z .1 .0)
 
 -- ---- a deed that is not out of range stores no bad number, and one that says what it is to say
 
@@ -116,9 +94,10 @@ stored-said Clearing b = refl
 
 pub record Agree (n : ℕ) (list : List ℤ) (map : Map) : Type 0 where
   pub is : IsTable n list
-  pub same : (u : TriangleCode) → IsCode n u → said (readingAt u list) ≡ map u
+  pub same : (u : TriangleCode) → IsCode n u → said (numberAt u list) ≡ map u
 
-pub table-set : {n : ℕ} {list : List ℤ} (i : ℕ) (x : ℤ) → IsTable n list → isBad x ≡ false → IsTable n (set list i x)
+pub table-set : {n : ℕ} {list : List ℤ} (i : ℕ) (x : ℤ) → IsTable n list → isBad x ≡ false
+    → IsTable n (set list i x)
 table-set {list = list} i x is b = record {
   degree = is .degree;
   long = simp length-set (is .long);
@@ -131,11 +110,11 @@ said-cond false x y = refl
 
 -- an answered deed
 carry-out : {n : ℕ} {list : List ℤ} {map : Map} (e : Deed) (t : TriangleCode) → Agree n list map → IsCode n t
-    → outOfRange e ≡ false → Agree n (readingsAfter e t list) (with t (soundingAfter e) map)
+    → outOfRange e ≡ false → Agree n (listAfter e t list) (with t (soundingAfter e) map)
 carry-out {n} {list} {map} e t a c b = record {
   is = table-set (placeOf t) x (a .is) (stored-good e b);
   same = λ u cu.
-      ap said (at-set list x none (a .is .long) c u cu) ∙ said-cond (eqb (u .0) (t .0)) x (readingAt u list)
+      ap said (at-set list x none (a .is .long) c u cu) ∙ said-cond (eqb (u .0) (t .0)) x (numberAt u list)
       ∙ (λ i. cond (eqb (u .0) (t .0)) (stored-said e b i) (a .same u cu i));
 }
   where
@@ -144,10 +123,12 @@ carry-out {n} {list} {map} e t a c b = record {
 
 module _ {n : ℕ} {list : List ℤ} {map : Map} (a : Agree n list map) where
   asked : (m : ℕ) (t : TriangleCode) → onList (asks m t) list .0 ≡ onMap n (asks m t) map .0
-  asked m t = rw (get-by-map (a .is) m t) (go (refuseAsked n m t) (asked-not-23 n m t) (asked-good n m t))
+  asked m t =
+      rw (call-by-map (a .is) false m t)
+      (go (refuseOnMap n false m t) (map-not-23 n false m t) (λ z. map-good n false m t z .0))
     where
       go : (f : ℕ) → (f ≡ 23 → ⊥) → (f ≡ 0 → IsCode n t)
-          → got (settled f (found t list) (noSounding list))
+          → got (settled f (found t list) (refusedGet list))
           ≡ got (settled f (soundingAnswer 0 0 (map t)) (λ k. soundingAnswer k 0 Nothing))
       go zero d h = ap (λ (s : Sounding). got (soundingAnswer 0 0 s)) (a .same t (h refl))
       go (suc f) d h =
@@ -156,10 +137,12 @@ module _ {n : ℕ} {list : List ℤ} {map : Map} (a : Agree n list map) where
   did : (e : Deed) (m : ℕ) (t : TriangleCode)
       → (onList (does e m t) list .0 ≡ onMap n (does e m t) map .0)
       × Agree n (onList (does e m t) list .1) (onMap n (does e m t) map .1)
-  did e m t = rw (deed-by-map (a .is) e m t) (go (refuseDone n e m t) (done-not-23 n e m t) (done-good n e m t))
+  did e m t =
+      let out = outOfRange e in
+      rw (call-by-map (a .is) out m t) (go (refuseOnMap n out m t) (map-not-23 n out m t) (map-good n out m t))
     where
       go : (f : ℕ) → (f ≡ 23 → ⊥) → (f ≡ 0 → IsCode n t × (outOfRange e ≡ false))
-          → (let x = settled f (carriedOut e t list) (turnedDown list) in
+          → (let x = settled f (carriedOut e t list) (refusedDeed list) in
           let new = with t (soundingAfter e) map in
           let y = settled {A = TableAnswer × Map} f (tableAnswer 0 0, new) (λ k. (tableAnswer k 0, map)) in
           (done (x .0) ≡ done (y .0)) × Agree n (x .1) (y .1))
@@ -197,9 +180,9 @@ is-table n list l = (
 pub simple-map : SimpleMap
 simple-map = record {
   asked = λ n t list r p.
-      ap (λ x. (got x, list)) (sym (known-settled (refuseGet n t list) (found t list) (noSounding list) r p));
+      ap (λ x. (got x, list)) (sym (known-settled (refuseGet n t list) (found t list) (refusedGet list) r p));
   deed = λ e n t list r new p.
-      ap doing (sym (known-settled (refuseDeed e n t list) (carriedOut e t list) (turnedDown list) (r, new) p));
+      ap doing (sym (known-settled (refuseDeed e n t list) (carriedOut e t list) (refusedDeed list) (r, new) p));
   isTable = is-table;
   opened = λ n list is cs. as-map (record { is = is; same = λ u c. refl }) cs;
   begun = begun;

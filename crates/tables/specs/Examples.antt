@@ -7,13 +7,11 @@ use lib.ListN.{set, replicate}
 use Rattle.frame.specs.Promises.{_gives_, _leaves_}
 use Rattle.words.specs.Family.{codeOf}
 use Rattle.words.specs.Counting.{placeOf}
-use Rattle.words.specs.declared.TriangleCode.{TriangleCode}
 use Rattle.grid.specs.Writing.{written, zeroDigits}
-use Rattle.tables.specs.Tables.{none}
+use Rattle.tables.specs.Tables.{none, fresh}
 use Rattle.tables.specs.Refusals.{refuseGet, refuseDeed}
 use Rattle.tables.specs.Answers.{tableAnswer, soundingAnswer, GetAnswer, SetAnswer, ClearAnswer}
 use Rattle.tables.specs.Histories.{Call, asks, does, Answered, got, done, answers, after, onList}
-use Rattle.tables.specs.Promises.{fresh}
 use Rattle.tables.specs.declared.Sounding.the-variants.{Nothing, Reading}
 use Rattle.tables.specs.declared.Deed.the-variants.{Setting, Clearing}
 
@@ -85,6 +83,8 @@ pub record Bounds : Type 0 where
   pub table-7 : refuseGet 7 (codeOf (zeroDigits 7)) [] ≡ 20
   pub table-24 : refuseGet 24 (codeOf (zeroDigits 24)) [] ≡ 20
   pub table-25 : refuseGet 25 (written 100) [] ≡ 1
+  -- and so it is of the code's own degree
+  pub code-25 : refuseGet 0 (codeOf (zeroDigits 25)) (fresh 0) ≡ 1
   -- "22 the list's length isn't 20·4^degree"
   pub places-19 : refuseGet 0 (written 100) (replicate 19 none) ≡ 22
   pub places-21 : refuseGet 0 (written 100) (replicate 21 none) ≡ 22
@@ -102,6 +102,7 @@ pub record Bounds : Type 0 where
   -- "They are checked in number order", after those of 01
   pub one-first : refuseDeed (Setting (pos 100001)) 25 (codeOf 0) [] ≡ 1
   pub two-before-20 : refuseDeed (Setting (pos 100001)) 7 (codeOf 0) [] ≡ 2
+  pub three-before-20 : refuseDeed (Setting (pos 100001)) 7 (codeOf (zeroDigits 0 + 64)) [] ≡ 3
   pub four-before-20 : refuseDeed (Setting (pos 100001)) 7 (codeOf (zeroDigits 0 + 1)) [] ≡ 4
   pub twenty-before-21 : refuseDeed (Setting (pos 100001)) 7 (written 100) [] ≡ 20
   pub twentyone-before-22 : refuseDeed (Setting (pos 100001)) 0 (written 100) [] ≡ 21

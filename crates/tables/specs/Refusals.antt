@@ -20,23 +20,27 @@ tableOrder = order ++ (20 ∷ 21 ∷ 22 ∷ 23 ∷ [])
 
 -- "Set, clear and get take a code of just that degree": "20 wrong degree"; "a table degree of 7 to 24 is also 20, above
 -- 24 it is 1"
-abbrev pub placeRows : (degree : ℕ) → TriangleCode → List Row
-placeRows n t = degreeRows n ++ codeRows t ++ (20 when (ltb 6 n either not (eqb (degreeOf (t .0)) n)) ∷ [])
+abbrev pub triangleRows : (degree : ℕ) → TriangleCode → List Row
+triangleRows n t = degreeRows n ++ codeRows t ++ (20 when (ltb 6 n either not (eqb (degreeOf (t .0)) n)) ∷ [])
 
 -- "21 reading out of range": a reading is handed in to set alone
 abbrev pub outOfRange : Deed → Bool
 outOfRange (Setting x) = not (isReading x)
 outOfRange Clearing = false
 
-abbrev pub readingRows : Deed → List Row
-readingRows e = 21 when outOfRange e ∷ []
-
 -- "22 the list's length isn't 20·4^degree, 23 the list holds a number that is neither a reading nor -1"
 abbrev pub tableRows : (degree : ℕ) → List ℤ → List Row
 tableRows n list = 22 when not (eqb (length list) (places n)) ∷ 23 when anyBad list ∷ []
 
-unfoldable pub refuseGet : (degree : ℕ) → TriangleCode → List ℤ → ℕ
-refuseGet n t list = firstOf tableOrder (placeRows n t ++ tableRows n list)
+-- all rows of a call, of which `out` says whether it is handed a reading out of range
+abbrev pub callRows : (out : Bool) → (degree : ℕ) → TriangleCode → List ℤ → List Row
+callRows out n t list = triangleRows n t ++ (21 when out ∷ []) ++ tableRows n list
 
-unfoldable pub refuseDeed : Deed → (degree : ℕ) → TriangleCode → List ℤ → ℕ
-refuseDeed e n t list = firstOf tableOrder (placeRows n t ++ readingRows e ++ tableRows n list)
+unfoldable pub refuseCall : (out : Bool) → (degree : ℕ) → TriangleCode → List ℤ → ℕ
+refuseCall out n t list = firstOf tableOrder (callRows out n t list)
+
+abbrev pub refuseGet : (degree : ℕ) → TriangleCode → List ℤ → ℕ
+refuseGet = refuseCall false
+
+abbrev pub refuseDeed : Deed → (degree : ℕ) → TriangleCode → List ℤ → ℕ
+refuseDeed e = refuseCall (outOfRange e)

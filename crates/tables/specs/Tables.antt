@@ -1,10 +1,11 @@
 -- Document 02, 2026-03: the list of a table. Assumes nothing.
-use Prim.Native.Nat.{ℕ, suc, _*_, _^_}
+use mathlib.Core.Path.{_≡_}
+use Prim.Native.Nat.{ℕ, suc, _*_, _^_, _≤_}
 use mathlib.Core.Bool.{Bool, false, not, cond}
 use mathlib.Core.List.{List, [], _∷_}
 use lib.Dec.{leb, eqb}
 use lib.IntN.{ℤ, pos, negsuc}
-use lib.ListN.{getD, set}
+use lib.ListN.{length, getD, set, replicate}
 use Rattle.frame.specs.Refusals.{_either_}
 use Rattle.words.specs.Counting.{placeOf}
 use Rattle.words.specs.declared.TriangleCode.{TriangleCode}
@@ -12,10 +13,6 @@ use Rattle.tables.specs.declared.Sounding.{Sounding}
 use Rattle.tables.specs.declared.Sounding.the-variants.{Nothing, Reading}
 use Rattle.tables.specs.declared.Deed.{Deed}
 use Rattle.tables.specs.declared.Deed.the-variants.{Setting, Clearing}
-
--- "It holds one reading for each triangle of one degree": "20·4^degree"
-abbrev pub places : (degree : ℕ) → ℕ
-places n = 20 * 4 ^ n
 
 -- ---- the numbers
 
@@ -36,7 +33,13 @@ isNone (negsuc r) = eqb r 0
 abbrev pub isBad : ℤ → Bool
 isBad x = not (isReading x either isNone x)
 
--- whether some number of a list passes a test, and the first place of one: how many stand before it
+-- ---- the list
+
+-- "It holds one reading for each triangle of one degree": "20·4^degree"
+abbrev pub places : (degree : ℕ) → ℕ
+places n = 20 * 4 ^ n
+
+-- whether something in a list passes a test, and the first place of it: how many stand before
 unfoldable pub some : {A : Type 0} → (A → Bool) → List A → Bool
 some f [] = false
 some f (x ∷ xs) = f x either some f xs
@@ -53,27 +56,34 @@ anyBad list = some isBad list
 abbrev pub leastBad : List ℤ → ℕ
 leastBad list = firstPlace isBad list
 
--- ---- "reading or nothing"
+-- A list that no call refuses for its length or its numbers.
+pub record IsTable (n : ℕ) (list : List ℤ) : Type 0 where
+  pub degree : n ≤ 6
+  pub long : length list ≡ places n
+  pub good : anyBad list ≡ false
 
--- What a number of the list says. (Of the negative ones -1 alone is not bad.)
+-- a table with no readings
+abbrev pub fresh : (degree : ℕ) → List ℤ
+fresh n = replicate (places n) none
+
+-- ---- "reading or nothing": what a number of the list says, and the paper's number for each case
+
 abbrev pub said : ℤ → Sounding
-said (pos r) = Reading (pos r)
-said (negsuc r) = Nothing
+said x = cond (isNone x) Nothing (Reading x)
 
--- and the paper's number for each case
 abbrev pub number : Sounding → ℤ
 number Nothing = none
 number (Reading r) = r
 
 -- ---- a triangle's place: "ordered by code"
 
-abbrev pub readingAt : TriangleCode → List ℤ → ℤ
-readingAt t list = getD list (placeOf t) none
+abbrev pub numberAt : TriangleCode → List ℤ → ℤ
+numberAt t list = getD list (placeOf t) none
 
 -- "Set, clear": what the triangle has then, and the list with its place alone written
 abbrev pub soundingAfter : Deed → Sounding
 soundingAfter (Setting x) = Reading x
 soundingAfter Clearing = Nothing
 
-abbrev pub readingsAfter : Deed → TriangleCode → List ℤ → List ℤ
-readingsAfter e t list = set list (placeOf t) (number (soundingAfter e))
+abbrev pub listAfter : Deed → TriangleCode → List ℤ → List ℤ
+listAfter e t list = set list (placeOf t) (number (soundingAfter e))

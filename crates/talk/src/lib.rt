@@ -50,7 +50,7 @@ fn make_room(answers: &[u8], p: Progress) -> Progress
     Progress {
         length: p.length,
         filled: 0,
-        lost: !written,
+        lost: p.lost | !written,
         held,
     }
 }
@@ -125,7 +125,7 @@ fn end_answer(answers: &mut [u8], p: Progress) -> Progress
     Progress {
         length: 0,
         filled: at + 1,
-        lost: room.lost | p.lost,
+        lost: room.lost,
         held,
     }
 }

@@ -6,7 +6,7 @@ use Prim.Native.Nat.{ℕ, zero, suc, _+_, _-_, _*_, _/_, _%_, _^_, _≤_, _<_}
 use native.Mathlib.Nat.{mod-lt, div-add-mod', div-lt-iff-lt-mul}
 use native.Mathlib.Omega.{arith}
 use lib.Arith.{digits-div, digits-mod, digits-lt}
-use lib.Pow.{pow-add, pow-pos}
+use lib.Pow.{pow-add, pow-pos, pow-mono}
 use Rattle.words.specs.Words.{digits, sideOf, path, wordOf}
 use Rattle.words.specs.Refusals.{IsCode}
 use Rattle.words.specs.Family.{codeOf}
@@ -14,7 +14,7 @@ use Rattle.words.specs.Counting.{codeAt, placeOf}
 use Rattle.words.specs.declared.TriangleCode.{TriangleCode}
 use Rattle.words.proofs.WordLayout.{lex}
 use Rattle.words.proofs.Digits.{digits-are, path-lt, side-word, degree-word, path-word}
-use Rattle.words.proofs.Codes.{code-side, code-word, path-code}
+use Rattle.words.proofs.Codes.{code-degree, code-side, code-word, path-code}
 use Rattle.words.proofs.WordOrder.{order-by-path}
 
 pub four-pow : (n : ℕ) → 4 ^ n ≡ 2 ^ (2 * n)
@@ -82,6 +82,19 @@ module _ {n : ℕ} {t : TriangleCode} (c : IsCode n t) where
       let e : wordOf (4 + placeOf t / y) n (placeOf t % y) ≡ t .0 =
       (λ i. wordOf (4 + q i) n (r i)) ∙ (λ i. wordOf (g i) n v) ∙ sym (code-word c) in
       λ i. codeOf (e i)
+
+-- as it is computed
+module _ {n : ℕ} {t : TriangleCode} (c : IsCode n t) where
+  pub place-word : placeOf t ≡ (sideOf (t .0) - 4) * 2 ^ (2 * n) + path (digits (t .0) n)
+  place-word = place-is c ∙ ap (λ (k : ℕ). (sideOf (t .0) - 4) * k + path (digits (t .0) n)) (four-pow n)
+
+  pub place-fits : placeOf t < 2 ^ 53
+  place-fits =
+      omega (arith, place-below c, four-pow n, pow-mono {i = 2 * n} {j = 48} (omega (arith, code-degree c)))
+
+-- two codes of one degree have one place only where they are one
+pub one-place : {n : ℕ} {t u : TriangleCode} → IsCode n t → IsCode n u → placeOf u ≡ placeOf t → u .0 ≡ t .0
+one-place {n} c d e = ap (λ (x : TriangleCode). x .0) (sym (at-place d) ∙ ap (codeAt n) e ∙ at-place c)
 
 -- in the same order
 pub places-rise : {n : ℕ} {t u : TriangleCode} → IsCode n t → IsCode n u

@@ -3,14 +3,14 @@ use borrow.Author.Needs.{needs}
 use Rattle.soundings.proofs.clear.Statement.{statement}
 use Rattle.soundings.proofs.clear.Tie as tie
 
-act-requires : tie.Need-act-requires
-act-requires c κs = search needs
+carry-out-requires : tie.Need-carry-out-requires
+carry-out-requires c κs = search needs
 
 same-length : tie.Need-same-length
 same-length c = search needs
 
 returns : tie.Need-returns
-returns c = c .before .act .ensures
+returns c = c .before .carry-out .ensures
 
 pub clear-spec : {M : Type 1} → statement M
-clear-spec = tie.close (tie.spec act-requires same-length returns)
+clear-spec = tie.close (tie.spec carry-out-requires same-length returns)

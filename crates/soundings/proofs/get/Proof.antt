@@ -1,17 +1,17 @@
 -- Checked, then read (Answering). Assumes nothing.
 use mathlib.Core.Path.{_≡_, sym, _∙_, ap}
-use Prim.Native.Nat.{_<_}
+use mathlib.Core.Bool.{false}
 use native.Mathlib.Omega.{arith}
-use lib.ListN.{length, getD}
+use lib.ListN.{getD}
 use lib.IntN.{pos}
 use mir.Syntax.{w32}
 use mir.ValLaws.{toZ-ofZ}
 use Rattle.words.specs.Counting.{placeOf}
 use Rattle.tables.specs.Tables.{none, said}
 use Rattle.tables.proofs.Scanning.{in-range}
-use Rattle.tables.proofs.Places.{place-fits}
-use Rattle.tables.proofs.Refused.{Passed, get-passed}
-use Rattle.tables.proofs.Answering.{get-number, get-refused, get-found}
+use Rattle.words.proofs.CodeCount.{place-fits}
+use Rattle.tables.proofs.Refused.{Passed, call-passed}
+use Rattle.tables.proofs.Answering.{checked, get-refused, get-found}
 use borrow.Author.Needs.{needs}
 use Rattle.soundings.proofs.get.Statement.{statement}
 use Rattle.soundings.proofs.get.Tie as tie
@@ -20,17 +20,17 @@ known : (c : tie.Else1) → (let a = c .before .before .before .args in Passed (
 known c =
     let k = c .before .before in
     let a = k .before .args in
-    get-passed (a .degree) (a .t) (a .list .now)
-    (sym (get-number (a .degree) (a .t) (a .list .now) _ (k .refuse-get .ensures)) ∙ c .if1 .left)
+    call-passed (a .degree) (a .t) (a .list .now) false
+    (sym (checked (a .list .now) _ _ (k .refuse-call .ensures)) ∙ c .if1 .left) .0
 
-refuse-get-requires : tie.Need-refuse-get-requires
-refuse-get-requires c κs = search needs
+refuse-call-requires : tie.Need-refuse-call-requires
+refuse-call-requires c κs = search needs
 
 returns : tie.Need-returns
 returns c =
     let k = c .before .before in
     let a = k .before .args in
-    get-refused (a .degree) (a .t) (a .list .now) _ (k .refuse-get .ensures) (c .if1 .taken)
+    get-refused (a .degree) (a .t) (a .list .now) _ (k .refuse-call .ensures) (c .if1 .taken)
 
 place-of-requires : tie.Need-place-of-requires
 place-of-requires c κs = known c .code .passes
@@ -55,7 +55,7 @@ returns-2 c =
     let q : c .said-of .result ≡ said x =
     rw (toZ-ofZ w32 x (record { sfits = c .before .said-of-arg .given })) at (c .said-of .ensures) in
     let h = known e .inList in
-    get-found (a .degree) (a .t) list _ (k .refuse-get .ensures) (e .if1 .left)
+    get-found (a .degree) (a .t) list _ (k .refuse-call .ensures) (e .if1 .left)
     (q ∙ ap (λ i. said (getD list i (pos 0))) (p .ensures)
     ∙ ap said (in-range list (placeOf (a .t)) (pos 0) none h))
 
@@ -63,7 +63,7 @@ pub get-spec : {M : Type 1} → statement M
 get-spec =
     tie.close
     (tie.spec
-    refuse-get-requires
+    refuse-call-requires
     returns
     place-of-requires
     mul-said-of

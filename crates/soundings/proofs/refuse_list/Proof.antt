@@ -9,8 +9,8 @@ use borrow.Author.Needs.{needs}
 use Rattle.soundings.proofs.refuse_list.Statement.{statement}
 use Rattle.soundings.proofs.refuse_list.Tie as tie
 
-places-of-requires : tie.Need-places-of-requires
-places-of-requires c κs = search needs
+codes-of-requires : tie.Need-codes-of-requires
+codes-of-requires c κs = search needs
 
 refuse-requires : tie.Need-refuse-requires
 refuse-requires c κs = search needs
@@ -20,7 +20,7 @@ returns c =
     let s = c .before .before .before in
     answer-bare (s .args .list .now) (c .refuse .ensures)
     (wrong-length (s .args .degree) (s .args .list .now)
-    (λ e. c .before .if1 .taken (e ∙ sym (c .before .before .places-of .ensures)))) (omega arith)
+    (λ e. c .before .if1 .taken (e ∙ sym (c .before .before .codes-of .ensures)))) (omega arith)
 
 any-bad-requires : tie.Need-any-bad-requires
 any-bad-requires c κs = search needs
@@ -32,7 +32,7 @@ returns-2 : tie.Need-returns-2
 returns-2 c =
     let e = c .before .before .before in
     let s = e .before .before in
-    let l : length (s .args .list .now) ≡ places (s .args .degree) = e .if1 .left ∙ e .before .places-of .ensures in
+    let l : length (s .args .list .now) ≡ places (s .args .degree) = e .if1 .left ∙ e .before .codes-of .ensures in
     answer-bad (s .args .list .now)
     (bad-list (s .args .degree) (s .args .list .now) l
     (sym (c .before .before .any-bad .ensures) ∙ c .before .if2 .taken)) (c .least-bad .ensures)
@@ -44,7 +44,7 @@ returns-3 : tie.Need-returns-3
 returns-3 c =
     let e = c .before .before .before in
     let s = e .before .before in
-    let l : length (s .args .list .now) ≡ places (s .args .degree) = e .if1 .left ∙ e .before .places-of .ensures in
+    let l : length (s .args .list .now) ≡ places (s .args .degree) = e .if1 .left ∙ e .before .codes-of .ensures in
     answer-bare (s .args .list .now) (c .refuse2 .ensures)
     (good-list (s .args .degree) (s .args .list .now) l
     (sym (c .before .before .any-bad .ensures) ∙ c .before .if2 .left)) (omega arith)
@@ -53,7 +53,7 @@ pub refuse-list-spec : {M : Type 1} → statement M
 refuse-list-spec =
     tie.close
     (tie.spec
-    places-of-requires
+    codes-of-requires
     refuse-requires
     returns
     any-bad-requires

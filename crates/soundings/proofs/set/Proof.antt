@@ -5,8 +5,8 @@ use borrow.Author.Needs.{needs}
 use Rattle.soundings.proofs.set.Statement.{statement}
 use Rattle.soundings.proofs.set.Tie as tie
 
-act-requires : tie.Need-act-requires
-act-requires c κs = search needs
+carry-out-requires : tie.Need-carry-out-requires
+carry-out-requires c κs = search needs
 
 same-length : tie.Need-same-length
 same-length c = search needs
@@ -14,7 +14,7 @@ same-length c = search needs
 returns : tie.Need-returns
 returns c =
     let s = c .before .before .before in
-    rw (toZ-ofZ w32 (s .args .reading) (s .fits .reading)) at (c .before .act .ensures)
+    rw (toZ-ofZ w32 (s .args .reading) (s .fits .reading)) at (c .before .carry-out .ensures)
 
 pub set-spec : {M : Type 1} → statement M
-set-spec = tie.close (tie.spec act-requires same-length returns)
+set-spec = tie.close (tie.spec carry-out-requires same-length returns)

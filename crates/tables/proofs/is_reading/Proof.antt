@@ -1,0 +1,25 @@
+-- Two tests (Numbers). Assumes nothing.
+use mathlib.Core.Path.{_≡_, sym}
+use mathlib.Core.Bool.{true, false}
+use lib.IntN.{pos}
+use lib.Signed.{ltZ}
+use mir.Syntax.{w32}
+use mir.ValLaws.{toZ-ofZ}
+use Rattle.tables.proofs.Numbers.{reading-low, reading-else}
+use Rattle.tables.proofs.is_reading.Statement.{statement}
+use Rattle.tables.proofs.is_reading.Tie as tie
+
+returns : tie.Need-returns
+returns c =
+    let x = c .before .args .x in
+    let h : ltZ x (pos 0) ≡ true = rw (toZ-ofZ w32 x (c .before .fits .x)) at (c .if1 .taken) in
+    sym (reading-low x h)
+
+returns-2 : tie.Need-returns-2
+returns-2 c =
+    let x = c .before .args .x in
+    let h : ltZ x (pos 0) ≡ false = rw (toZ-ofZ w32 x (c .before .fits .x)) at (c .if1 .left) in
+    rw (toZ-ofZ w32 x (c .before .fits .x)) (reading-else x h)
+
+pub is-reading-spec : {M : Type 1} → statement M
+is-reading-spec = tie.close (tie.spec returns returns-2)

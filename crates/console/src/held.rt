@@ -110,7 +110,8 @@ fn put_got(r: SoundingAnswer, out: &mut [u8]) -> usize
 
 // ---- get, set and clear, on the places that are the table's own
 
-fn get(line: &[u8], at: usize, held: Held, list: &[i32], out: &mut [u8]) -> usize
+// get and clear, which take a code alone.
+fn of_code(call: u64, line: &[u8], at: usize, held: Held, list: &mut [i32], out: &mut [u8]) -> usize
     requires { ⌜ (at ≤ length (now line)) × (8192 ≤ length (now out)) ⌝ }
     ensures { λ r. ⌜ r ≤ 8000 ⌝ }
 {
@@ -121,10 +122,11 @@ fn get(line: &[u8], at: usize, held: Held, list: &[i32], out: &mut [u8]) -> usiz
     if !held.open {
         return none_open(out);
     }
-    put_got(
-        soundings::get(held.degree, TriangleCode(c.value), list),
-        out,
-    )
+    // get
+    if call == 23 {
+        return put_got(soundings::get(held.degree, TriangleCode(c.value), list), out);
+    }
+    put_done(soundings::clear(held.degree, TriangleCode(c.value), list), out)
 }
 
 fn set(line: &[u8], at: usize, held: Held, list: &mut [i32], out: &mut [u8]) -> usize
@@ -141,23 +143,6 @@ fn set(line: &[u8], at: usize, held: Held, list: &mut [i32], out: &mut [u8]) -> 
     }
     put_done(
         soundings::set(held.degree, TriangleCode(c.value), x.value, list),
-        out,
-    )
-}
-
-fn clear(line: &[u8], at: usize, held: Held, list: &mut [i32], out: &mut [u8]) -> usize
-    requires { ⌜ (at ≤ length (now line)) × (8192 ≤ length (now out)) ⌝ }
-    ensures { λ r. ⌜ r ≤ 8000 ⌝ }
-{
-    let c = arguments::code_at(line, at);
-    if !(c.read & arguments::at_end(line, c.next)) {
-        return 0;
-    }
-    if !held.open {
-        return none_open(out);
-    }
-    put_done(
-        soundings::clear(held.degree, TriangleCode(c.value), list),
         out,
     )
 }
@@ -521,10 +506,8 @@ fn on_table(
     match call {
         // set
         22 => whole(set(line, at, held, list, out), held),
-        // get
-        23 => whole(get(line, at, held, list, out), held),
-        // clear
-        24 => whole(clear(line, at, held, list, out), held),
+        // get, clear
+        23..=24 => whole(of_code(call, line, at, held, list, out), held),
         // readings
         _ => readings(line, at, held, list, out),
     }

@@ -1,11 +1,10 @@
 -- By the deed. Assumes nothing.
 use mathlib.Core.Path.{_≡_, sym, _∙_, ap}
-use mathlib.Core.Bool.{Bool, not}
+use mathlib.Core.Bool.{not}
 use mir.Syntax.{w32}
 use mir.ValLaws.{toZ-ofZ}
 use Rattle.tables.specs.Tables.{isReading}
 use Rattle.tables.specs.Refusals.{outOfRange}
-use Rattle.tables.specs.declared.Deed.{Deed}
 use borrow.Author.Needs.{needs}
 use Rattle.soundings.proofs.is_out_of_range.Statement.{statement}
 use Rattle.soundings.proofs.is_out_of_range.Tie as tie

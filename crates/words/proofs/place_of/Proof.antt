@@ -1,8 +1,8 @@
 -- Side and path (CodeCount). Assumes nothing.
 use mathlib.Core.Path.{_≡_}
-use Prim.Native.Nat.{ℕ, _+_, _-_, _*_, _^_, _<_}
+use Prim.Native.Nat.{_+_, _-_, _*_, _^_}
 use native.Mathlib.Omega.{arith}
-use Rattle.words.specs.Words.{degreeOf, digits, sideOf, path}
+use Rattle.words.specs.Words.{degreeOf, sideOf}
 use Rattle.words.proofs.Codes.{is-code, code-side, code-degree}
 use Rattle.words.proofs.CodeCount.{place-word, place-fits}
 use Rattle.words.specs.Counting.{placeOf}

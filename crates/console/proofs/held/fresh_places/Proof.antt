@@ -1,5 +1,4 @@
 -- `console::held::fresh_places` is safe: 20·4^6 is 81,920. Assumes nothing.
-use mathlib.Core.Path.{_≡_}
 use native.Mathlib.Omega.{arith}
 use Rattle.tables.proofs.Places.{places-most}
 use borrow.Author.Needs.{needs}

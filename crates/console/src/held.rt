@@ -124,9 +124,15 @@ fn of_code(call: u64, line: &[u8], at: usize, held: Held, list: &mut [i32], out:
     }
     // get
     if call == 23 {
-        return put_got(soundings::get(held.degree, TriangleCode(c.value), list), out);
+        return put_got(
+            soundings::get(held.degree, TriangleCode(c.value), list),
+            out,
+        );
     }
-    put_done(soundings::clear(held.degree, TriangleCode(c.value), list), out)
+    put_done(
+        soundings::clear(held.degree, TriangleCode(c.value), list),
+        out,
+    )
 }
 
 fn set(line: &[u8], at: usize, held: Held, list: &mut [i32], out: &mut [u8]) -> usize

@@ -22,15 +22,24 @@ For the plotter host in C of request 2026-01 it writes the lines of the host's t
 same searches: every triangle to degree 4 is checked, and crossed over each edge; cross, file and list are lent slices
 of every length from 0 to 64 and none, where they are answered and for each refusal.
 
+For the sweep of request 2026-04 each direction is filed by the search for one. The console's call is made with every
+count of numbers and of places that it can have; at every degree; and with refused directions in every place. The test
+bench's is lent slices of every length about the least that is needed. All answers are then compared with those of file.
+For the program ./sweep it writes cases: arguments and input, and what the program must write and its exit status.
+
     second.py CALLS ANSWERS           writes the calls, one a line, and the answers that the console must give to them
     second.py --answer                answers the call lines of standard input, all but help, from no open table on
     second.py --host CALLS ANSWERS    writes the calls of the test bench in C, and the answers that it must give to them
     second.py --host-answer           answers the test bench's call lines of standard input; any other line is an error
+    second.py --sweep FOLDER          writes for each case of ./sweep NAME.args, its arguments, one a line, and NAME.in,
+                                      its standard input; and NAME.out, NAME.err and NAME.status, what must be on its
+                                      standard output and standard error, neither a terminal, and its exit status
 """
 import bisect
 import itertools
 import math
 import operator
+import os
 import random
 import re
 import struct
@@ -649,6 +658,40 @@ def set_refusals(table, code, mm):
     return sounding_refusals(table, code) | when(21, not is_reading(mm))
 
 
+# ==== Document 02, 2026-04, "Many directions at once"
+
+
+def threes(numbers):
+    # "a lent list of directions (three signed numbers each)"
+    return list(zip(numbers[0::3], numbers[1::3], numbers[2::3]))
+
+
+def sweep_refusals(n, numbers, places):
+    # "For the whole call, writing nothing: refusal 1 for a degree above 24, then 9 if the input length isn't a multiple
+    # of 3 or the code list is shorter than the number of directions."
+    return degree_refusals(n) | when(9, len(numbers) % 3 != 0 or len(places) < len(numbers) // 3)
+
+
+@lru_cache(maxsize=1 << 14)
+def filed(n, d):
+    """The single call: its refusal number and 0, or 0 and the code."""
+    no = first(direction_refusals(n, d))
+    return (no, 0) if no else (0, min(holders(n, d)))
+
+
+Swept = namedtuple("Swept", "codes count place no")
+
+
+def swept(n, directions):
+    """The codes, how many directions are refused, and the first one's place and refusal."""
+    # "Each result equals the single call's. A refused direction writes 0 in its own place and the sweep goes on".
+    results = [filed(n, d) for d in directions]
+    refused_at = [(place, no) for place, (no, _) in enumerate(results) if no]
+    # "the number of refused directions and the first one's place (from 0) and refusal, all zeros if there is none". "An
+    # empty sweep is answered with no refused directions."
+    return Swept([code for _, code in results], len(refused_at), *(refused_at[0] if refused_at else (0, 0)))
+
+
 # ==== The console's answers
 
 
@@ -796,6 +839,22 @@ def call_list(n, x, y, z, places=None):
     return answer_triangles(direction_refusals(n, (x, y, z)), lambda: holders(n, (x, y, z)), places)
 
 
+def sweep_text(found):
+    # "N ` refused`, and where N is not 0 `, first at place ` P ` with ` R"
+    return f"{found.count} refused" + (f", first at place {found.place} with {found.no}" if found.count else "")
+
+
+def call_sweep(n, places, numbers):
+    lent = lent_list(places, 0)
+    no = first(sweep_refusals(n, numbers, lent))
+    if no:
+        return with_places(refused(no), places, lent, word_text)
+    found = swept(n, threes(numbers))
+    # "Code places after the last direction stay unchanged."
+    lent[: len(found.codes)] = found.codes
+    return with_places(sweep_text(found), places, lent, word_text)
+
+
 # ==== The console's table: docs/CONSOLE.md, "A table of soundings"
 
 # "The console holds one table (document 02, 2026-03), from the line that opens it to the next one that does, or the end
@@ -878,6 +937,7 @@ HEX = re.compile("0x([0-9A-Fa-f]{1,16})")
 TRIANGLE = re.compile("[0-7][01][01][0-3]{0,24}")
 WHOLE_NUMBER = re.compile("[0-9]+")
 SIGNED_NUMBER = re.compile("-?[0-9]+")
+MOST_PLACES, MOST_NUMBERS = 16, 48
 
 
 class Unreadable(Exception):
@@ -912,11 +972,12 @@ def read_signed(text):
 
 
 def read_places(text):
-    return within(read_number(text), 0, 16)
+    return within(read_number(text), 0, MOST_PLACES)
 
 
 SIGNED = dict.fromkeys("XYZ", read_signed)
-READERS = {"CODE": read_code, "NAME": read_hex, **SIGNED, "MM": read_signed, "[PLACES]": read_places}
+READERS = {"CODE": read_code, "NAME": read_hex, **SIGNED, "MM": read_signed}
+READERS.update({"PLACES": read_places, "[PLACES]": read_places})
 
 ANSWERS = {
     "check CODE": call_check,
@@ -939,6 +1000,7 @@ ANSWERS = {
     "ring NAME [PLACES]": call_ring,
     "file DEGREE X Y Z": call_file,
     "list DEGREE X Y Z [PLACES]": call_list,
+    "sweep DEGREE PLACES [NUMBER]..": call_sweep,
 }
 TABLE_ANSWERS = {
     "table DEGREE [LENGTH FILL [PLACE VALUE]..]": call_table,
@@ -979,6 +1041,9 @@ def read_arguments(kinds, given):
         return [read_number(given[0]), [read_number(x) for x in given[1:]]]
     if last == "VALUE]..]":
         return read_table(given)
+    if last == "[NUMBER]..":  # "(0 to 48 numbers)"
+        within(len(given), 2, 2 + MOST_NUMBERS)
+        return [read_number(given[0]), read_places(given[1]), [read_signed(x) for x in given[2:]]]
     within(len(given), len(kinds) - (last == "[PLACES]"), len(kinds))
     return [READERS.get(kind, read_number)(x) for kind, x in zip(kinds, given)]
 
@@ -1198,6 +1263,7 @@ def internal_checks():
     check_places()
     check_table_lines()
     check_ice_desk()
+    check_sweep_lines()
 
 
 # ==== Internal checks of what file and list are answered to degree 5
@@ -1335,6 +1401,7 @@ def every_step():
 # ==== The calls: directions
 
 FAR = 1_000_000_000
+LEAST_SIGNED, MOST_SIGNED = -(2**31), 2**31 - 1
 
 
 def fits(d):
@@ -1803,7 +1870,7 @@ def refusal_calls():
 
 def good_arguments(kinds):
     good = {"CODE": "100", "NAME": "0x2000000000000001", "DEGREE": "0", "[PLACES]": "12"}
-    good["WEIGHTS"] = "1 0 0 0 0 0 0 0 0 0 0 0"
+    good.update({"WEIGHTS": "1 0 0 0 0 0 0 0 0 0 0 0", "PLACES": "1", "[NUMBER]..": "1 2 3"})
     return [good.get(kind, "1") for kind in kinds]
 
 
@@ -1823,6 +1890,8 @@ BAD_SIGNED = """
 """.split()
 BAD_PLACES = "17 18446744073709551615 18446744073709551616 -1 six 0x11 0x 12.0".split()
 BAD = {"CODE": BAD_CODES, "NAME": BAD_NAMES, "X": BAD_SIGNED, "Y": BAD_SIGNED, "Z": BAD_SIGNED, "[PLACES]": BAD_PLACES}
+BAD.update({"PLACES": BAD_PLACES, "[NUMBER]..": BAD_SIGNED})
+ONE_TOO_MANY = {"WEIGHTS": ["0"] * 5, "[NUMBER]..": ["0"] * 46}
 
 
 def as_bytes(text):
@@ -1847,12 +1916,12 @@ UNREADABLE_AND_REFUSED = """
 def unreadable_calls():
     """Every call with arguments missing, one too many, and each argument unreadable."""
     chance = random.Random(9)
-    with_all = ("check", "check-name", "child", "file", "list", "ring")
+    with_all = ("check", "check-name", "child", "file", "list", "ring", "sweep")
     for call, (_, kinds, _) in GRID_FORMS.items():
         good = good_arguments(kinds)
-        least = len(kinds) - (kinds[-1] in ("[PLACES]", "WEIGHTS"))
+        least = len(kinds) - (kinds[-1] in ("[PLACES]", "WEIGHTS", "[NUMBER].."))
         yield from (" ".join([call] + good[:k]) for k in range(least))
-        yield " ".join([call] + good + (["0"] * 5 if kinds[-1] == "WEIGHTS" else ["1"]))
+        yield " ".join([call] + good + ONE_TOO_MANY.get(kinds[-1], ["1"]))
         yield " ".join([call] + good + ["x"])
         yield " ".join([call] + good + ["# note"])
         for at, kind in enumerate(kinds):
@@ -1868,6 +1937,7 @@ UNKNOWN = """
     foo; Check 100; CHECK 100; checks 100; chec 100; check100; check:100; 100; 0x2000000000000000; -; --help; Help; HELP
     helpme; ?; exit; quit; check_name 0x2000000000000001; name_weights 1; names 100 1; names; crossing 1001 2; T 100 1
     t1 100 1; tt; rings; Ring 0x2000000000000001; filed 0 1 1 1; lists 0 1 1 1; weight 100 1; backs 0 1; bit 100 1
+    sweeps 2 0; Sweep 2 0; SWEEP 2 0; sweep2 0; swee 2 0; sweep: 2 0; ./sweep 2; --packed 2; sweep\u00a02 0
     drawn-name 100 1; exact-name 100 1; name-; -name; name-name 1; check#; check, 100; chéck 100; check\u00a0100
     \u2003check 100; \ufeffcheck 100; φ
 """
@@ -1878,7 +1948,7 @@ def unknown_calls():
     yield from written(UNKNOWN)
     yield from ["check\x0b100", "\x0bcheck 100", "check\x0c 100", "check\x00 100", "\x00", "\x1acheck 100"]
     yield from ["\x7f", "\xff\xfe", "\x80check 100", "check 100\x0b", "check \x0c100", "check 100\x00"]
-    yield from ["file 0 1 1 1\x0c", "child 100 \x001"]
+    yield from ["file 0 1 1 1\x0c", "child 100 \x001", "sweep\x002 1", "sweep\x0b2 1"]
     yield as_bytes("check 100\u00a0")
 
 
@@ -2769,13 +2839,327 @@ def check_soundings(calls, answers):
     must({x.no for x in seen if x.call == "readings"} == {0, 1, 20, 22}, "readings refused")
 
 
+# ==== The calls: sweeps, examples with the answers written out by hand
+
+SHORT = "refused 9: a lent list is too short: 12 for weights, 6 for triangles"
+DEEP = "refused 1: a degree, as field or argument, is above 24"
+SWEEP_TEXT = """
+    sweep 2 4 0 0 1 0 0 0 1 0 0 -> 1 refused, first at place 1 with 7 | 208C000000000000 0 3888000000000000 4
+    sweep 2 0 -> 0 refused |
+    sweep 2 1 0 0 -> SHORT | 1
+    sweep 2 3 0 0 1 1 0 0 0 0 -1 -> 0 refused | 208C000000000000 3888000000000000 508C000000000000
+    sweep 3 3 1 1 1 -1 -1 -1 -> 0 refused | 40C0000000000000 90C0000000000000 3
+    sweep 0 1 0 0 1 -> 0 refused | 2000000000000000
+    sweep 2 2 0 0 1000000000 0 0 1000000001 -> 1 refused, first at place 1 with 8 | 208C000000000000 0
+    sweep 2 2 0 0 0 2147483647 0 0 -> 2 refused, first at place 0 with 7 | 0 0
+    sweep 2 2 0 -2147483648 0 0 0 0 -> 2 refused, first at place 0 with 8 | 0 0
+    sweep 2 3 0 0 1 0 0 1 -0 0 0 -> 1 refused, first at place 2 with 7 | 208C000000000000 208C000000000000 0
+    sweep 24 0 -> 0 refused |
+    sweep 24 2 -> 0 refused | 1 2
+    sweep 2 0 0 0 1 -> SHORT |
+    sweep 2 1 0 0 1 1 0 0 -> SHORT | 1
+    sweep 2 3 0 0 1 1 -> SHORT | 1 2 3
+    sweep 2 0 0 -> SHORT |
+    sweep 2 1 0 0 0 0 -> SHORT | 1
+    sweep 25 2 -> DEEP | 1 2
+    sweep 25 0 0 0 1 -> DEEP |
+    sweep 25 1 0 0 -> DEEP | 1
+    sweep 25 1 0 0 0 -> DEEP | 1
+    sweep 18446744073709551615 1 0 0 1 -> DEEP | 1
+    sweep 4294967298 1 0 0 1 -> DEEP | 1
+"""
+
+
+def sweep_example(line):
+    """A line, and its answer with each place as a word."""
+    call, text = line.strip().split(" -> ")
+    told, _, places = text.partition(" |")
+    words = "".join(" " + word_text(int(x, 16)) for x in places.split())
+    return call, told.replace("SHORT", SHORT).replace("DEEP", DEEP) + " |" + words
+
+
+# E3 to E7, 100 for (0,0,1) at degree 0, and the examples of docs/CONSOLE.md.
+SWEEP_EXAMPLES = dict(map(sweep_example, SWEEP_TEXT.strip().split("\n")))
+
+
+# ==== The calls: sweeps of every length, and at every degree
+
+
+@lru_cache(maxsize=None)
+def some_directions():
+    """Some 300 that are filed: a share of those of all kinds, and some at random."""
+    chance = random.Random(41)
+    found = all_directions()[::3] + [(0, 0, 1), (1, 1, 1), (-1, -1, -1), (1, 0, 0), (0, 0, -1)]
+    most = [3] * 30 + [10**4] * 30 + [FAR] * 80
+    return [d for d in dict.fromkeys(found + [tuple(chance.randint(-m, m) for _ in "xyz") for m in most]) if fits(d)]
+
+
+def outside(chance):
+    """A direction with one coordinate or more outside the bounds, by one or as far as a number goes."""
+    d = list(chance.choice([(0, 0, 0), (FAR, -FAR, FAR), chance.choice(some_directions())]))
+    for axis in chance.sample((0, 1, 2), chance.choice([1, 1, 1, 2, 3])):
+        d[axis] = chance.choice([FAR + 1, -FAR - 1, LEAST_SIGNED, MOST_SIGNED])
+    return tuple(d)
+
+
+def of_kind(chance, no):
+    """A direction that is refused by the number, or for 0 filed."""
+    return {0: lambda: chance.choice(some_directions()), 7: lambda: (0, 0, 0), 8: lambda: outside(chance)}[no]()
+
+
+def of_kinds(chance, nos):
+    return [of_kind(chance, no) for no in nos]
+
+
+def some_kinds(chance, many):
+    """Filed or refused: none, some, or most of them."""
+    return of_kinds(chance, chance.choices((0, 7, 8), weights=chance.choice([(1, 0, 0), (8, 1, 1), (1, 1, 2)]), k=many))
+
+
+def sweep_line(n, places, numbers):
+    return " ".join(map(str, ["sweep", n, places, *numbers]))
+
+
+def flat(directions):
+    return list(itertools.chain.from_iterable(directions))
+
+
+def enough_places(chance, many):
+    """Just enough places for the directions, or more."""
+    return chance.choice([many, many, chance.randint(many, MOST_PLACES)])
+
+
+def good_sweep(chance, directions, n=None):
+    n = chance.randint(0, DEEPEST) if n is None else n
+    return sweep_line(n, enough_places(chance, len(directions)), flat(directions))
+
+
+def sweep_lengths():
+    """Every count of numbers with every count of places: with directions that are all filed; and filed or refused."""
+    chance, degrees = random.Random(42), itertools.cycle(range(DEEPEST + 1))
+    for make in (lambda: of_kinds(chance, [0] * 16), lambda: some_kinds(chance, 16)):
+        for count in range(MOST_NUMBERS + 1):
+            for places in range(MOST_PLACES + 1):
+                yield sweep_line(next(degrees), places, flat(make())[:count])
+
+
+def sweep_degrees():
+    """All of some 300 directions at each degree, in sweeps of any length."""
+    chance = random.Random(43)
+    for n in range(DEEPEST + 1):
+        left = chance.sample(some_directions(), len(some_directions()))
+        while left:
+            many = chance.choice([1, 2, 3, 15, 16, chance.randint(1, 16)])
+            yield good_sweep(chance, left[:many], n)
+            left = left[many:]
+
+
+def sweep_parts():
+    # "hand later parts of the sweep on as parts that start in the middle of the lent list"
+    chance = random.Random(44)
+    for n in (0, 2, 5, 13, 24):
+        some = some_kinds(chance, 16)
+        for at in range(17):
+            yield from (good_sweep(chance, one, n) for one in (some[:at], some[at:]))
+    for _ in range(30):
+        yield good_sweep(chance, [chance.choice(some_directions())] * chance.randint(2, 16))
+
+
+# ==== The calls: sweeps with refused directions, and refused sweeps
+
+
+def refused_places():
+    """One refused direction in each place of every count of directions, and two in each two places of sixteen, 7 and 8
+    in both orders. All of them, all but one, and every choice to five directions."""
+    chance = random.Random(45)
+    for many in range(1, 17):
+        for place in range(many):
+            yield from (good_sweep(chance, of_kinds(chance, [no * (k == place) for k in range(many)])) for no in (7, 8))
+        for two in itertools.product((7, 8), repeat=2):
+            yield good_sweep(chance, of_kinds(chance, (two * 8)[:many]))
+    for one, other in itertools.combinations(range(16), 2):
+        for nos in itertools.product((7, 8), repeat=2):
+            kinds = dict(zip((one, other), nos))
+            yield good_sweep(chance, of_kinds(chance, [kinds.get(k, 0) for k in range(16)]))
+    for place in range(16):
+        yield good_sweep(chance, of_kinds(chance, [(k != place) * chance.choice((7, 8)) for k in range(16)]))
+    for many in range(1, 6):
+        yield from (good_sweep(chance, of_kinds(chance, nos)) for nos in itertools.product((0, 7, 8), repeat=many))
+
+
+SWEPT_BOUNDS = [0, 5, FAR, FAR + 1, -FAR, -FAR - 1, LEAST_SIGNED, MOST_SIGNED]
+
+
+def swept_bounds():
+    """Each of the numbers at the bounds on each axis, with each other one on the others."""
+    chance = random.Random(46)
+    every = list(itertools.product(SWEPT_BOUNDS, repeat=3))
+    for n in (0, 3, 24):
+        chance.shuffle(every)
+        yield from (good_sweep(chance, every[k : k + 16], n) for k in range(0, len(every), 16))
+        for x in SWEPT_BOUNDS:
+            yield from (good_sweep(chance, [d], n) for d in ((x, 0, 0), (0, x, 0), (0, 0, x), (x, x, x), (5, -7, x)))
+
+
+def refused_sweeps():
+    """A degree above 24 with lists of good and of bad lengths; and a bad length with refused directions in it."""
+    chance = random.Random(47)
+    for n in ABOVE_ALL:
+        for count in (0, 1, 3, 5, 6, 48):
+            yield from (sweep_line(n, places, flat(some_kinds(chance, 16))[:count]) for places in (0, 1, 2, 16))
+    for nos in ([7] * 16, [8] * 16, [7, 8] * 8):
+        for count in (1, 2, 3, 4, 8, 46, 47, 48):
+            yield from (sweep_line(24, places, flat(of_kinds(chance, nos))[:count]) for places in (0, 15))
+
+
+# ==== The calls: lines of a sweep that cannot be read, and lines that can, just
+
+UNREADABLE_SWEEPS = """
+    sweep; sweep 2; sweep x; sweep 25; sweep 2 17; sweep 25 17; sweep 25 17 0 0; sweep 2 -1; sweep 2 0x11; sweep 2 00017
+    sweep 2 18446744073709551615; sweep 2 4294967296; sweep 2 256; sweep 2 -0; sweep -0 1; sweep 18446744073709551616 1
+    sweep 2 1 0 0 1x; sweep 2 1 0x0 0 1; sweep 2 1 0 0 +1; sweep 2 1 0,0,1; sweep 2 1 0, 0, 1; sweep 2 1 (0 0 1)
+    sweep 2 1 0 0 2147483648; sweep 2 1 -2147483649 0 0; sweep 2 1 0 4294967297 0; sweep 25 1 0 0 2147483648
+    sweep 25 0 0 0 x; sweep 2 0 x; sweep 2 0 0 x; sweep 2 1 0 0 1 # note; sweep 2 1 #; sweep # 2 1; sweep 2 1 0 0 1 |
+    sweep 2 1 0 0 0 x; sweep 2 1 0 0 18446744073709551617; sweep 2 1 - 0 1; sweep 2 1 0 0 --1; sweep DEGREE PLACES
+    sweep 2 1 NUMBER; sweep 2 [1]; sweep --packed 2; sweep 2 --packed; sweep 2.0 1; sweep 2 1.0; sweep 2 1 0 0 1.0
+    sweep 2 1 0 0 −1; sweep 2 1 ٣ 0 0; sweep ٣ 1 0 0 1; sweep 2 1 0 0 1\u00a0; sweep 2 1 0\u00a00 1; sweep 2 0X0f
+"""
+READABLE_SWEEPS = """
+    sweep 0x2 0x1 0 0 1; sweep 0x18 0x10 0 0 1; sweep 024 016 0 0 1; sweep 0x19 1 0 0 1; sweep 025 1 0 0 1
+    sweep 0x0000000000000002 0x0000000000000001 0 0 1; sweep 2 1 -0 -000 0001; sweep 2 1 -0 0 -00; sweep 2 1 00 -0001 0
+    sweep 0xFFFFFFFFFFFFFFFF 1 0 0 1; sweep 0xffffffffffffffff 0x0 0; sweep 018446744073709551615 1 0 0 0
+    sweep 2 1 -0000000002147483648 0 0; sweep 2 1 0 00000000002147483647 0; sweep 2 2 0001000000000 0 0 0 -01000000000 0
+    sweep 0000000000000000000000000024 0000000000000000000000000001 1 2 3; sweep 2 0x0f 1 2 3; sweep 2 0x0F 1 2 3
+"""
+
+
+def unreadable_sweeps():
+    """What can not be read is said before any refusal."""
+    chance = random.Random(48)
+    yield from written(UNREADABLE_SWEEPS)
+    for count in (49, 50, 51, 52, 54, 64, 96, 300):
+        for n, places in ((0, 0), (24, 16), (24, 17), (25, 16)):
+            yield sweep_line(n, places, [chance.randint(-9, 9) for _ in range(count)])
+    for at in range(MOST_NUMBERS):
+        numbers = flat(some_kinds(chance, 16))
+        for count in sorted({at + 1, MOST_NUMBERS}):
+            words = numbers[:at] + [chance.choice(BAD_SIGNED)] + numbers[at + 1 : count]
+            yield as_bytes(sweep_line(chance.choice((0, 24, 25)), chance.choice((0, 16)), words))
+    yield from ["sweep 2 1 0 0 1\x00", "sweep 2 1 0 0\x0b1", "sweep 2 1\x0c0 0 1", "sweep 2 1 0 0 \xff"]
+
+
+def spaced_sweeps():
+    """Leading zeros, either case, tabs and carriage returns, and lines of 1000 bytes and more."""
+    yield from written(READABLE_SWEEPS)
+    yield from ["\tsweep\t2\t1\t0\t0\t1\t", "sweep 2 1 0 0 1\r", "  sweep   2 1  0 0  1  ", "\rsweep\r2\r1 \t\r 0 0 1"]
+    yield from ["sweep 2 0\r", " sweep 2 0", "sweep\t2\t0\t", "sweep 2 1 0 0\t\r"]
+    for length in (998, 999, 1000, 1001, 1002, 2000, 65536):
+        yield filled("sweep 2 3 0 0 1 0 0 0 1 0 0", length)
+        yield "sweep 2 1 0 0 " + "0" * (length - 15) + "1"
+        yield "sweep 2 1 0 -" + "0" * (length - 16) + "1 0"
+        yield " " * (length - len("sweep 2 0")) + "sweep 2 0"
+        start = sweep_line(24, 16, [-FAR] * 47)
+        yield start + " -" + "0" * (length - len(start) - 12) + str(FAR)
+        yield "sweep 2 1 1 0 0"
+
+
+def sweeps_on_table():
+    """A sweep leaves the open table as it is, also one that is refused or can not be read."""
+    chance = random.Random(49)
+    for line in ("table 1 80 -1 1 1250 79 0", "table 0 20 -1 3 -2", "table 7 3 500"):
+        yield line
+        for _ in range(6):
+            yield from [good_sweep(chance, some_kinds(chance, chance.randint(0, 16))), "get 1001", "readings"]
+        for other in ("sweep 25 1", "sweep 1 0 1", "sweep 1"):
+            yield from [other, "readings"]
+
+
+# ==== Internal checks of what sweeps are answered
+
+SWEEP_LINE = re.compile(r"[ \t\r]*sweep(?![^ \t\r])")
+SWEEP_ANSWER = re.compile(r"(\d+) refused(?:, first at place (\d+) with (\d))?")
+SweepSeen = namedtuple("SweepSeen", "n places numbers held nos")
+
+
+def check_codes(n, directions, words, told):
+    """The codes and what is told of them, against what file answers to each direction: its refusals, in order."""
+    single = [call_file(n, *d) for d in directions]
+    nos = [int(text.split()[1][:-1]) if text.startswith("refused ") else 0 for text in single]
+    must(words == [0 if no else int(text.split()[1], 16) for no, text in zip(nos, single)], "as file", n, directions)
+    count, place, no = told
+    must(count == sum(x != 0 for x in nos), "how many are refused", n, directions, told)
+    if count == 0:
+        must(place == no == 0, "all zeros if there is none", n, directions, told)
+    else:
+        must(nos[place] == no != 0 and not any(nos[:place]), "the first", n, directions, told)
+    return tuple(nos)
+
+
+def seen_sweep(line, text):
+    """A sweep that can be read: its answer, or else its refusal, and every place after the call."""
+    _, *given = parts_of(line)
+    n, places, numbers = read_arguments(["[NUMBER].."], given)
+    told, shown = text.split(" |")
+    words, before = [int(x, 16) for x in shown.split()], list(range(1, places + 1))
+    must(shown == "".join(f" 0x{x:016X}" for x in words) and len(words) == places, "all places", line, text)
+    many, left_over = divmod(len(numbers), 3)
+    held = {what for what, true in (("1", n > 24), ("length", left_over), ("short", places < many)) if true}
+    if held:
+        must(told == (DEEP if "1" in held else SHORT) and words == before, "refused, writing nothing", line, text)
+        return SweepSeen(n, places, numbers, frozenset(held), ())
+    must(words[many:] == before[many:], "later places", line, text)
+    answered = tuple(int(x or 0) for x in SWEEP_ANSWER.fullmatch(told).groups())
+    directions = [tuple(numbers[k : k + 3]) for k in range(0, len(numbers), 3)]
+    return SweepSeen(n, places, numbers, frozenset(), check_codes(n, directions, words[:many], answered))
+
+
+def check_refused_places(nos_seen, most):
+    """Each place of every count of directions is the only refused one, by 7 and by 8. All are refused. And the first
+    two that are refused are so by 7 and 8 in both orders."""
+    for many in range(1, most + 1):
+        for place, no in itertools.product(range(many), (7, 8)):
+            must(tuple(no * (k == place) for k in range(many)) in nos_seen, "one refused", many, place, no)
+        must(any(len(nos) == many and all(nos) for nos in nos_seen), "all refused", many)
+    orders = {tuple(no for no in nos if no)[:2] for nos in nos_seen}
+    must({(7, 7), (7, 8), (8, 7), (8, 8)} <= orders, "both orders")
+
+
+def check_sweeps(calls, answers):
+    """Every count of numbers with every count of places, each degree, and every refusal of the whole call, alone and
+    with each other one."""
+    lines = [(line, text) for line, text in zip(calls, answers) if SWEEP_LINE.match(line)]
+    seen = [seen_sweep(line, text) for line, text in lines if not text.startswith(UNREAD)]
+    met = {(len(x.numbers), x.places) for x in seen if x.n <= DEEPEST}
+    must(met == set(itertools.product(range(MOST_NUMBERS + 1), range(MOST_PLACES + 1))), "every count")
+    for n in range(DEEPEST + 1):
+        filed_there = {d for x in seen if x.n == n and not x.held for d in threes(x.numbers)}
+        must(filed_there >= set(some_directions()), "all of these at every degree", n)
+    must({x.held for x in seen} == {frozenset(x) for x in powers(("1", "length", "short"))}, "refused sweeps")
+    must({x.n for x in seen if "1" in x.held} >= set(ABOVE_ALL), "the degrees outside")
+    check_refused_places({x.nos for x in seen}, MOST_PLACES)
+
+
+def powers(some):
+    return itertools.chain.from_iterable(itertools.combinations(some, k) for k in range(len(some) + 1))
+
+
+def check_sweep_lines():
+    """The answers by hand. And lines that can not be read are all answered by the call's form."""
+    for line, text in SWEEP_EXAMPLES.items():
+        must(answer(line) == text, "by hand", line, text, answer(line))
+    for line in unreadable_sweeps():
+        must(answer(line) == "error: write it as sweep DEGREE PLACES [NUMBER]..", "unreadable", line)
+
+
 # ==== Document 02, 2026-01, "Plotter host in C": the answers
 
 # "It needs check, cross, file and list as calls exported to a C host, on plain numbers and byte slices." "cross writes
 # code and edge number (16 bytes), file the code (8), list the count and then its codes (56)". "Check comes for both
-# kinds of word." Document 01: "Checking a word, as the one kind or the other, answers only its refusal number."
-NEEDED = {"check-triangle": 0, "check-name": 0, "cross": 16, "file": 8, "list": 56}
+# kinds of word." Document 01: "Checking a word, as the one kind or the other, answers only its refusal number." The
+# sweep of 2026-04 writes, beside the codes, how many directions are refused and the first one's place and refusal (24).
+NEEDED = {"check-triangle": 0, "check-name": 0, "cross": 16, "file": 8, "list": 56, "sweep": 24}
 LONGEST = 64
+LONGEST_SWEEP = 384
 
 
 def host_check_triangle(word):
@@ -2788,20 +3172,41 @@ def host_check_name(word):
 
 def host_cross(code, edge):
     # Document 02, 2026-06: "All callers pass this on or drop it knowingly; the exported call drops it."
-    return code_refusals(code) | number_refusals(edge), lambda: neighbour(code, edge)
+    return code_refusals(code) | number_refusals(edge), lambda: [neighbour(code, edge)]
 
 
 def host_file(n, *d):
-    return direction_refusals(n, d), lambda: [min(holders(n, d))]
+    return direction_refusals(n, d), lambda: [[min(holders(n, d))]]
 
 
 def host_list(n, *d):
-    return direction_refusals(n, d), lambda: [len(holders(n, d)), *holders(n, d)]
+    return direction_refusals(n, d), lambda: [[len(holders(n, d)), *holders(n, d)]]
 
 
-def slice_refusals(call, lent):
+def whole_directions(data):
+    """Twelve bytes a direction: x, y and z, four bytes each, two's complement, most significant first; as far as they
+    are whole."""
+    return list(struct.iter_unpack(">3i", data[: len(data) // 12 * 12]))
+
+
+def host_sweep(n, data):
+    # Document 02, 2026-04: "9 if the input length isn't a multiple of 3" numbers of four bytes.
+    def numbers():
+        found = swept(n, whole_directions(data))
+        return [found.codes, [found.count, found.place, found.no]]
+
+    return degree_refusals(n) | when(9, len(data) % 12 != 0), numbers
+
+
+def least_lengths(call, arguments):
+    """How long each slice must be that is lent to the call, if any is."""
+    # Document 02, 2026-04: "or the code list is shorter than the number of directions".
+    return [8 * (len(arguments[1]) // 12), NEEDED[call]] if call == "sweep" else [NEEDED[call]]
+
+
+def slice_refusals(call, arguments, lent):
     # "a shorter slice is refusal 9". Document 01: "A longer list is allowed".
-    return when(9, len(lent) < NEEDED[call])
+    return when(9, any(len(x) < least for x, least in zip(lent, least_lengths(call, arguments))))
 
 
 def written_into(lent, numbers):
@@ -2819,6 +3224,7 @@ HOST_ANSWERS = {
     "cross CODE EDGE OUT": host_cross,
     "file DEGREE X Y Z OUT": host_file,
     "list DEGREE X Y Z OUT": host_list,
+    "sweep DEGREE BYTES CODES OUT": host_sweep,
 }
 HOST_FORMS = {form.split()[0]: (form.split()[1:], call) for form, call in HOST_ANSWERS.items()}
 
@@ -2830,7 +3236,23 @@ def read_decimal(text):
     return within(int(text), 0, 2**64 - 1)
 
 
+HEX_BYTES = re.compile("([0-9A-Fa-f]{2})+")
+
+
+def read_bytes(text):
+    # "two hexadecimal digits for each byte, at most 384 bytes, without anything between them; `empty` for a slice of no
+    # bytes; or `null`, a NULL pointer with length 0"
+    if text in ("empty", "null"):
+        return b""
+    if not HEX_BYTES.fullmatch(text):
+        raise Unreadable
+    within(len(text) // 2, 1, LONGEST_SWEEP)
+    return bytes.fromhex(text)
+
+
 HOST_READERS = {"WORD": read_hex, "CODE": read_hex, "EDGE": read_decimal, "DEGREE": read_decimal, **SIGNED}
+HOST_READERS["BYTES"] = read_bytes
+LENT = {"OUT": LONGEST, "CODES": LONGEST_SWEEP}  # "LENGTH 0 to 64", "LENGTH 0 to 384"
 
 
 @lru_cache(maxsize=None)
@@ -2840,22 +3262,29 @@ def lent_bytes(length, start):
     return bytes((start + at) % 256 for at in range(length))
 
 
-def read_out(words):
-    # "Or OUT is the single word `null`: the slice is a NULL pointer with length 0."
+def read_lent(kind, words):
+    # "Or OUT is the single word `null`: the slice is a NULL pointer with length 0." "CODES is a lent byte slice as OUT
+    # is".
     if words == ["null"]:
         return b""
     within(len(words), 2, 2)
     length, start = map(read_decimal, words)
-    # "LENGTH 0 to 64 and FIRST 0 to 255"
-    return lent_bytes(within(length, 0, LONGEST), within(start, 0, 255))
+    return lent_bytes(within(length, 0, LENT[kind]), within(start, 0, 255))
 
 
 def read_host_arguments(kinds, words):
-    """The arguments, and the slice before the call."""
-    plain = [kind for kind in kinds if kind != "OUT"]
-    within(len(words), len(plain), len(plain) + 2 * (len(kinds) - len(plain)))
-    arguments = [HOST_READERS[kind](x) for kind, x in zip(plain, words)]
-    return arguments, b"" if plain == kinds else read_out(words[len(plain) :])
+    """The arguments, and the lent slices before the call."""
+    arguments, lent = [], []
+    for kind in kinds:
+        many = 2 if kind in LENT and words[:1] != ["null"] else 1
+        taken, words = words[:many], words[many:]
+        within(len(taken), many, many)
+        if kind in LENT:
+            lent.append(read_lent(kind, taken))
+        else:
+            arguments.append(HOST_READERS[kind](*taken))
+    within(len(words), 0, 0)
+    return arguments, lent
 
 
 Asked = namedtuple("Asked", "call arguments lent refusals numbers")
@@ -2869,17 +3298,18 @@ def read_host_line(line):
     except (KeyError, Unreadable):
         raise Unreadable(line) from None
     refusals, numbers = asked(*arguments)
-    return Asked(call, arguments, lent, refusals | slice_refusals(call, lent), numbers)
+    return Asked(call, arguments, lent, refusals | slice_refusals(call, arguments, lent), numbers)
 
 
 def host_text(asked):
     # "Each call returns its refusal number." Document 01: "Every refusal returns only its number and zeros; lent memory
     # keeps its contents."
     no = first(asked.refusals)
-    lent = asked.lent if no else written_into(asked.lent, asked.numbers())
-    # "a space follows and then all LENGTH bytes of the slice as they are after the call, two lower case hexadecimal
-    # digits each". "For `null` and for LENGTH 0 nothing follows."
-    return f"{no} {lent.hex()}" if lent else str(no)
+    lent = asked.lent if no else map(written_into, asked.lent, asked.numbers())
+    # "For each lent slice of at least one byte, CODES and then OUT, a space follows and then all LENGTH bytes of the
+    # slice as they are after the call, two lower case hexadecimal digits each". "For `null` and for LENGTH 0 nothing
+    # follows."
+    return str(no) + "".join(" " + x.hex() for x in lent if x)
 
 
 def host_answer(line):
@@ -2889,15 +3319,20 @@ def host_answer(line):
 # ==== The plotter host's calls: examples, with the answers written out by hand
 
 
-def answered_bytes(no, text):
-    return f"{no} {text.replace(' ', '')}"
+def answered_bytes(no, *slices):
+    return " ".join([str(no), *(x.replace(" ", "") for x in slices)])
 
 
+# The directions of E3, E6 and E7, and (0, 0, 0), in bytes; and a slice of 24 bytes from 0.
+E3, E6, E7 = "000000000000000000000001", "000000010000000000000000", "0000000000000000ffffffff"
+NOWHERE = "000000000000000000000000"
+COUNTED = "00 01 02 03 04 05 06 07 08 09 0a 0b 0c 0d 0e 0f 10 11 12 13 14 15 16 17"
 HOST_EXAMPLES = {
     # "For example, `file 2 0 0 1 10 200` is answered by `0 208c000000000000d0d1`, and `file 2 0 0 1 7 200` by
-    # `9 c8c9cacbcccdce`."
+    # `9 c8c9cacbcccdce`; `sweep 2 000000000000000000000001 9 0 24 0` by" the line below.
     "file 2 0 0 1 10 200": "0 208c000000000000d0d1",
     "file 2 0 0 1 7 200": "9 c8c9cacbcccdce",
+    "sweep 2 000000000000000000000001 9 0 24 0": f"0 208c00000000000008 {'00' * 24}",
     # E3: "10003, word 0x208C000000000000"; E4 to E7: 200000, 410000, 11102, 21003.
     "file 2 0 0 1 8 0": answered_bytes(0, "20 8c 00 00 00 00 00 00"),
     "file 3 1 1 1 8 1": answered_bytes(0, "40 c0 00 00 00 00 00 00"),
@@ -2947,6 +3382,52 @@ HOST_EXAMPLES = {
     # "The word 0 is neither."
     "check-triangle 0x0": "2",
     "check-name 0x0": "2",
+    # Document 02, 2026-04: "A refused direction writes 0 in its own place and the sweep goes on". One is refused, in
+    # place 1, with 7. The rest stays: 24 bytes after 255 comes 23, 0x17, and after 1 comes 25, 0x19.
+    f"sweep 2 {E3}{NOWHERE}{E6} 25 255 26 1": answered_bytes(
+        0,
+        "20 8c 00 00 00 00 00 00 00 00 00 00 00 00 00 00 38 88 00 00 00 00 00 00 17",
+        "00 00 00 00 00 00 00 01 00 00 00 00 00 00 00 01 00 00 00 00 00 00 00 07 19 1a",
+    ),
+    # E7 and E3; E4 and E5.
+    f"sweep 2 {E7}{E3} 16 3 24 4": answered_bytes(0, "50 8c 00 00 00 00 00 00 20 8c 00 00 00 00 00 00", "00" * 24),
+    f"sweep 3 {'00000001' * 3}{'ffffffff' * 3} 16 3 24 4": answered_bytes(
+        0, "40 c0 00 00 00 00 00 00 90 c0 00 00 00 00 00 00", "00" * 24
+    ),
+    # The bounds on the third axis: 10^9, 10^9 + 1; -10^9 - 1, -10^9; and -2^31, 2^31 - 1.
+    f"sweep 2 {'3b9aca00':0>24}{'3b9aca01':0>24} 16 0 24 0": answered_bytes(
+        0,
+        "20 8c 00 00 00 00 00 00 00 00 00 00 00 00 00 00",
+        "00 00 00 00 00 00 00 01 00 00 00 00 00 00 00 01 00 00 00 00 00 00 00 08",
+    ),
+    f"sweep 2 {'c46535ff':0>24}{'c4653600':0>24} 16 0 24 0": answered_bytes(
+        0,
+        "00 00 00 00 00 00 00 00 50 8c 00 00 00 00 00 00",
+        "00 00 00 00 00 00 00 01 00 00 00 00 00 00 00 00 00 00 00 00 00 00 00 08",
+    ),
+    f"sweep 0 {E3}{'80000000':0>24}{NOWHERE}{'7fffffff':0>24} 32 0 24 0": answered_bytes(
+        0,
+        "20 00 00 00 00 00 00 00 00 00 00 00 00 00 00 00 00 00 00 00 00 00 00 00 00 00 00 00 00 00 00 00",
+        "00 00 00 00 00 00 00 03 00 00 00 00 00 00 00 01 00 00 00 00 00 00 00 08",
+    ),
+    # "An empty sweep is answered with no refused directions."
+    "sweep 2 empty null 24 5": answered_bytes(0, "00" * 24),
+    "sweep 2 null 0 7 25 5": answered_bytes(0, "00" * 24 + "1d"),
+    "sweep 2 null 3 250 24 5": answered_bytes(0, "fa fb fc", "00" * 24),
+    # One byte less than is needed, in each of the three slices; and none.
+    f"sweep 2 {E3[:-2]} 8 200 24 0": answered_bytes(9, "c8 c9 ca cb cc cd ce cf", COUNTED),
+    f"sweep 2 {E3} 7 200 24 0": answered_bytes(9, "c8 c9 ca cb cc cd ce", COUNTED),
+    f"sweep 2 {E3} 8 200 23 0": answered_bytes(9, "c8 c9 ca cb cc cd ce cf", COUNTED[:-3]),
+    f"sweep 2 {E3}{E6} 15 250 24 0": answered_bytes(9, "fa fb fc fd fe ff 00 01 02 03 04 05 06 07 08", COUNTED),
+    f"sweep 2 {E3} null 24 0": answered_bytes(9, COUNTED),
+    f"sweep 2 {E3} 8 200 null": answered_bytes(9, "c8 c9 ca cb cc cd ce cf"),
+    "sweep 2 empty null null": "9",
+    "sweep 2 00 0 0 0 0": "9",
+    # "refusal 1 for a degree above 24, then 9"
+    "sweep 25 00 null null": "1",
+    f"sweep 25 {NOWHERE} 8 200 24 0": answered_bytes(1, "c8 c9 ca cb cc cd ce cf", COUNTED),
+    f"sweep 4294967298 {E3} 8 200 24 0": answered_bytes(1, "c8 c9 ca cb cc cd ce cf", COUNTED),
+    "sweep 18446744073709551615 null null 24 0": answered_bytes(1, COUNTED),
 }
 
 
@@ -3101,7 +3582,6 @@ def outside_edges():
 
 OUTSIDE_DEGREES = [25, 26, 31, 32, 33, 255, 256, 258, 2**16 + 1, 2**31, 2**32, 2**32 + 2, 2**32 + 24]
 OUTSIDE_DEGREES += [2**63, 2**63 + 1, MOST - 1, MOST]
-LEAST_SIGNED, MOST_SIGNED = -(2**31), 2**31 - 1
 
 
 def direction_pair(chance, n, d, lend=some_out):
@@ -3203,6 +3683,114 @@ def every_first():
             yield from (f"list {n} {d} {length} {start}" for length in (55, 56, 64))
 
 
+# ==== The plotter host's calls: sweeps
+
+
+def packed(directions):
+    return b"".join(struct.pack(">3i", *d) for d in directions)
+
+
+def bytes_text(chance, data):
+    """As hexadecimal digits, at times upper case ones; or if there are none one of the two words."""
+    digits = chance.choice([data.hex()] * 7 + [data.hex().upper()])
+    return digits or chance.choice(["empty", "null"])
+
+
+def host_sweep_line(chance, n, data, codes=None, lent=None):
+    """With just as many bytes for the codes as are needed, or more, and likewise for the answer, if not given."""
+    need = 8 * (len(data) // 12)
+    codes = out(chance, chance.choice([need, need, chance.randint(need, LONGEST_SWEEP)])) if codes is None else codes
+    lent = out(chance, chance.choice([24, 24, chance.randint(24, LONGEST)])) if lent is None else lent
+    return f"sweep {n} {bytes_text(chance, data)} {codes} {lent}"
+
+
+def tight_codes(chance, data):
+    """The least length for the codes, the ones beside it, one code less and one more, the ends, and none."""
+    need = 8 * (len(data) // 12)
+    lengths = {0, need - 8, need - 1, need, need + 1, need + 8, LONGEST_SWEEP}
+    return [out(chance, length) for length in sorted(lengths) if length >= 0] + ["null"]
+
+
+HOST_SWEPT = [*range(61), *range(361, 385)]  # These lengths of BYTES are called for.
+
+
+def host_sweep_lengths():
+    chance = random.Random(51)
+    for length in HOST_SWEPT:
+        data = packed(some_kinds(chance, 32))[:length]
+        for codes in tight_codes(chance, data):
+            n = chance.choice([2, 24, chance.randint(0, DEEPEST)])
+            yield host_sweep_line(chance, n, data, codes)
+            short = chance.choice([out(chance, 23), out(chance, chance.randrange(24)), "null"])
+            yield host_sweep_line(chance, chance.choice([n, n, n, 25]), data, codes, short)
+
+
+def host_sweep_slices():
+    """OUT of every length; and CODES of every length to 64, and of those about what 32 directions need."""
+    chance = random.Random(52)
+    three, whole = packed(of_kinds(chance, [0, 0, 0])), packed(some_kinds(chance, 32))
+    two_refused, none = packed(of_kinds(chance, [0, 8, 7])), b""
+    lent = [out(chance, length) for length in range(LONGEST + 1)] + ["null"]
+    for x in lent:
+        yield from (host_sweep_line(chance, 5, data, None, x) for data in (three, two_refused, none, three[:-1]))
+        yield host_sweep_line(chance, 5, three, out(chance, 23), x)
+        yield host_sweep_line(chance, 25, three, None, x)
+    for x in lent:
+        yield from (host_sweep_line(chance, n, data, x) for n, data in ((24, three), (0, two_refused)))
+    for length in [*range(247, 266), *range(380, 385)]:
+        yield host_sweep_line(chance, 11, whole, out(chance, length))
+
+
+def host_sweep_degrees():
+    """All of some 300 directions at each degree, in sweeps of any length; then filed and refused ones."""
+    chance = random.Random(53)
+    for n in range(DEEPEST + 1):
+        left = chance.sample(some_directions(), len(some_directions()))
+        while left:
+            many = chance.choice([32, 32, chance.randint(16, 32)])
+            yield host_sweep_line(chance, n, packed(left[:many]))
+            left = left[many:]
+        yield host_sweep_line(chance, n, packed(some_kinds(chance, 32)))
+
+
+def host_sweep_places():
+    """One refused direction in each place of every count to 16, and of 32; all of them; and at the bounds."""
+    chance = random.Random(54)
+    for many in range(1, 33):
+        for place in range(many if many <= 16 or many == 32 else 0):
+            for no in (7, 8):
+                data = packed(of_kinds(chance, [no * (k == place) for k in range(many)]))
+                yield host_sweep_line(chance, chance.randint(0, DEEPEST), data)
+        for two in ((7, 8), (8, 7)):
+            yield host_sweep_line(chance, chance.randint(0, DEEPEST), packed(of_kinds(chance, (two * 16)[:many])))
+    every = list(itertools.product(SWEPT_BOUNDS, repeat=3))
+    for n in (0, 24):
+        chance.shuffle(every)
+        yield from (host_sweep_line(chance, n, packed(every[k : k + 32])) for k in range(0, len(every), 32))
+
+
+def host_sweep_refusals():
+    """The degrees outside, with good and bad lengths of each slice."""
+    chance = random.Random(55)
+    for n in OUTSIDE_DEGREES:
+        for length in (0, 11, 12, 24, 384):
+            data = packed(some_kinds(chance, 32))[:length]
+            yield host_sweep_line(chance, n, data)
+            for codes, lent in chance.sample(list(itertools.product(("null", "7 0"), ("null", "23 9", "24 5"))), 3):
+                yield host_sweep_line(chance, n, data, codes, lent)
+    for _ in range(60):
+        data = packed(some_kinds(chance, 32))[: chance.choice([0, 12, 12, 13, 36, 47])]
+        codes, lent = chance.choice(tight_codes(chance, data)), chance.choice([None, "null", "23 9", "24 5"])
+        yield host_sweep_line(chance, chance.choice([6, 24, 25]), data, codes, lent)
+
+
+def host_sweep_first():
+    """Slices filled in each of the 256 ways, answered and refused."""
+    for start in range(256):
+        yield f"sweep 2 {E3}{NOWHERE} 18 {start} 26 {255 - start}"
+        yield f"sweep 2 {E3}{E7} 15 {start} 26 {255 - start}"
+
+
 # ==== Internal checks of the plotter host's answers
 
 # The rows of document 01's table that each call can give, and 02's 9. 1 to 4 are a word's, 10 a corner name's; 5 takes
@@ -3214,6 +3802,7 @@ HOST_NUMBERS = {
     "cross": {1, 2, 3, 4, 5, 9},
     "file": {1, 7, 8, 9},
     "list": {1, 7, 8, 9},
+    "sweep": {1, 9},  # 8 and 7 are told in its answer
 }
 
 
@@ -3274,12 +3863,13 @@ BYTE_CHECKS = {"cross": check_cross_bytes, "file": check_file_bytes, "list": che
 
 def check_host_bytes(records):
     """Each slice after its call: what was answered, and then, or when refused, the bytes that were there before."""
-    for asked, text in records:
+    for asked, text in (x for x in records if x[0].call != "sweep"):
         no, after_call = (text + " ").split(" ")[:2]
-        must(no == str(int(no)) and len(after_call) == 2 * len(asked.lent), "all LENGTH bytes", asked, text)
+        before = b"".join(asked.lent).hex()
+        must(no == str(int(no)) and len(after_call) == len(before), "all LENGTH bytes", asked, text)
         many = BYTE_CHECKS[asked.call](asked.arguments, after_call) if no == "0" and NEEDED[asked.call] else 0
         must(many <= NEEDED[asked.call], "no more bytes than needed", asked, text)
-        must(after_call[2 * many :] == asked.lent.hex()[2 * many :], "the others stay as they were", asked, text)
+        must(after_call[2 * many :] == before[2 * many :], "the others stay as they were", asked, text)
 
 
 def host_found(records):
@@ -3325,7 +3915,7 @@ def check_host_lengths(calls, records):
     for line, (asked, text) in zip(calls, records):
         kind = (asked.call, int(text.split(" ")[0]))
         kind += tuple(numbers_in(text[2:18])) if kind == ("list", 0) else ()
-        found.setdefault(kind, set()).add("null" if line.endswith(" null") else len(asked.lent))
+        found.setdefault(kind, set()).add("null" if line.endswith(" null") else len(b"".join(asked.lent)))
     every = {"null", *range(LONGEST + 1)}
     for call in BYTE_CHECKS:
         enough = set(range(NEEDED[call], LONGEST + 1))
@@ -3340,7 +3930,7 @@ def check_host_degrees(records):
     side to side, and within one."""
     found = set()
     for asked, text in records:
-        n = asked.arguments[0] if asked.call in ("file", "list") else degree_of(asked.arguments[0])
+        n = asked.arguments[0] if asked.call in ("file", "list", "sweep") else degree_of(asked.arguments[0])
         found.add((asked.call, n, text.split(" ")[0]))
         if asked.call == "cross" and text.startswith("0 "):
             found.add((n, side_of(asked.arguments[0]) == side_of(numbers_in(text[2:18])[0])))
@@ -3362,8 +3952,59 @@ def check_host_whole(records):
     refused_as = {(call, values[-1] if call == "cross" else values[0], no) for call, *values, no in given}
     must(refused_as >= {("cross", edge, "5") for edge in OUTSIDE_EDGES}, "the edges outside")
     must(refused_as >= {(call, n, "1") for call in ("file", "list") for n in OUTSIDE_DEGREES}, "the degrees outside")
-    filled_with = {(asked.call, text[0] == "0", asked.lent[0]) for asked, text in records if asked.lent}
-    must(len(filled_with) == len(BYTE_CHECKS) * 2 * 256, "answered and refused, filled in each way")
+    filled_with = {(x.call, text[0] == "0", k, one[0]) for x, text in records for k, one in enumerate(x.lent) if one}
+    must(len(filled_with) == (len(BYTE_CHECKS) + 2) * 2 * 256, "answered and refused, filled in each way")
+
+
+HostSwept = namedtuple("HostSwept", "n data codes out held nos")
+
+
+def directions_of(data):
+    """Each number from its four bytes, one by one."""
+    bits = [int.from_bytes(data[k : k + 4], "big") for k in range(0, len(data), 4)]
+    numbers = [x - 2**32 if x >= 2**31 else x for x in bits]
+    return [tuple(numbers[k : k + 3]) for k in range(0, len(numbers), 3)]
+
+
+def seen_host_sweep(asked, text):
+    """Its answer, or else its refusal, and both slices after the call."""
+    (n, data), (codes, lent) = asked.arguments, asked.lent
+    no, *slices = text.split(" ")
+    must(len(slices) == bool(codes) + bool(lent), "each slice of at least one byte", asked, text)
+    codes_after, lent_after = slices[0] if codes else "", slices[-1] if lent else ""
+    many, left_over = divmod(len(data), 12)
+    wrong = (("1", n > 24), ("bytes", left_over), ("codes", len(codes) < 8 * many), ("out", len(lent) < 24))
+    held = frozenset(what for what, true in wrong if true)
+    if held:
+        must(no == ("1" if "1" in held else "9"), "refused", asked, text)
+        must((codes_after, lent_after) == (codes.hex(), lent.hex()), "nothing is changed", asked, text)
+        return HostSwept(n, data, len(codes), len(lent), held, ())
+    must(no == "0" and len(codes_after) == 2 * len(codes), "answered", asked, text)
+    must(codes_after[16 * many :] == codes.hex()[16 * many :], "later bytes of the codes", asked, text)
+    must(lent_after[48:] == lent.hex()[48:], "later bytes of the answer", asked, text)
+    nos = check_codes(n, directions_of(data), numbers_in(codes_after[: 16 * many]), numbers_in(lent_after[:48]))
+    return HostSwept(n, data, len(codes), len(lent), held, nos)
+
+
+def check_host_sweeps(calls, records):
+    """Every length of BYTES that is called for, with CODES of just enough bytes, one less and one more, and none; OUT
+    of every length; each refusal alone and with each other one; refused directions in every place; each degree."""
+    lines = [(line, x) for line, x in zip(calls, records) if x[0].call == "sweep"]
+    seen = [seen_host_sweep(*x) for _, x in lines]
+    met = {(len(x.data), x.codes - 8 * (len(x.data) // 12)) for x in seen if x.held <= {"bytes", "codes"}}
+    for length in HOST_SWEPT:
+        need = 8 * (length // 12)
+        must(all((length, x) in met for x in (-need, -1 if need else 0, 0, 1)), "about what is needed", length)
+    must({x.out for x in seen if x.held <= {"out"}} == set(range(LONGEST + 1)), "OUT of every length")
+    given = [(line.split(" ")[2], line.split(" ")[3], line.split(" ")[-1]) for line, _ in lines]
+    must({"empty", "null"} <= {data for data, _, _ in given}, "BYTES of both kinds of none")
+    must("null" in {codes for _, codes, _ in given} & {lent for _, _, lent in given}, "CODES and OUT of none")
+    must({x.held for x in seen} == {frozenset(x) for x in powers(("1", "bytes", "codes", "out"))}, "refused sweeps")
+    must({x.n for x in seen if "1" in x.held} == set(OUTSIDE_DEGREES), "the degrees outside")
+    for n in range(DEEPEST + 1):
+        filed_there = {d for x in seen if x.n == n and not x.held for d in directions_of(x.data)}
+        must(filed_there >= set(some_directions()), "all of these at every degree", n)
+    check_refused_places({x.nos for x in seen}, 16)
 
 
 def check_host_examples():
@@ -3378,6 +4019,368 @@ def check_host_answers(calls, records):
     check_host_lengths(calls, records)
     check_host_degrees(records)
     check_host_whole(records)
+    check_host_sweeps(calls, records)
+
+
+# ==== The program ./sweep: docs/SWEEP.md, "Filing a file of directions"
+
+# Arguments are a list. Texts, and the bytes of the input, have a character for each byte.
+Case = namedtuple("Case", "arguments data")
+Ran = namedtuple("Ran", "out err status")
+LONGEST_LINE = 1000
+
+
+def read_sweep_arguments(arguments):
+    """Whether the input is packed, and the degree."""
+    # "./sweep DEGREE" or "./sweep --packed DEGREE". "DEGREE is a number below 2^64: decimal digits, or 0x and 1 to 16
+    # hexadecimal digits."
+    is_packed = arguments[:1] == ["--packed"]
+    within(len(arguments), 1 + is_packed, 1 + is_packed)
+    return is_packed, read_number(arguments[-1])
+
+
+def read_direction(line):
+    """The line's direction, or None where it is not read."""
+    # "Any other line is not read: one with fewer or more than three words, an empty one, one with a word that is no
+    # such number, and one of more than 1000 bytes (without its line end)."
+    words = parts_of(line)
+    if len(line) > LONGEST_LINE or len(words) != 3:
+        return None
+    try:
+        return tuple(map(read_signed, words))
+    except Unreadable:
+        return None
+
+
+def text_directions(data):
+    # "The last line may lack its line end."
+    lines = data.split("\n")
+    return [read_direction(line) for line in (lines if lines[-1] else lines[:-1])]
+
+
+def packed_directions(data):
+    # "Where the input ends within a direction, after 1 to 11 bytes of it, that last one is not read."
+    return whole_directions(data.encode("latin-1")) + [None] * (len(data) % 12 != 0)
+
+
+def result_text(result):
+    if result is None:
+        return "not read"
+    no, code = result
+    return f"refused {no}" if no else word_text(code)
+
+
+def summary(count, refused_at, unread):
+    # "It is `direction` after 1, and `directions` after any other number; the refusals have document 01's words".
+    text = f"sweep: {count} direction{'' if count == 1 else 's'}, {len(refused_at)} refused"
+    if refused_at:
+        place, no = refused_at[0]
+        text += f", the first at place {place} with {no}: {REFUSALS[no]}"
+    return text + (f"; {len(unread)} not read, the first at place {unread[0]}" if unread else "")
+
+
+def file_all(n, directions):
+    results = [None if d is None else filed(n, d) for d in directions]
+    refused_at = [(place, x[0]) for place, x in enumerate(results) if x is not None and x[0]]
+    unread = [place for place, x in enumerate(results) if x is None]
+    # "Where some are refused and some not read it is 2."
+    status = 2 if unread else 1 if refused_at else 0
+    written_out = "".join(result_text(x) + "\n" for x in results)
+    return Ran(written_out, summary(len(results), refused_at, unread) + "\n", status)
+
+
+def run_sweep(case):
+    try:
+        is_packed, n = read_sweep_arguments(case.arguments)
+    except Unreadable:
+        return Ran("", "sweep: write it as ./sweep [--packed] DEGREE\n", 2)
+    # "A degree above 24 is refusal 1 of the whole sweep": "nothing is then read or written".
+    if degree_refusals(n):
+        return Ran("", f"sweep: {refused(1)}\n", 1)
+    return file_all(n, packed_directions(case.data) if is_packed else text_directions(case.data))
+
+
+# ==== The cases of ./sweep: examples, with what is written by hand
+
+UP, EAST = "0x208C000000000000\n", "0x3888000000000000\n"  # E3 and E6
+PAGE_CASES = {
+    "page": (
+        Case(["2"], "0 0 1\n0 0 0\n1 0 0\n1 0\n0 0 1000000001\n"),
+        Ran(
+            UP + "refused 7\n" + EAST + "not read\nrefused 8\n",
+            "sweep: 5 directions, 2 refused, the first at place 1 with 7: the direction is (0, 0, 0); 1 not read, the "
+            "first at place 3\n",
+            2,
+        ),
+    ),
+    "page-three": (
+        Case(["2"], "0 0 1\n1 0 0\n0 0 1000000000\n"),
+        Ran(UP + EAST + UP, "sweep: 3 directions, 0 refused\n", 0),
+    ),
+    "page-one": (
+        Case(["--packed", "2"], "\0\0\0\0\0\0\0\0\x80\0\0\0"),
+        Ran(
+            "refused 8\n",
+            "sweep: 1 direction, 1 refused, the first at place 0 with 8: a direction coordinate lies outside "
+            "-1,000,000,000 to 1,000,000,000\n",
+            1,
+        ),
+    ),
+    "page-two": (
+        Case(["--packed", "2"], "\0\0\0\1\0\0\0\0\0\0\0\0\0\0\0"),
+        Ran(EAST + "not read\n", "sweep: 2 directions, 0 refused; 1 not read, the first at place 1\n", 2),
+    ),
+    "empty": (Case(["7"], ""), Ran("", "sweep: 0 directions, 0 refused\n", 0)),
+    "empty-packed": (Case(["--packed", "7"], ""), Ran("", "sweep: 0 directions, 0 refused\n", 0)),
+    "line-end-alone": (
+        Case(["7"], "\n"),
+        Ran("not read\n", "sweep: 1 direction, 0 refused; 1 not read, the first at place 0\n", 2),
+    ),
+    "degree-25": (Case(["25"], "0 0 1\n"), Ran("", f"sweep: {DEEP}\n", 1)),
+    "arguments-none": (Case([], "0 0 1\n"), Ran("", "sweep: write it as ./sweep [--packed] DEGREE\n", 2)),
+}
+
+
+# ==== The cases of ./sweep: lines that are not read, and lines that are
+
+
+def line_of(d):
+    return " ".join(map(str, d)) + "\n"
+
+
+def lines_of(directions):
+    return "".join(map(line_of, directions))
+
+
+def any_number(chance, x):
+    """With leading zeros, or a 0 with a sign."""
+    zeros_before = "0" * chance.choice([0, 0, 0, 1, 2, 20])
+    return chance.choice(["-", ""] if x == 0 else ["-"] if x < 0 else [""]) + zeros_before + str(abs(x))
+
+
+def any_line(chance, d):
+    """In any way that is read."""
+    between = [chance.choice([" ", "\t", "\r", "  ", " \t\r "]) for _ in range(2)]
+    before, after_it = (chance.choice(["", "", " ", "\t", "\r", "   "]) for _ in range(2))
+    x, y, z = (any_number(chance, k) for k in d)
+    return before + x + between[0] + y + between[1] + z + after_it + "\n"
+
+
+# Between a line and the next one there is a semicolon.
+UNREAD_LINES = """
+    1; 1 2; 1 2 3 4; 1 2 3 4 5; 1 2 3 4 5 6; 1 2 3 #; # 1 2 3; # note; #; 1,2,3; 1, 2, 3; (1 2 3); 1 2 3,; x; x y z
+    X Y Z; file 2 0 0 1; sweep 2 1 0 0 1; 0x208C000000000000; refused 7; not read; 1 2 - 3; - 1 2; 1 2 -; - - -; -; +
+    + 1 2; 1 + 2; +1 2 3; 1 +2 3; 1 2 +3; --1 2 3; 1 --2 3; 1 2 --3; -+1 2 3; +-1 2 3; 1- 2 3; 1 2- 3; 1 2 3-; 1-2 3 4
+    2147483648 0 0; 0 2147483648 0; 0 0 2147483648; -2147483649 0 0; 0 -2147483649 0; 0 0 -2147483649; 4294967296 0 1
+    0 4294967297 0; 0 0 -4294967295; 18446744073709551616 0 1; 18446744073709551617 0 0; 0 -18446744073709551617 0
+    340282366920938463463374607431768211457 0 0; 99999999999999999999999999999999999999999999999999 0 0
+    0000000002147483648 0 0; 0 -00000000002147483649 0; 0x1 0 0; 0 0x0 1; 0 0 0x1; 0X1 0 0; 1h 0 0; 1.0 0 0; 0 1. 0
+    0 0 .5; 1e3 0 0; 0 1e0 0; 1_0 0 0; 1'000 0 0; 0 0 1,000; 0 0 −1; ٣ 0 0; 0 0 １; 0 0 1\u00a0; 0\u00a00 1 2
+    \u2003 0 0 1; \ufeff0 0 1; 0 0 φ; 1 2 3 é; NaN 0 0; inf 0 0; "0" 0 1; 0 0 1 .; --packed; -1 -2; -1 -2 -3 -4
+"""
+UNREAD_BYTES = ["\0", "0 0 1\0", "\0000 0 1", "0 0\0 1", "0 \0 1", "0 0 1 \0", "0\0000 1", "0 0\x0b1", "0\x0c0 1"]
+UNREAD_BYTES += ["0 0 1\x1a", "\x7f0 0 1", "\xff", "\xff\xfe0 0 1", "0 0 1\x80", "\x800 0 1", "0 0 \xb9", "0\xa00 1"]
+UNREAD_BYTES += ["\x0b", "\x0c0 0 1", "0 0 1\x0b", "0 0 1\x85", "\xc3", "0 0 1 \x1b[0m", "\0" * 12, "0 0 1\x1c", "\x1f"]
+BLANK_LINES = ["", " ", "\t", "\r", "   ", " \t\r ", "\r\r", " " * 999, " " * 1000, " " * 1001, "\t" * 5000, ""]
+READ_LINES = ["0 0 1", "0\t0\t1", "0\r0\r1", " 0 0 1", "0 0 1 ", "  0   0\t \r1\t\t", "0 0 1\r", "\r0 0 1", "\t\t0 0 1"]
+READ_LINES += ["-0 0 1", "-0 -0 -0", "00 000 0001", "-00 0 -0001", "0 0 -1", "1 1 1", "-1 -1 -1", "1 0 0", "-5 07 -009"]
+READ_LINES += ["1000000000 0 0", "0 -1000000000 0", "0 0 01000000000", "1000000001 0 0", "0 -1000000001 0", "0 0 0"]
+READ_LINES += ["2147483647 0 0", "-2147483648 0 0", "0 2147483647 0", "0 -2147483648 0", "0 0 2147483647"]
+READ_LINES += ["0 0 -2147483648", "-0000000002147483648 1 1", "00000000002147483647 1 1"]
+READ_LINES += ["0 0 " + "0" * 300 + "1", "-" + "0" * 900 + "7 -5 3", "0" * 500 + " -" + "0" * 490 + " 1"]
+
+
+def unread_lines():
+    """Lines that are not read, for one reason each."""
+    return written(UNREAD_LINES) + UNREAD_BYTES
+
+
+def with_good_lines(chance, lines):
+    """Each of the lines, and after it one that is filed."""
+    return "".join(line + "\n" + line_of(chance.choice(some_directions())) for line in lines)
+
+
+def long_line_forms(length):
+    """Lines of the length: three words among spaces; one number with many zeros; too many words; and no words."""
+    yield filled("0 0 1", length)
+    yield " " * (length - 5) + "1 0 0"
+    yield "0 0 " + "0" * (length - 5) + "1"
+    yield "-" + "0" * (length - 6) + "7 0 1"
+    yield filled("0", length - 4, "\t") + "\r0 1"
+    yield filled("", length, "0 0 1 ")[:length]
+    yield "x" * length
+
+
+def long_lines_data(chance):
+    few, many = [998, 999, 1000, 1001, 1002, 1023, 1024, 1025], [2000, 4095, 4096, 4097, 8192, 65_536, 100_003]
+    lines = [line for length in few for line in long_line_forms(length)]
+    lines += [line for length in many for line in list(long_line_forms(length))[length % 3 :: 3]]
+    # A carriage return is a byte of its line.
+    lines += [filled("0 0 1", 999) + "\r", filled("0 0 1", 1000) + "\r"]
+    return with_good_lines(chance, lines)
+
+
+def line_cases(chance):
+    some = some_directions()
+    yield "unread-lines", Case(["3"], with_good_lines(chance, unread_lines()))
+    yield "blank-lines", Case(["11"], with_good_lines(chance, BLANK_LINES))
+    yield "read-lines", Case(["2"], "".join(line + "\n" for line in READ_LINES))
+    yield "read-any-way", Case(["9"], "".join(any_line(chance, d) for d in some))
+    yield "line-ends-of-two-bytes", Case(["6"], lines_of(some[:50]).replace("\n", "\r\n"))
+    yield "long-lines", Case(["2"], long_lines_data(chance))
+    for name, last in {"read": "0 0 1", "unread": "0 0", "blank": "\r"}.items():
+        yield f"last-{name}", Case(["2"], lines_of(some[7:10]) + last)
+    for length in (1000, 1001, 70_000):
+        yield f"last-of-{length}", Case(["2"], lines_of(some[20:22]) + filled("1 0 0", length))
+
+
+# ==== The cases of ./sweep: packed directions, refused ones, degrees and arguments
+
+
+def packed_text(directions):
+    return packed(directions).decode("latin-1")
+
+
+def packed_cases(chance):
+    some = chance.sample(some_directions(), 100)
+    yield "packed", Case(["--packed", "4"], packed_text(some))
+    for left_over in range(1, 12):
+        data = packed_text(some[:left_over])
+        yield f"packed-left-{left_over}", Case(["--packed", "8"], data[: 12 * (left_over - 1) + left_over])
+    # Four times the same byte: line ends, spaces and others that mean something in a text.
+    signs = [int.from_bytes(sign * 4, "big", signed=True) for sign in (b"\n", b"\r", b" ", b"\t", b"0", b"-", b"\xff")]
+    yield "packed-signs", Case(["--packed", "5"], packed_text(itertools.product(signs, repeat=3)))
+
+
+def refused_cases(chance):
+    every = list(itertools.product(SWEPT_BOUNDS, repeat=3))
+    chance.shuffle(every)
+    yield "bounds", Case(["24"], lines_of(every))
+    yield "bounds-packed", Case(["--packed", "24"], packed_text(every))
+    for name, nos in {"first": [7, 0, 0, 0], "middle": [0, 0, 8, 0], "7-before-8": [0, 7, 0, 8]}.items():
+        yield f"refused-{name}", Case(["13"], lines_of(of_kinds(chance, nos)))
+    for name, nos in {"last": [0, 0, 0, 7], "8-before-7": [8, 7, 0]}.items():
+        yield f"refused-{name}-packed", Case(["--packed", "13"], packed_text(of_kinds(chance, nos)))
+    one, other = (lines_of(of_kinds(chance, nos)) for nos in ([0, 8, 0], [7, 0]))
+    yield "refused-then-unread", Case(["1"], one + "0 0\n" + other)
+    yield "unread-then-refused", Case(["1"], "x\n" + one + "0 0 1 x\n" + other + "\n")
+
+
+def argument_cases(chance):
+    some = chance.sample(some_directions(), 40)
+    for degree in ("0", "24", "0x10", "024", "18446744073709551615", "18446744073709551616", "-1", "0x"):
+        yield f"degree-{degree}", Case([degree], lines_of(some))
+    yield "degree-25-packed", Case(["--packed", "0x19"], packed_text(some))
+    wrong = {"two": ["2", "3"], "unknown": ["--text", "2"], "packed-alone": ["--packed"], "empty": [""]}
+    wrong |= {"packed-last": ["2", "--packed"], "packed-two": ["--packed", "2", "3"]}
+    for name, arguments in wrong.items():
+        yield f"arguments-{name}", Case(arguments, lines_of(some))
+
+
+# ==== The cases of ./sweep: many directions
+
+
+def every_97th(directions, others):
+    """Each 97th one is replaced by the next of the others."""
+    return [next(others) if place % 97 == 96 else x for place, x in enumerate(directions)]
+
+
+def many_cases(chance):
+    some = some_directions()
+    many = chance.choices(some, k=20_000)
+    yield "many", Case(["24"], lines_of(many))
+    yield "many-packed", Case(["--packed", "24"], packed_text(many))
+    yield "many-any-way", Case(["10"], "".join(any_line(chance, d) for d in many[:6000]))
+    refused_ones = itertools.cycle(of_kinds(chance, [8, 7, 8, 8, 7]))
+    yield "many-refused", Case(["17"], lines_of(every_97th(many[:3000], refused_ones)))
+    yield "many-refused-packed", Case(["--packed", "17"], packed_text(every_97th(many[:3000], refused_ones)))
+    unread = itertools.cycle(line + "\n" for line in unread_lines())
+    yield "many-unread", Case(["17"], "".join(every_97th(map(line_of, many[:3000]), unread)))
+    either_one = itertools.cycle(itertools.chain.from_iterable(zip(map(line_of, of_kinds(chance, [7, 8, 8])), unread)))
+    yield "many-refused-and-unread", Case(["3"], "".join(every_97th(map(line_of, many[:3000]), either_one)))
+    none = of_kinds(chance, chance.choices((7, 8), k=3000))
+    yield "all-refused", Case(["21"], lines_of(none))
+    yield "all-refused-packed", Case(["--packed", "21"], packed_text(none) + "\0" * 11)
+    lines = chance.choices(unread_lines() + BLANK_LINES[:7], k=3000)
+    yield "all-unread", Case(["21"], "".join(line + "\n" for line in lines))
+
+
+def sweep_cases():
+    chance = random.Random(61)
+    found = {name: case for name, (case, _) in PAGE_CASES.items()}
+    for make in (line_cases, packed_cases, refused_cases, argument_cases, many_cases):
+        for name, case in make(chance):
+            must(name not in found and re.fullmatch("[-0-9a-z]+", name), "a name of its own", name)
+            found[name] = case
+    return found
+
+
+# ==== Internal checks of what ./sweep writes
+
+READ_LINE = re.compile(rb"[ \t\r]*(-?[0-9]+)[ \t\r]+(-?[0-9]+)[ \t\r]+(-?[0-9]+)[ \t\r]*")
+LAST_LINE = re.compile(
+    r"sweep: (\d+) (directions?), (\d+) refused(?:, the first at place (\d+) with (\d): (.*?))?"
+    r"(?:; (\d+) not read, the first at place (\d+))?\n"
+)
+
+
+def read_again(line):
+    found = READ_LINE.fullmatch(line) if len(line) <= LONGEST_LINE else None
+    d = tuple(map(int, found.groups())) if found else ()
+    return d if d and all(x in range(LEAST_SIGNED, MOST_SIGNED + 1) for x in d) else None
+
+
+def all_read_again(is_packed, data):
+    if is_packed:
+        whole = len(data) - len(data) % 12
+        return directions_of(data[:whole]) + ([None] if data[whole:] else [])
+    return [read_again(line) for line in data.removesuffix(b"\n").split(b"\n")] if data else []
+
+
+def check_last_line(lines, ran):
+    """What the last line counts, and the first places that it tells, are those of the lines."""
+    count, word, refusals, place, no, words, unread, unread_place = LAST_LINE.fullmatch(ran.err).groups()
+    must(int(count) == len(lines) and word == ("direction" if len(lines) == 1 else "directions"), "directions", ran.err)
+    numbers = [line for line in lines if line.startswith("refused ")]
+    must(int(refusals) == len(numbers) and (place is None) == (not numbers), "refused", ran.err)
+    if numbers:
+        must(lines.index(numbers[0]) == int(place) and numbers[0] == f"refused {no}", "the first refused", ran.err)
+        must(words == REFUSALS[int(no)], "document 01's words", ran.err)
+    must(int(unread or 0) == lines.count("not read") and (unread != "0"), "not read", ran.err)
+    if unread:
+        must(lines.index("not read") == int(unread_place), "the first not read", ran.err)
+    must(ran.status == (2 if unread else 1 if numbers else 0), "the status", ran.err)
+
+
+def line_again(n, d):
+    """What the console answers to file, as a line of ./sweep."""
+    if d is None:
+        return "not read"
+    text = answer(f"file {n} {d[0]} {d[1]} {d[2]}")
+    return text.split(":")[0] if text.startswith("refused ") else text.split(" ")[1]
+
+
+def check_case(case, ran):
+    """Each line against what the console answers, of directions that are read in another way."""
+    if ran.err.startswith(("sweep: write", "sweep: refused")):
+        must(ran.out == "" and ran.status == (2 if "write" in ran.err else 1), "nothing is written", case.arguments)
+        return
+    n = case.arguments[-1]
+    lines = ran.out.split("\n")
+    must(lines.pop() == "", "each line has its end", case.arguments)
+    directions = all_read_again(len(case.arguments) == 2, case.data.encode("latin-1"))
+    must(len(lines) == len(directions), "a line for each direction", case.arguments)
+    for d, line in zip(directions, lines):
+        must(line == line_again(n, d), "as file", case.arguments, d, line)
+    check_last_line(lines, ran)
+
+
+def check_page():
+    for name, (case, ran) in PAGE_CASES.items():
+        must(run_sweep(case) == ran, "by hand", name, run_sweep(case))
+    for line in unread_lines() + BLANK_LINES:
+        must(read_direction(line) is None and "\n" not in line, "not read", line)
+    must(all(map(read_direction, READ_LINES)), "read")
 
 
 # ==== Writing the two files
@@ -3401,6 +4404,15 @@ SECTIONS = {
     "long lines": long_lines,
     "opposite corners, degrees 6 to 24": opposite_calls,
     "t close to a half or a whole number": close_calls,
+    "sweeps, examples": SWEEP_EXAMPLES.keys,
+    "sweeps of every length": sweep_lengths,
+    "sweeps at every degree": sweep_degrees,
+    "sweeps in parts": sweep_parts,
+    "sweeps with refused directions": refused_places,
+    "sweeps at the bounds of coordinates": swept_bounds,
+    "refused sweeps": refused_sweeps,
+    "unreadable sweeps": unreadable_sweeps,
+    "spaced sweeps": spaced_sweeps,
     "the last line without a table": last_without_table,
     "no table is open": before_any_table,
     "unreadable lines on a table": unreadable_on_table,
@@ -3417,6 +4429,7 @@ SECTIONS = {
     "other degrees": other_degrees,
     "many places in one line": many_places,
     "a table that stays open": staying_calls,
+    "sweeps while a table is open": sweeps_on_table,
     "full tables": full_tables,
     "the last line": last_line,
 }
@@ -3444,6 +4457,7 @@ def write_files(calls_path, answers_path):
     answers = answers_to(calls)
     check_answers(calls, answers)
     check_soundings(calls, answers)
+    check_sweeps(calls, answers)
     write_bytes(calls_path, "\n".join(calls))
     write_bytes(answers_path, "".join(text + "\n" for text in answers))
 
@@ -3471,6 +4485,12 @@ HOST_SECTIONS = {
     "outside degrees and directions": outside_directions,
     "slices of every length": every_slice,
     "slices filled in every way": every_first,
+    "sweeps of every length": host_sweep_lengths,
+    "sweeps into slices of every length": host_sweep_slices,
+    "sweeps at every degree": host_sweep_degrees,
+    "sweeps with refused directions": host_sweep_places,
+    "refused sweeps": host_sweep_refusals,
+    "sweeps into slices filled in every way": host_sweep_first,
 }
 
 
@@ -3489,6 +4509,29 @@ def write_host_files(calls_path, answers_path):
     write_bytes(answers_path, "".join(text + "\n" for _, text in records))
 
 
+# ==== Writing the cases of ./sweep
+
+
+def write_cases(folder):
+    # The holders are searched as for the console, whose internal checks compare the two ways of searching them.
+    check_signs()
+    check_examples()
+    check_sweep_lines()
+    check_page()
+    os.makedirs(folder, exist_ok=True)
+    cases = sweep_cases()
+    for name, case in cases.items():
+        ran = run_sweep(case)
+        check_case(case, ran)
+        parts = {"args": "".join(x + "\n" for x in case.arguments), "in": case.data}
+        parts |= {"out": ran.out, "err": ran.err, "status": f"{ran.status}\n"}
+        for end, text in parts.items():
+            write_bytes(os.path.join(folder, f"{name}.{end}"), text)
+        lines = ran.out.count("\n")
+        print(f"{lines:8} {name}")
+    print(f"{len(cases):8} cases")
+
+
 if __name__ == "__main__":
     if sys.argv[1:] == ["--answer"]:
         answer_input(answer)
@@ -3496,6 +4539,8 @@ if __name__ == "__main__":
         answer_input(host_answer)
     elif len(sys.argv) == 4 and sys.argv[1] == "--host":
         write_host_files(sys.argv[2], sys.argv[3])
+    elif len(sys.argv) == 3 and sys.argv[1] == "--sweep":
+        write_cases(sys.argv[2])
     elif len(sys.argv) == 3:
         write_files(sys.argv[1], sys.argv[2])
     else:

@@ -14,6 +14,7 @@
 #include <string.h>
 
 uint64_t lent[12];
+size_t sweep_length;
 
 /* The empty function: one instruction, the return. */
 any_function nothing;
@@ -65,9 +66,21 @@ static void fail(const char *what, const char *which) {
     exit(2);
 }
 
+void *new_list(size_t count, size_t size) {
+    void *list = calloc(count, size);
+    if (list == NULL) {
+        fail("no memory for", "a list");
+    }
+    return list;
+}
+
+/* After a name may stand - and the length of a sweep. */
 static const struct call *call_named(const char *name) {
+    size_t letters = strcspn(name, "123456789");
+    sweep_length = strtoul(name + letters, NULL, 10);
+    letters -= sweep_length > 0 && letters > 0 ? 1 : 0;
     for (size_t k = 0; k < calls_count; k++) {
-        if (strcmp(calls[k].name, name) == 0) {
+        if (strlen(calls[k].name) == letters && strncmp(calls[k].name, name, letters) == 0) {
             return &calls[k];
         }
     }
@@ -76,10 +89,7 @@ static const struct call *call_named(const char *name) {
 }
 
 static struct input *prepared(const struct call *call, const char *kind, uint64_t degree, size_t count) {
-    struct input *inputs = calloc(count, sizeof *inputs);
-    if (inputs == NULL) {
-        fail("no memory for inputs of", call->name);
-    }
+    struct input *inputs = new_list(count, sizeof *inputs);
     for (size_t k = 0; k < count; k++) {
         if (!call->prepare(&inputs[k], kind, degree)) {
             fail("the call has no input", kind);

@@ -41,6 +41,12 @@ extern const size_t calls_count;
 /* The list that is lent to calls that write one. */
 extern uint64_t lent[12];
 
+/* How many directions a sweep has: `sweep-1000` is the call `sweep` with 1000. */
+extern size_t sweep_length;
+
+/* Memory of zeros; the program ends where there is none. */
+void *new_list(size_t count, size_t size);
+
 #ifdef __cplusplus
 }
 #endif

@@ -8,10 +8,11 @@
 
 /* The two that inputs are prepared with, and those that are only run. */
 uint64_t bench_name(uint64_t code, uint64_t corner);
+uint64_t bench_file(uint64_t degree, int32_t x, int32_t y, int32_t z);
 uint64_t bench_weights(uint64_t code, uint64_t corner, uint64_t *out, size_t places);
 any_function bench_parent, bench_child, bench_cross, bench_back, bench_name_weights,
-    bench_ring, bench_exact, bench_name_exact, bench_t, bench_name_t, bench_drawn, bench_name_drawn, bench_file,
-    bench_list, bench_get, bench_set, bench_clear;
+    bench_ring, bench_exact, bench_name_exact, bench_t, bench_name_t, bench_drawn, bench_name_drawn,
+    bench_list, bench_sweep, bench_get, bench_set, bench_clear;
 
 /* ---- words */
 
@@ -177,6 +178,34 @@ __attribute__((noinline, optimize("O3"))) static int64_t add_up(const int32_t *l
     return sum;
 }
 
+/* ---- sweeps: a list of as many directions as the call's name says, and one of codes that all calls share */
+
+static uint64_t *codes;
+
+static int give_sweep(struct input *in, const char *kind, uint64_t degree) {
+    struct direction *dirs = new_list(sweep_length, sizeof *dirs);
+    codes = codes == NULL ? new_list(sweep_length, sizeof *codes) : codes;
+    for (size_t k = 0; k < sweep_length; k++) {
+        if (!make_direction(kind, &dirs[k])) {
+            return 0;
+        }
+    }
+    in->argument[0] = degree;
+    in->argument[1] = (uint64_t)dirs;
+    in->argument[2] = 3 * sweep_length;
+    give_list(in, 3, codes, sweep_length);
+    return 1;
+}
+
+/* What a sweep is measured by: a loop that makes its single calls. */
+__attribute__((noinline)) static uint64_t singles(uint64_t degree, const int32_t *dirs, size_t numbers,
+                                                  uint64_t *codes, size_t places) {
+    for (size_t k = 0; k < numbers / 3; k++) {
+        codes[k] = bench_file(degree, dirs[3 * k], dirs[3 * k + 1], dirs[3 * k + 2]);
+    }
+    return places;
+}
+
 /* ---- the calls */
 
 const struct call calls[] = {
@@ -196,8 +225,10 @@ const struct call calls[] = {
     {"drawn", bench_drawn, FLOAT, give_code_and_number},
     {"name-drawn", bench_name_drawn, FLOAT, give_name},
     {"ring", bench_ring, CODES, give_name_and_list},
-    {"file", bench_file, WORD, give_direction},
+    {"file", (any_function *)bench_file, WORD, give_direction},
     {"list", bench_list, CODES, give_direction_and_list},
+    {"sweep", bench_sweep, WORD, give_sweep},
+    {"singles", (any_function *)singles, WORD, give_sweep},
     {"table-get", bench_get, WORD, give_table},
     {"table-set", bench_set, WORD, give_table_and_reading},
     {"table-clear", bench_clear, WORD, give_table},

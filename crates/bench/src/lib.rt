@@ -23,6 +23,8 @@ ghost use Rattle.corners.specs.declared.StepAnswer.{StepAnswer};
 ghost use Rattle.corners.specs.declared.NameAnswer.{NameAnswer};
 ghost use Rattle.corners.specs.declared.CountAnswer.{CountAnswer};
 ghost use Rattle.directions.specs.Answers.{FileAnswer, ListAnswer};
+ghost use Rattle.sweeps.specs.Answers.{SweepResult};
+ghost use Rattle.sweeps.specs.declared.SweepAnswer.{SweepAnswer};
 ghost use Rattle.tables.specs.Answers.{SetAnswer, ClearAnswer};
 ghost use Rattle.tables.specs.declared.TableAnswer.{TableAnswer};
 
@@ -176,6 +178,19 @@ pub extern "C" fn bench_list(degree: u64, x: i32, y: i32, z: i32, out: &mut [u64
 {
     let r = grid::list(degree, Direction { x, y, z }, out);
     r.count ^ r.refusal
+}
+
+// ---- a sweep
+
+#[no_mangle]
+pub extern "C" fn bench_sweep(degree: u64, dirs: &[i32], codes: &mut [u64]) -> u64
+    ensures { λ r. ⌜
+        ((a : SweepAnswer) × SweepResult degree (now (dirs .entry)) (now (codes .entry)) a (now (codes .exit))
+        × (r ≡ bitXor (bitXor (bitXor (a .refusal) (a .refused)) (a .place)) (a .first)))
+        ⌝ }
+{
+    let r = sweeps::sweep(degree, dirs, codes);
+    r.refusal ^ r.refused ^ r.place ^ r.first
 }
 
 // ---- a table of soundings

@@ -1,12 +1,14 @@
 -- The answers of `file` and `list` from their parts. Assumes nothing.
 use mathlib.Core.Path.{_≡_, refl, ap}
 use mathlib.Core.List.{List}
-use Prim.Native.Nat.{ℕ, zero, suc, _+_, _≤_}
+use Prim.Native.Nat.{ℕ, zero, suc, _+_, _≤_, _<_}
 use native.Mathlib.Omega.{arith}
 use lib.ListN.{length, length-append}
-use Rattle.frame.proofs.Answering.{answering}
+use borrow.Author.Tests.{lt-ltb, le-ltb}
+use Rattle.frame.proofs.Answering.{refusing, answering}
 use Rattle.words.specs.Words.{wordOf}
-use Rattle.words.specs.Family.{codeOf}
+use Rattle.words.specs.Family.{codeOf, codeAnswer, noCode}
+use Rattle.words.proofs.Codes.{code-fields}
 use Rattle.corners.specs.Answers.{countAnswer}
 use Rattle.directions.specs.Answers.{FileAnswer, ListAnswer}
 use Rattle.net.proofs.Flips.{each-length}
@@ -16,7 +18,8 @@ use Rattle.filing.specs.Means.Descent.{holders}
 use Rattle.filing.specs.Means.Sides.{sideDets}
 use Rattle.filing.specs.Means.Lists.{joined, Puts, sideWords, allWords}
 use Rattle.filing.specs.declared.Direction.{Direction}
-use Rattle.directions.proofs.Refused.{allowed, list-then}
+use Rattle.directions.specs.Means.Numbers.{answerFor}
+use Rattle.directions.proofs.Refused.{allowed, list-then, refuse-small}
 use Rattle.filing.proofs.AtMostSix.{sumSides, at-most-six}
 use Rattle.filing.proofs.NoVertex.{zeroDirection}
 use Rattle.filing.proofs.AllHolders.{all-holders}
@@ -26,6 +29,26 @@ use Rattle.filing.proofs.AllHolders.{all-holders}
 pub filed-answer : (n : ℕ) (d : Direction) (w : ℕ) → refuseFile n d ≡ 0 → IsFiled n d (codeOf w)
     → FileAnswer n d (record { refusal = 0; code = codeOf w })
 filed-answer n d w z h = answering z (record { number = refl; is = h })
+
+-- in one number: a refusal's, which is small, or the word of a code, which is not
+
+pub refused-number : (n : ℕ) (d : Direction) (f : ℕ) → f ≡ refuseFile n d → (f ≡ 0 → ⊥)
+    → FileAnswer n d (answerFor f)
+unfolding answerFor
+refused-number n d f e k = rw (lt-ltb f 12 (omega (arith, e, refuse-small n d))) (refusing e k)
+
+pub filed-number : (n : ℕ) (d : Direction) (w : ℕ) → refuseFile n d ≡ 0 → IsFiled n d (codeOf w)
+    → FileAnswer n d (answerFor w)
+unfolding answerFor
+filed-number n d w z h = rw (le-ltb w 12 (omega (arith, code-fields (h .code) .aLow))) (filed-answer n d w z h)
+
+pub small-number : (w : ℕ) → w < 12 → answerFor w ≡ noCode w
+unfolding answerFor
+small-number w l = rw (lt-ltb w 12 l)
+
+pub large-number : (w : ℕ) → 12 ≤ w → answerFor w ≡ codeAnswer 0 (codeOf w)
+unfolding answerFor
+large-number w l = rw (le-ltb w 12 l)
 
 -- ---- list
 

@@ -32,6 +32,16 @@ unfolding refuseFile
 refuse-by n d p q r = sym (in-turn order (degreeRows n ++ directionRows d) tt
     ∙ (λ i. inTurn (1 when p i ∷ 8 when q i ∷ 7 when r i ∷ [])))
 
+-- a small number: 0, 1, 8 or 7
+pub refuse-small : (n : ℕ) (d : Direction) → refuseFile n d < 12
+refuse-small n d = rw (sym (refuse-by n d refl refl refl)) (go (ltb 24 n) (far d) (none d))
+  where
+    go : (a b c : Bool) → inTurn (1 when a ∷ 8 when b ∷ 7 when c ∷ []) < 12
+    go true b c = omega arith
+    go false true c = omega arith
+    go false false true = omega arith
+    go false false false = omega arith
+
 module _ (d : Direction) where
   pub far-x : 1000000000 < natAbs (d .x) → far d ≡ true
   far-x l = either-left _ _ (lt-ltb _ _ l)

@@ -7,6 +7,7 @@ use words::TriangleCode;
 ghost use mathlib.Core.Path.{_≡_};
 ghost use Rattle.directions.specs.Refusals.{refuseFile};
 ghost use Rattle.directions.specs.Answers.{FileAnswer, ListAnswer};
+ghost use Rattle.directions.specs.Means.Numbers.{answerFor};
 
 // Of a degree and a direction: 0, or 1, 8 or 7.
 fn refuse_direction(degree: u64, d: Direction) -> u64
@@ -35,22 +36,32 @@ fn refuse_direction(degree: u64, d: Direction) -> u64
 
 // ---- filing and listing
 
+// Filing on plain numbers, which stay in registers: the word of the code, or the number of the refusal. The two cannot
+// be confused, since every word of a code is larger than every such number. (For `file` and for a sweep.)
+pub fn file_word(degree: u64, x: i32, y: i32, z: i32) -> u64
+    ensures { λ r. ⌜ FileAnswer degree (record { x = x; y = y; z = z }) (answerFor r) ⌝ }
+{
+    let d = Direction { x, y, z };
+    let f = refuse_direction(degree, d);
+    if f != 0 {
+        return f;
+    }
+    let w = seats::quick_word(degree, d);
+    if w == 0 {
+        return seats::exact_word(degree, d);
+    }
+    w
+}
+
 // Filing a direction: the least code of the degree that holds it.
 pub fn file(degree: u64, d: Direction) -> CodeAnswer
     ensures { λ r. ⌜ FileAnswer degree d r ⌝ }
 {
-    let f = refuse_direction(degree, d);
-    if f != 0 {
+    let w = file_word(degree, d.x, d.y, d.z);
+    if w < 12 {
         return CodeAnswer {
-            refusal: f,
+            refusal: w,
             code: TriangleCode(0),
-        };
-    }
-    let w = seats::quick_word(degree, d);
-    if w == 0 {
-        return CodeAnswer {
-            refusal: 0,
-            code: TriangleCode(seats::exact_word(degree, d)),
         };
     }
     CodeAnswer {

@@ -2,14 +2,14 @@
 -- written in two parts. Assumes nothing.
 use mathlib.Core.Path.{_≡_, _∙_, refl, sym, ap}
 use mathlib.Core.Logic.{_↔_, ⊎-elim}
-use mathlib.Core.List.{List, _++_, append-nil, append-assoc}
-use Prim.Native.Nat.{ℕ, _-_, _≤_, _<_}
+use mathlib.Core.List.{List, [], _∷_, _++_, append-nil, append-assoc}
+use Prim.Native.Nat.{ℕ, suc, _-_, _≤_, _<_}
 use native.Mathlib.Omega.{arith}
 use borrow.Author.Tests.{ltb-false, lt-ltb, le-ltb}
 use borrow.Rule.Slice.PartMut.{putMid}
 use lib.Dec.{T}
-use lib.ListN.{length, take, drop, length-append, drop-of-length-le}
-use lib.Seq.{take-all, take-at, drop-at, drop-drop}
+use lib.ListN.{length, take, drop, set, getD, length-append, length-drop, drop-of-length-le}
+use lib.Seq.{take-all, take-at, drop-at, drop-drop, drop-cons, set-at}
 use Rattle.frame.specs.Refusals.{Row, firstOf, listRows}
 use Rattle.frame.specs.Answers.{over}
 use Rattle.frame.proofs.Refusing.{numbers, inOrder, here, refuse-before, refuse-after, none-after}
@@ -58,3 +58,19 @@ two-parts {A} out mid late c d h e m p =
     ∙ sym (append-assoc c d (drop (length d) D))
     ∙ ap (λ (x : List A). (c ++ d) ++ x) (drop-drop (length d) (length c) out)
     ∙ ap (λ (x : ℕ). (c ++ d) ++ drop x out) (sym (length-append c d))
+
+-- one place more
+pub over-next : {A : Type 0} (c out : List A) (x : A) (h : ℕ) → length c ≡ h → h < length out
+    → set (over c out) h x ≡ over (c ++ (x ∷ [])) out
+over-next {A} c out x h e l =
+    let k = length c in
+    let d = drop-cons out k x (omega (arith, e, l)) in
+    let more : suc k ≡ length (c ++ (x ∷ [])) = omega (arith, length-append c (x ∷ [])) in
+    ap (λ (r : List A). set (c ++ r) h x) d
+    ∙ set-at c (getD out k x) (drop (suc k) out) x h e
+    ∙ sym (append-assoc c (x ∷ []) (drop (suc k) out))
+    ∙ ap (λ (j : ℕ). (c ++ (x ∷ [])) ++ drop j out) more
+
+-- as long as it was
+pub over-long : {A : Type 0} (c out : List A) → length c ≤ length out → length (over c out) ≡ length out
+over-long c out l = omega (arith, l, length-append c (drop (length c) out), length-drop (length c) out)

@@ -1,4 +1,5 @@
--- The laws of refusals in order, of answers, and of lent lists: the crates above cite them.
+-- The laws of refusals in order, of answers, of lent lists, and of looking through a list: the crates above cite them.
 pub mod Refusing
 pub mod Answering
 pub mod Lengths
+pub mod Scanning

@@ -6,12 +6,17 @@ use Prim.Native.Nat.{ℕ, zero, suc, _+_, _-_, _*_, _/_, _%_, _^_, _≤_, _<_}
 use native.Mathlib.Omega.{arith}
 use native.Mathlib.Nat.{mod-eq-of-lt, one-le-pow, pow-succ', add-mul, mul-assoc, mul-comm, mul-suc}
 use lib.Arith.{mod-mul}
-use lib.ListN.{length, getD, take, drop, length-append, length-drop}
+use lib.IntN.{ℤ, pos, negsuc, negℤ, _-ℤ_}
+use lib.ListN.{length, getD, take, drop, length-append}
 use lib.Seq.{take-at, drop-at, drop-drop}
+use mir.Syntax.{w32}
+use mir.Val.{SFits, toZ, ofZ}
+use mir.ValLaws.{toZ-ofZ}
+use borrow.Author.Tests.{lt-ltb, le-ltb}
 use borrow.Rule.Slice.PartMut.{putMid}
 use Rattle.frame.specs.Answers.{over}
-use Rattle.frame.proofs.Lengths.{two-parts}
-use Rattle.octets.specs.Bytes.{bytesOf, bytes, readOn, numberOf, numberAt}
+use Rattle.frame.proofs.Lengths.{two-parts, over-long}
+use Rattle.octets.specs.Bytes.{bytesOf, bytes, readOn, numberOf, numberAt, signed}
 
 -- ---- one number
 
@@ -89,9 +94,7 @@ after-bytes k ws out =
 
 pub as-long : (k : ℕ) (ws out : List ℕ) → k * length ws ≤ length out
     → length (over (bytes k ws) out) ≡ length out
-as-long k ws out l =
-    let e = bytes-long k ws in
-    omega (arith, e, length-append (bytes k ws) (drop (length (bytes k ws)) out), length-drop (length (bytes k ws)) out)
+as-long k ws out l = over-long (bytes k ws) out (omega (arith, bytes-long k ws, l))
 
 -- ---- numbers written one after the other
 
@@ -111,3 +114,40 @@ pub laid-next : (k w : ℕ) (ws out mid late : List ℕ) → mid ≡ over (bytes
     → putMid k (length mid - k) mid late ≡ over (bytes k (w ∷ ws)) out
 unfolding bytes
 laid-next k w ws out mid late e f = two-parts out mid late (bytesOf k w) (bytes k ws) k (bytes-of-long k w) e f
+
+-- ---- bytes read
+
+-- four bytes as the code takes them
+pub four-bytes : (bs : List ℕ) → 4 ≤ length bs
+    → getD bs 0 0 * 16777216 + getD bs 1 0 * 65536 + getD bs 2 0 * 256 + getD bs 3 0 ≡ numberOf (take 4 bs)
+four-bytes [] l = absurd (omega (arith, l))
+four-bytes (a ∷ []) l = absurd (omega (arith, l))
+four-bytes (a ∷ b ∷ []) l = absurd (omega (arith, l))
+four-bytes (a ∷ b ∷ c ∷ []) l = absurd (omega (arith, l))
+four-bytes (a ∷ b ∷ c ∷ d ∷ bs) l = omega arith
+
+-- a signed number of four bytes, by the code's test: its bits w, or -1 and what is left to all bits set
+pub not-negative : (w : ℕ) → w < 2147483648 → toZ w32 w ≡ signed 4 w
+unfolding signed
+not-negative w l = rw (lt-ltb w 2147483648 l, lt-ltb (2 * w) (256 ^ 4) (omega (arith, l)))
+
+minus-one : (v : ℕ) → negsuc 0 -ℤ pos v ≡ negsuc v
+minus-one zero = refl
+minus-one (suc v) = let e : 0 + v ≡ v = omega arith in ap (λ (m : ℕ). negsuc (suc m)) e
+
+module _ (w : ℕ) (l : 2147483648 ≤ w) (h : w < 4294967296) where
+  low : toZ w32 (4294967295 - w) ≡ pos (4294967295 - w)
+  low = rw (lt-ltb (4294967295 - w) 2147483648 (omega (arith, l)))
+
+  is-less : negsuc 0 -ℤ toZ w32 (4294967295 - w) ≡ negsuc (4294967295 - w)
+  is-less = ap (λ (x : ℤ). negsuc 0 -ℤ x) low ∙ minus-one (4294967295 - w)
+
+  pub negative-fits : SFits w32 (negsuc 0 -ℤ toZ w32 (4294967295 - w))
+  negative-fits = rw is-less (record { sfits = omega (arith, l) })
+
+  pub negative : toZ w32 (ofZ w32 (negsuc 0 -ℤ toZ w32 (4294967295 - w))) ≡ signed 4 w
+  unfolding signed
+  negative =
+      let e : 4294967296 - w ≡ suc (4294967295 - w) = omega (arith, h) in
+      toZ-ofZ w32 _ negative-fits ∙ is-less
+      ∙ rw (le-ltb (2 * w) (256 ^ 4) (omega (arith, l))) (ap (λ (m : ℕ). negℤ (pos m)) (sym e))

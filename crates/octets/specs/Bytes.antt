@@ -1,6 +1,9 @@
--- Document 02, 2026-01: numbers as bytes, and bytes as a number. Assumes nothing.
-use Prim.Native.Nat.{ℕ, zero, suc, _+_, _*_, _/_, _%_, _^_}
-use mathlib.Core.List.{List, [], _∷_, _++_}
+-- Document 02, 2026-01 and 2026-04: numbers as bytes, and bytes as numbers. Assumes nothing.
+use Prim.Native.Nat.{ℕ, zero, suc, _+_, _-_, _*_, _/_, _%_, _^_}
+use mathlib.Core.Bool.{cond}
+use mathlib.Core.List.{List, [], _∷_, _++_, map}
+use lib.Dec.{ltb}
+use lib.IntN.{ℤ, pos, negℤ}
 use lib.ListN.{take, drop}
 
 -- the k bytes of a number, "most significant first"
@@ -24,3 +27,15 @@ numberOf bs = readOn 0 bs
 -- number i, from 0, of those that stand in bytes, k for each
 abbrev pub numberAt : (k : ℕ) (bs : List ℕ) (i : ℕ) → ℕ
 numberAt k bs i = numberOf (take k (drop (k * i) bs))
+
+-- the first m of them
+unfoldable pub numbers : (k m : ℕ) → List ℕ → List ℕ
+numbers k zero bs = []
+numbers k (suc m) bs = numberOf (take k bs) ∷ numbers k m (drop k bs)
+
+-- "signed": the number of k bytes in two's complement, from the half of all on less 256^k
+unfoldable pub signed : (k w : ℕ) → ℤ
+signed k w = cond (ltb (2 * w) (256 ^ k)) (pos w) (negℤ (pos (256 ^ k - w)))
+
+abbrev pub signedNumbers : (k m : ℕ) → List ℕ → List ℤ
+signedNumbers k m bs = map (signed k) (numbers k m bs)

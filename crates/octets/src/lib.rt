@@ -2,9 +2,9 @@
 // numbers.)
 ghost use mathlib.Core.Path.{_≡_};
 ghost use Prim.Native.Nat.{_≤_};
-ghost use lib.ListN.{length};
+ghost use lib.ListN.{length, take};
 ghost use Rattle.frame.specs.Answers.{over};
-ghost use Rattle.octets.specs.Bytes.{bytesOf};
+ghost use Rattle.octets.specs.Bytes.{bytesOf, numberOf, signed};
 
 // The eight bytes of w over the front of out.
 pub fn put8(w: u64, out: &mut [u8])
@@ -19,4 +19,24 @@ pub fn put8(w: u64, out: &mut [u8])
     out[5] = (w / 0x1_0000 % 256) as u8;
     out[6] = (w / 0x100 % 256) as u8;
     out[7] = (w % 256) as u8;
+}
+
+// The number of the first four bytes.
+fn get4(bytes: &[u8]) -> u32
+    requires { ⌜ 4 ≤ length (now bytes) ⌝ }
+    ensures { λ r. ⌜ r ≡ numberOf (take 4 (now (bytes .entry))) ⌝ }
+{
+    bytes[0] as u32 * 0x100_0000 + bytes[1] as u32 * 0x1_0000 + bytes[2] as u32 * 0x100 + bytes[3] as u32
+}
+
+// The same as a signed number.
+pub fn get_signed4(bytes: &[u8]) -> i32
+    requires { ⌜ 4 ≤ length (now bytes) ⌝ }
+    ensures { λ r. ⌜ r ≡ signed 4 (numberOf (take 4 (now (bytes .entry)))) ⌝ }
+{
+    let w = get4(bytes);
+    if w < 0x8000_0000 {
+        return w as i32;
+    }
+    -1 - (0xFFFF_FFFF - w) as i32
 }

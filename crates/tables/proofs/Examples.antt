@@ -8,11 +8,12 @@ use lib.IntN.{ℤ, pos, negsuc}
 use lib.ListN.{getD}
 use Rattle.frame.specs.Refusals.{firstOf}
 use Rattle.frame.specs.Answers.{Known, settled}
+use Rattle.frame.specs.Lists.{some, firstPlace}
 use Rattle.frame.proofs.Answering.{known-gives, no-other}
 use Rattle.words.specs.Words.{digits, path, wordOf}
 use Rattle.words.specs.Counting.{placeOf}
 use Rattle.grid.specs.Writing.{decimals, written}
-use Rattle.tables.specs.Tables.{some, firstPlace, number}
+use Rattle.tables.specs.Tables.{number}
 use Rattle.tables.specs.Refusals.{refuseCall}
 use Rattle.tables.specs.Histories.{answers, after}
 use Rattle.tables.specs.Examples.{Examples, Bounds, Mistakes}

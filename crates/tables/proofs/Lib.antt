@@ -1,5 +1,4 @@
 -- The laws of a table: its numbers, its places, its refusals, its answers, and calls one after the other.
-pub mod Scanning
 pub mod Numbers
 pub mod Places
 pub mod Refused

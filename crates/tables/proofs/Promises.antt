@@ -19,7 +19,7 @@ use Rattle.tables.specs.declared.Deed.{Deed}
 use Rattle.tables.specs.declared.Deed.the-variants.{Setting, Clearing}
 use Rattle.tables.specs.declared.TableAnswer.{TableAnswer}
 use Rattle.tables.specs.declared.SoundingAnswer.{SoundingAnswer}
-use Rattle.tables.proofs.Scanning.{first-there, none-before, none-at}
+use Rattle.frame.proofs.Scanning.{first-there, none-before, none-at}
 use Rattle.tables.proofs.Numbers.{number-said, no-reading, reading-said}
 use Rattle.tables.proofs.Refused.{call-passed, call-bad}
 

@@ -30,7 +30,7 @@ use Rattle.tables.specs.declared.Sounding.the-variants.{Nothing}
 use Rattle.tables.specs.declared.Deed.{Deed}
 use Rattle.tables.specs.declared.Deed.the-variants.{Setting, Clearing}
 use Rattle.tables.specs.declared.TableAnswer.{TableAnswer}
-use Rattle.tables.proofs.Scanning.{none-set, none-replicate}
+use Rattle.frame.proofs.Scanning.{none-set, none-replicate}
 use Rattle.tables.proofs.Numbers.{reading-good, said-is}
 use Rattle.tables.proofs.Places.{at-set, same-places}
 use Rattle.tables.proofs.Refused.{triangle-good, list-good}

@@ -1,12 +1,13 @@
 -- Document 02, 2026-03: the list of a table. Assumes nothing.
 use mathlib.Core.Path.{_≡_}
-use Prim.Native.Nat.{ℕ, suc, _*_, _^_, _≤_}
+use Prim.Native.Nat.{ℕ, _*_, _^_, _≤_}
 use mathlib.Core.Bool.{Bool, false, not, cond}
-use mathlib.Core.List.{List, [], _∷_}
+use mathlib.Core.List.{List}
 use lib.Dec.{leb, eqb}
 use lib.IntN.{ℤ, pos, negsuc}
 use lib.ListN.{length, getD, set, replicate}
 use Rattle.frame.specs.Refusals.{_either_}
+use Rattle.frame.specs.Lists.{some, firstPlace}
 use Rattle.words.specs.Counting.{placeOf}
 use Rattle.words.specs.declared.TriangleCode.{TriangleCode}
 use Rattle.tables.specs.declared.Sounding.{Sounding}
@@ -38,15 +39,6 @@ isBad x = not (isReading x either isNone x)
 -- "It holds one reading for each triangle of one degree": "20·4^degree"
 abbrev pub places : (degree : ℕ) → ℕ
 places n = 20 * 4 ^ n
-
--- whether something in a list passes a test, and the first place of it: how many stand before
-unfoldable pub some : {A : Type 0} → (A → Bool) → List A → Bool
-some f [] = false
-some f (x ∷ xs) = f x either some f xs
-
-unfoldable pub firstPlace : {A : Type 0} → (A → Bool) → List A → ℕ
-firstPlace f [] = 0
-firstPlace f (x ∷ xs) = cond (f x) 0 (suc (firstPlace f xs))
 
 -- "the list holds a number that is neither a reading nor -1"
 abbrev pub anyBad : List ℤ → Bool

@@ -11,7 +11,7 @@ use mir.Syntax.{w32}
 use mir.ValLaws.{toZ-ofZ}
 use Rattle.frame.specs.Refusals.{_either_}
 use Rattle.tables.specs.Tables.{isBad, anyBad}
-use Rattle.tables.proofs.Scanning.{finds, goes-on, ends}
+use Rattle.frame.proofs.Scanning.{finds, goes-on, ends}
 use Rattle.soundings.proofs.any_bad.Statement.{statement}
 use Rattle.soundings.proofs.any_bad.Tie as tie
 

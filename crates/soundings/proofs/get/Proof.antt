@@ -8,7 +8,7 @@ use mir.Syntax.{w32}
 use mir.ValLaws.{toZ-ofZ}
 use Rattle.words.specs.Counting.{placeOf}
 use Rattle.tables.specs.Tables.{none, said}
-use Rattle.tables.proofs.Scanning.{in-range}
+use Rattle.frame.proofs.Scanning.{in-range}
 use Rattle.words.proofs.CodeCount.{place-fits}
 use Rattle.tables.proofs.Refused.{Passed, call-passed}
 use Rattle.tables.proofs.Answering.{checked, get-refused, get-found}

@@ -9,7 +9,7 @@ use lib.ListN.{length, getD, drop}
 use mir.Syntax.{w32}
 use mir.ValLaws.{toZ-ofZ}
 use Rattle.tables.specs.Tables.{isBad, leastBad}
-use Rattle.tables.proofs.Scanning.{stops, passes, none-left}
+use Rattle.frame.proofs.Scanning.{stops, passes, none-left}
 use Rattle.soundings.proofs.least_bad.Statement.{statement}
 use Rattle.soundings.proofs.least_bad.Tie as tie
 

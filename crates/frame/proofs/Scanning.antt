@@ -7,9 +7,9 @@ use Prim.Native.Nat.{ℕ, zero, suc, _≤_, _<_}
 use native.Mathlib.Omega.{arith}
 use lib.ListN.{length, getD, drop, set, replicate, drop-of-length-le}
 use lib.Seq.{drop-cons}
 use Rattle.frame.specs.Refusals.{_either_}
 use Rattle.frame.proofs.Refusing.{either-right, either-false}
-use Rattle.tables.specs.Tables.{some, firstPlace}
+use Rattle.frame.specs.Lists.{some, firstPlace}
 
 either-none : (b : Bool) → b either false ≡ b
 either-none true = refl

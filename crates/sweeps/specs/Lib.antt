@@ -1,0 +1,6 @@
+-- What a reader must believe: request 2026-04 of document 02, many directions at once.
+pub mod Sweeps
+pub mod Refusals
+pub mod Answers
+pub mod Promises
+pub mod Examples

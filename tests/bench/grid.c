@@ -197,13 +197,20 @@ static int give_sweep(struct input *in, const char *kind, uint64_t degree) {
     return 1;
 }
 
-/* What a sweep is measured by: a loop that makes its single calls. */
+/* What a sweep is measured by: a loop that makes its single calls and comes to the same, the codes, how many are refused,
+ * and the first one's place and refusal. (bench_file answers a code, or a refusal's number, which is below 12.) */
 __attribute__((noinline)) static uint64_t singles(uint64_t degree, const int32_t *dirs, size_t numbers,
                                                   uint64_t *codes, size_t places) {
-    for (size_t k = 0; k < numbers / 3; k++) {
-        codes[k] = bench_file(degree, dirs[3 * k], dirs[3 * k + 1], dirs[3 * k + 2]);
+    uint64_t refused = 0, place = 0, first = 0;
+    for (size_t k = 0; k < numbers / 3 && k < places; k++) {
+        uint64_t answer = bench_file(degree, dirs[3 * k], dirs[3 * k + 1], dirs[3 * k + 2]);
+        codes[k] = answer < 12 ? 0 : answer;
+        if (answer < 12 && refused++ == 0) {
+            place = k;
+            first = answer;
+        }
     }
-    return places;
+    return refused ^ place ^ first;
 }
 
 /* ---- the calls */

@@ -1,13 +1,16 @@
 -- The answers of `file` and `list` from their parts. Assumes nothing.
-use mathlib.Core.Path.{_≡_, refl, ap}
+use mathlib.Core.Path.{_≡_, refl, sym, ap, _∙_}
 use mathlib.Core.List.{List}
+use mathlib.Core.Logic.{⊎-elim}
 use Prim.Native.Nat.{ℕ, zero, suc, _+_, _≤_, _<_}
 use native.Mathlib.Omega.{arith}
 use lib.ListN.{length, length-append}
 use borrow.Author.Tests.{lt-ltb, le-ltb}
-use Rattle.frame.proofs.Answering.{refusing, answering}
+use Rattle.frame.proofs.Answering.{answers-or-not, refusing, answering}
 use Rattle.words.specs.Words.{wordOf}
+use Rattle.golden.proofs.IntegerOrder.{le-or-lt}
 use Rattle.words.specs.Family.{codeOf, codeAnswer, noCode}
+use Rattle.words.specs.declared.CodeAnswer.{CodeAnswer}
 use Rattle.words.proofs.Codes.{code-fields}
 use Rattle.corners.specs.Answers.{countAnswer}
 use Rattle.directions.specs.Answers.{FileAnswer, ListAnswer}
@@ -49,6 +52,21 @@ small-number w l = rw (lt-ltb w 12 l)
 pub large-number : (w : ℕ) → 12 ≤ w → answerFor w ≡ codeAnswer 0 (codeOf w)
 unfolding answerFor
 large-number w l = rw (le-ltb w 12 l)
+
+-- a number that is a refusal's is that refusal
+pub number-refused : (w : ℕ) → (answerFor w .refusal ≡ 0 → ⊥) → answerFor w .refusal ≡ w
+number-refused w k = ⊎-elim (λ l. absurd (k (ap (λ (a : CodeAnswer). a .refusal) (large-number w l))))
+    (λ l. ap (λ (a : CodeAnswer). a .refusal) (small-number w l)) (le-or-lt 12 w)
+
+-- the code of an answer is 0 just where it refuses
+pub filed-code : (n : ℕ) (d : Direction) (s : CodeAnswer) → FileAnswer n d s → s .refusal ≡ 0 → 0 < s .code .0
+filed-code n d s p e = ⊎-elim (λ z. omega (arith, code-fields (p .answered z .is .code) .aLow))
+    (λ k. absurd (k (sym (ap (λ (a : CodeAnswer). a .refusal) (p .refused k)) ∙ e))) (answers-or-not (refuseFile n d))
+
+pub refused-code : (n : ℕ) (d : Direction) (s : CodeAnswer) → FileAnswer n d s → (s .refusal ≡ 0 → ⊥)
+    → s .code .0 ≡ 0
+refused-code n d s p k = ⊎-elim (λ z. absurd (k (p .answered z .number)))
+    (λ some. ap (λ (a : CodeAnswer). a .code .0) (p .refused some)) (answers-or-not (refuseFile n d))
 
 -- ---- list
 

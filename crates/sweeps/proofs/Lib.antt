@@ -1,8 +1,10 @@
 -- The laws of a sweep.
+pub mod SingleCalls
 pub mod Told
 pub mod Refused
 pub mod SweptParts
-pub mod OneSweep
 pub mod SweptPlaces
+pub mod CountedParts
+pub mod OneSweep
 pub mod Promises
 pub mod Examples

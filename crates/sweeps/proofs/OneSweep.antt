@@ -1,41 +1,19 @@
 -- For every input exactly one answer meets the promise of a sweep. Assumes nothing.
 use mathlib.Core.Path.{_≡_, _∙_, refl, sym, ap}
-use mathlib.Core.List.{List, [], _∷_}
-use Prim.Native.Nat.{ℕ, suc, _%_}
-use native.Mathlib.Omega.{arith}
+use mathlib.Core.List.{List}
+use Prim.Native.Nat.{ℕ, _%_}
 use lib.IntN.{ℤ}
 use lib.ListN.{length}
 use Rattle.frame.specs.Answers.{over}
 use Rattle.frame.specs.Promises.{KeepsLent, together}
 use Rattle.frame.proofs.Answering.{answer-one, answer-some, keeps}
-use Rattle.words.specs.declared.CodeAnswer.{CodeAnswer}
-use Rattle.directions.proofs.OneFiling.{file-one, file-some}
-use Rattle.grid.specs.Writing.{towards}
-use Rattle.sweeps.specs.Sweeps.{Singles, done, then, codesOf, refusalsOf, noSweep, told, Swept}
+use Rattle.sweeps.specs.Sweeps.{codesOf, refusalsOf, noSweep, told, Swept}
 use Rattle.sweeps.specs.Refusals.{refuseSweep}
 use Rattle.sweeps.specs.Answers.{SweptInto, SweepResult}
 use Rattle.sweeps.specs.declared.SweepAnswer.{SweepAnswer}
+use Rattle.sweeps.proofs.SingleCalls.{singles-one, singles-some}
 use Rattle.sweeps.proofs.Told.{told-0}
 use Rattle.sweeps.proofs.Refused.{fine}
-
--- ---- the single calls: one list of answers at most, and one where the numbers are three for each
-
-pub singles-one : {n : ℕ} {dirs : List ℤ} {rs rs′ : List CodeAnswer} → Singles n dirs rs → Singles n dirs rs′
-    → rs ≡ rs′
-singles-one done done = refl
-singles-one (then x xs) (then y ys) = let e = file-one _ _ _ _ x y in let f = singles-one xs ys in λ i. e i ∷ f i
-
-three-less : (m : ℕ) → suc (suc (suc m)) % 3 ≡ m % 3
-three-less m = omega arith
-
-pub singles-some : (n : ℕ) (dirs : List ℤ) → length dirs % 3 ≡ 0 → (rs : List CodeAnswer) × Singles n dirs rs
-singles-some n [] e = ([], done)
-singles-some n (x ∷ []) e = absurd (omega (arith, e))
-singles-some n (x ∷ y ∷ []) e = absurd (omega (arith, e))
-singles-some n (x ∷ y ∷ z ∷ more) e =
-    let a = file-some n (towards x y z) in
-    let r = singles-some n more (sym (three-less (length more)) ∙ e) in
-    (a .0 ∷ r .0, then (a .1) (r .1))
 
 -- ---- what they come to
 

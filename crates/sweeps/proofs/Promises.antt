@@ -37,7 +37,7 @@ places = record {
   long = λ n dirs out r new p. ⊎-elim (λ z. into-long (p .answered z) (room n dirs out z))
       (λ some. ap (λ (x : SweepAnswer × List ℕ). length (x .1)) (p .refused some))
       (answers-or-not (refuseSweep n dirs out));
-  empty = λ n out l. answering (sym (refuse-none n [] out l refl (omega arith))) (into-none [] out);
+  empty = λ n out l. answering (sym (refuse-none n [] out l refl (omega arith))) (into-none out);
 }
 
 pub parts : Parts

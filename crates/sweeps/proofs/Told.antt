@@ -3,7 +3,7 @@
 use mathlib.Core.Path.{_≡_, _∙_, refl, sym, ap}
 use mathlib.Core.Bool.{true, false, true≢false}
 use mathlib.Core.List.{List, [], _∷_, _++_}
-use Prim.Native.Nat.{ℕ, zero, suc, _+_, _≤_, _<_, zero-le}
+use Prim.Native.Nat.{ℕ, zero, suc, _+_, _<_}
 use native.Mathlib.Omega.{arith}
 use lib.ListN.{length, getD}
 use Rattle.frame.specs.Lists.{some, firstPlace}
@@ -71,7 +71,7 @@ all-zero (suc f ∷ fs) e i = absurd (omega (arith, e))
 
 -- ---- two lists, one after the other
 
-non-append : (fs gs : List ℕ) → nonZeros (fs ++ gs) ≡ nonZeros fs + nonZeros gs
+pub non-append : (fs gs : List ℕ) → nonZeros (fs ++ gs) ≡ nonZeros fs + nonZeros gs
 non-append [] gs = omega arith
 non-append (zero ∷ fs) gs = non-append fs gs
 non-append (suc f ∷ fs) gs = omega (arith, non-append fs gs)
@@ -127,27 +127,12 @@ told-append fs gs = go (nonZeros fs) (nonZeros gs) refl refl
         ∙ (λ i. sweepAnswer 0 (suc m + r i) (firstRefused fs) (getD fs (firstRefused fs) 0))
         ∙ sym (λ i. joined (length fs) (told-some fs m e i) (told gs))
 
--- ---- one more
+-- ---- one alone
 
 pub told-one : (f : ℕ) → (f ≡ 0 → ⊥) → told (f ∷ []) ≡ sweepAnswer 0 1 0 f
 unfolding told firstPlace
 told-one zero k = absurd (k refl)
 told-one (suc f) k = refl
-
-pub told-more : (fs : List ℕ) (f : ℕ) → (f ≡ 0 → ⊥)
-    → told (fs ++ (f ∷ [])) ≡ joined (length fs) (told fs) (sweepAnswer 0 1 0 f)
-told-more fs f k = told-append fs (f ∷ []) ∙ ap (joined (length fs) (told fs)) (told-one f k)
-
-pub told-filed : (fs : List ℕ) → told (fs ++ (0 ∷ [])) ≡ told fs
-unfolding told
-told-filed fs =
-    let h = length fs in
-    told-append fs (0 ∷ []) ∙ by-told fs
-    (λ e q. ap (λ (r : SweepAnswer). joined h r (noSweep 0)) q ∙ sym q)
-    (λ m e q.
-    let k : suc m + 0 ≡ suc m = omega arith in
-    ap (λ (r : SweepAnswer). joined h r (noSweep 0)) q
-    ∙ (λ i. sweepAnswer 0 (k i) (firstRefused fs) (getD fs (firstRefused fs) 0)) ∙ sym q)
 
 -- ---- the answers of two parts by the program's tests
 
@@ -175,14 +160,3 @@ module _ (h : ℕ) (a b : SweepAnswer) where
       go zero zero e f = refl
       go zero (suc k) e f = absurd (omega (arith, f))
       go (suc m) k e f = absurd (omega (arith, e))
-
--- ---- sizes
-
-non-most : (fs : List ℕ) → nonZeros fs ≤ length fs
-non-most [] = zero-le
-non-most (zero ∷ fs) = omega (arith, non-most fs)
-non-most (suc f ∷ fs) = omega (arith, non-most fs)
-
-pub told-most : (fs : List ℕ) → (told fs .refused ≤ length fs) × (told fs .place ≤ length fs)
-told-most fs = by-told fs (λ e q. rw q (zero-le, zero-le))
-    (λ m e q. rw q (omega (arith, non-most fs, e), omega (arith, first-refused fs m e .0)))

@@ -1,13 +1,17 @@
 // Filing a sweep (document 02, 2026-04): a lent list of directions, three numbers each, into a lent list of codes. Later
 // parts are handed on as parts that start in the middle of both lists.
 ghost use mathlib.Core.Path.{_≡_};
+ghost use mathlib.Core.List.{[], _∷_};
 ghost use Prim.Native.Nat.{_+_, _*_, _%_, _^_, _≤_, _<_};
 ghost use lib.ListN.{length};
+ghost use Rattle.frame.specs.Lists.{firstPlace};
+ghost use Rattle.net.specs.Steps.{nonZeros};
 ghost use Rattle.directions.specs.Answers.{FileAnswer};
 ghost use Rattle.directions.specs.Means.Numbers.{answerFor};
 ghost use Rattle.sweeps.specs.Sweeps.{sweepAnswer};
-ghost use Rattle.sweeps.specs.Answers.{SweptInto, SweepResult};
+ghost use Rattle.sweeps.specs.Answers.{SweepResult};
 ghost use Rattle.sweeps.specs.Promises.{directionAt, joined};
+ghost use Rattle.sweeps.specs.Means.Counted.{CountedInto, isZero, Tells};
 
 // The refusal of the whole call, or 0; how many directions were refused, and the first one's place, from 0, and refusal.
 pub struct SweepAnswer {
@@ -55,26 +59,6 @@ pub fn join(h: u64, a: SweepAnswer, b: SweepAnswer) -> SweepAnswer
     none_refused(0)
 }
 
-// A direction more, with its own refusal f, after h directions that come to a.
-pub fn count_one(h: u64, a: SweepAnswer, f: u64) -> SweepAnswer
-    requires { ⌜ (a .refused < 2 ^ 63) × (h < 2 ^ 63) ⌝ }
-    ensures { λ r. ⌜ (f ≡ 0 → r ≡ a) × ((f ≡ 0 → ⊥) → r ≡ joined h a (sweepAnswer 0 1 0 f)) ⌝ }
-{
-    if f == 0 {
-        return a;
-    }
-    join(
-        h,
-        a,
-        SweepAnswer {
-            refusal: 0,
-            refused: 1,
-            place: 0,
-            first: f,
-        },
-    )
-}
-
 // ---- the sweep
 
 // Files direction i: the word of its code, or the number of its refusal, in one number.
@@ -88,7 +72,7 @@ fn file_at(degree: u64, dirs: &[i32], i: usize) -> u64
     directions::file_word(degree, x, y, z)
 }
 
-// The code of such a number, 0 where it is a refusal's; and the refusal, or 0.
+// The code of such a number, 0 where it is a refusal's; and 1 where it is a refusal's, else 0.
 fn code_in(w: u64) -> u64
     ensures { λ r. ⌜ r ≡ answerFor w .code .0 ⌝ }
 {
@@ -98,54 +82,102 @@ fn code_in(w: u64) -> u64
     w
 }
 
-fn refusal_in(w: u64) -> u64
-    ensures { λ r. ⌜ r ≡ answerFor w .refusal ⌝ }
+fn refusals_in(w: u64) -> u64
+    ensures { λ r. ⌜ r ≡ nonZeros (answerFor w .refusal ∷ []) ⌝ }
 {
+    if w == 0 {
+        return 0;
+    }
     if w < 12 {
-        return w;
+        return 1;
     }
     0
 }
 
-// Files one direction after the other.
-fn file_each(degree: u64, dirs: &[i32], codes: &mut [u64]) -> SweepAnswer
+// Files one direction after the other, and answers how many are refused.
+fn file_each(degree: u64, dirs: &[i32], codes: &mut [u64]) -> u64
     requires { ⌜ (length (now dirs) % 3 ≡ 0) × (length (now dirs) ≤ 3 * length (now codes)) ⌝ }
-    ensures { λ r. ⌜ SweptInto degree (now (dirs .entry)) (now (codes .entry)) r (now (codes .exit)) ⌝ }
+    ensures { λ r. ⌜ CountedInto degree (now (dirs .entry)) (now (codes .entry)) r (now (codes .exit)) ⌝ }
 {
     let n = dirs.len() / 3;
-    let mut a = none_refused(0);
+    let mut refused = 0;
     let mut i = 0;
     while i < n {
         let w = file_at(degree, dirs, i);
         codes[i] = code_in(w);
-        a = count_one(i as u64, a, refusal_in(w));
+        refused += refusals_in(w);
         i += 1;
     }
-    a
+    refused
+}
+
+// The same by halves, down to parts of 64 directions or fewer: however many there are, no more than 58 calls are open at
+// a time.
+fn file_halves(degree: u64, dirs: &[i32], codes: &mut [u64]) -> u64
+    requires { ⌜ (length (now dirs) % 3 ≡ 0) × (length (now dirs) ≤ 3 * length (now codes)) ⌝ }
+    ensures { λ r. ⌜ CountedInto degree (now (dirs .entry)) (now (codes .entry)) r (now (codes .exit)) ⌝ }
+{
+    let n = dirs.len() / 3;
+    if n <= 64 {
+        return file_each(degree, dirs, codes);
+    }
+    let h = n / 2;
+    let k = 3 * h;
+    let a = file_halves(degree, &dirs[..k], codes);
+    let b = file_halves(degree, &dirs[k..], &mut codes[h..]);
+    a + b
+}
+
+// The first place that has 0; the length where there is none.
+fn first_zero(codes: &[u64]) -> usize
+    ensures { λ r. ⌜ r ≡ firstPlace isZero (now (codes .entry)) ⌝ }
+{
+    let mut place = 0;
+    while place < codes.len() {
+        if codes[place] == 0 {
+            return place;
+        }
+        place += 1;
+    }
+    place
+}
+
+// The answer, where so many are refused: the first is the first with the code 0, and is asked once more for its refusal.
+fn tell(degree: u64, dirs: &[i32], codes: &[u64], refused: u64) -> SweepAnswer
+    requires { ⌜ ((refused ≡ 0 → ⊥) → 3 * firstPlace isZero (now codes) + 2 < length (now dirs)) ⌝ }
+    ensures { λ r. ⌜ Tells degree (now (dirs .entry)) (firstPlace isZero (now (codes .entry))) refused r ⌝ }
+{
+    if refused == 0 {
+        return none_refused(0);
+    }
+    let place = first_zero(codes);
+    SweepAnswer {
+        refusal: 0,
+        refused,
+        place: place as u64,
+        first: file_at(degree, dirs, place),
+    }
 }
 
 // Filing many directions, each as the single call files it. A refused one writes 0 in its own place, and the sweep goes
-// on. More than 64 are two sweeps, of the first half and of the rest: however many there are, no more than 58 calls are
-// open at a time.
+// on. (A short sweep takes the short way, which costs no more than its single calls.)
 pub fn sweep(degree: u64, dirs: &[i32], codes: &mut [u64]) -> SweepAnswer
     ensures { λ r. ⌜ SweepResult degree (now (dirs .entry)) (now (codes .entry)) r (now (codes .exit)) ⌝ }
 {
     if 24 < degree {
         return none_refused(1);
     }
-    let n = dirs.len() / 3;
     if dirs.len() % 3 != 0 {
         return none_refused(9);
     }
+    let n = dirs.len() / 3;
     if codes.len() < n {
         return none_refused(9);
     }
     if n <= 64 {
-        return file_each(degree, dirs, codes);
+        let refused = file_each(degree, dirs, codes);
+        return tell(degree, dirs, codes, refused);
     }
-    let h = n / 2;
-    let k = 3 * h;
-    let a = sweep(degree, &dirs[..k], codes);
-    let b = sweep(degree, &dirs[k..], &mut codes[h..]);
-    join(h as u64, a, b)
+    let refused = file_halves(degree, dirs, codes);
+    tell(degree, dirs, codes, refused)
 }

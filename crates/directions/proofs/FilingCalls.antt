@@ -2,7 +2,7 @@
 use mathlib.Core.Path.{_≡_, refl, sym, ap, _∙_}
 use mathlib.Core.List.{List}
 use mathlib.Core.Logic.{⊎-elim}
-use Prim.Native.Nat.{ℕ, zero, suc, _+_, _≤_, _<_}
+use Prim.Native.Nat.{ℕ, zero, suc, _+_, _^_, _≤_, _<_}
 use native.Mathlib.Omega.{arith}
 use lib.ListN.{length, length-append}
 use borrow.Author.Tests.{lt-ltb, le-ltb}
@@ -11,7 +11,7 @@ use Rattle.words.specs.Words.{wordOf}
 use Rattle.golden.proofs.IntegerOrder.{le-or-lt}
 use Rattle.words.specs.Family.{codeOf, codeAnswer, noCode}
 use Rattle.words.specs.declared.CodeAnswer.{CodeAnswer}
-use Rattle.words.proofs.Codes.{code-fields}
+use Rattle.words.proofs.Codes.{code-fields, code-below}
 use Rattle.corners.specs.Answers.{countAnswer}
 use Rattle.directions.specs.Answers.{FileAnswer, ListAnswer}
 use Rattle.net.proofs.Flips.{each-length}
@@ -67,6 +67,13 @@ pub refused-code : (n : ℕ) (d : Direction) (s : CodeAnswer) → FileAnswer n d
     → s .code .0 ≡ 0
 refused-code n d s p k = ⊎-elim (λ z. absurd (k (p .answered z .number)))
     (λ some. ap (λ (a : CodeAnswer). a .code .0) (p .refused some)) (answers-or-not (refuseFile n d))
+
+-- a code is a word, and a refusal a small number
+pub answer-small : (n : ℕ) (d : Direction) (s : CodeAnswer) → FileAnswer n d s
+    → (s .code .0 < 2 ^ 64) × (s .refusal < 12)
+answer-small n d s p = ⊎-elim
+    (λ z. let a = p .answered z in (code-below (a .is .code), omega (arith, a .number)))
+    (λ k. rw (p .refused k) (omega arith, refuse-small n d)) (answers-or-not (refuseFile n d))
 
 -- ---- list
 

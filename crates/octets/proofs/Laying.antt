@@ -7,8 +7,8 @@ use native.Mathlib.Omega.{arith}
 use native.Mathlib.Nat.{mod-eq-of-lt, one-le-pow, pow-succ', add-mul, mul-assoc, mul-comm, mul-suc}
 use lib.Arith.{mod-mul}
 use lib.IntN.{ℤ, pos, negsuc, negℤ, _-ℤ_}
-use lib.ListN.{length, getD, take, drop, length-append}
-use lib.Seq.{take-at, drop-at, drop-drop}
+use lib.ListN.{length, getD, take, drop, length-append, length-drop}
+use lib.Seq.{take-at, drop-at, drop-drop, take-take, take-add, length-take-le}
 use mir.Syntax.{w32}
 use mir.Val.{SFits, toZ, ofZ}
 use mir.ValLaws.{toZ-ofZ}
@@ -16,7 +16,7 @@ use borrow.Author.Tests.{lt-ltb, le-ltb}
 use borrow.Rule.Slice.PartMut.{putMid}
 use Rattle.frame.specs.Answers.{over}
 use Rattle.frame.proofs.Lengths.{two-parts, over-long}
-use Rattle.octets.specs.Bytes.{bytesOf, bytes, readOn, numberOf, numberAt, signed}
+use Rattle.octets.specs.Bytes.{bytesOf, bytes, readOn, numberOf, numberAt, signed, signedNumbers}
 
 -- ---- one number
 
@@ -61,6 +61,12 @@ bytes-long k [] = omega arith
 bytes-long k (w ∷ ws) =
     length-append (bytesOf k w) (bytes k ws)
     ∙ omega (arith, bytes-of-long k w, bytes-long k ws, mul-suc k (length ws))
+
+pub bytes-append : (k : ℕ) (ws vs : List ℕ) → bytes k (ws ++ vs) ≡ bytes k ws ++ bytes k vs
+unfolding bytes
+bytes-append k [] vs = refl
+bytes-append k (w ∷ ws) vs =
+    ap (λ (l : List ℕ). bytesOf k w ++ l) (bytes-append k ws vs) ∙ sym (append-assoc (bytesOf k w) (bytes k ws) (bytes k vs))
 
 -- number i of them, whatever follows
 taken : (k : ℕ) (ws rest : List ℕ) (i : ℕ) → i < length ws
@@ -151,3 +157,45 @@ module _ (w : ℕ) (l : 2147483648 ≤ w) (h : w < 4294967296) where
       let e : 4294967296 - w ≡ suc (4294967295 - w) = omega (arith, h) in
       toZ-ofZ w32 _ negative-fits ∙ is-less
       ∙ rw (le-ltb (2 * w) (256 ^ 4) (omega (arith, l))) (ap (λ (m : ℕ). negℤ (pos m)) (sym e))
+
+-- ---- many signed numbers
+
+pub signed-long : (k m : ℕ) (bs : List ℕ) → length (signedNumbers k m bs) ≡ m
+unfolding signedNumbers
+signed-long k zero bs = refl
+signed-long k (suc m) bs = ap suc (signed-long k m (drop k bs))
+
+-- one more
+pub signed-next : (k m : ℕ) (bs : List ℕ)
+    → signedNumbers k (suc m) bs ≡ signedNumbers k m bs ++ (signed k (numberAt k bs m) ∷ [])
+unfolding signedNumbers
+signed-next k zero bs =
+    let e : k * 0 ≡ 0 = omega arith in
+    ap (λ (j : ℕ). signed k (numberOf (take k (drop j bs))) ∷ []) (sym e)
+signed-next k (suc m) bs =
+    let e : k + k * m ≡ k * suc m = omega (arith, mul-suc k m) in
+    ap (λ (l : List ℤ). signed k (numberOf (take k bs)) ∷ l) (signed-next k m (drop k bs)
+    ∙ ap (λ (b : List ℕ). signedNumbers k m (drop k bs) ++ (signed k (numberOf (take k b)) ∷ []))
+    (drop-drop (k * m) k bs ∙ ap (λ (j : ℕ). drop j bs) e))
+
+-- in two parts
+pub signed-parts : (k h m : ℕ) (bs : List ℕ) → k * h ≤ length bs
+    → signedNumbers k (h + m) bs ≡ signedNumbers k h (take (k * h) bs) ++ signedNumbers k m (drop (k * h) bs)
+unfolding signedNumbers
+signed-parts k zero m bs l =
+    let e : 0 + m ≡ m = omega arith in
+    let z : 0 ≡ k * 0 = omega arith in
+    (λ i. signedNumbers k (e i) (drop (z i) bs))
+signed-parts k (suc h) m bs l =
+    let s = k * suc h in
+    let t : s ≡ k + k * h = omega (arith, mul-suc k h) in
+    let e : suc h + m ≡ suc (h + m) = omega arith in
+    let first : take k bs ≡ take k (take s bs) = sym (take-take k s bs (omega (arith, t))) in
+    let rest : drop k (take s bs) ≡ take (k * h) (drop k bs) =
+    ap (λ (j : ℕ). drop k (take j bs)) t ∙ ap (drop k) (take-add k (k * h) bs)
+    ∙ drop-at (take k bs) (take (k * h) (drop k bs)) k (length-take-le k bs (omega (arith, l, t))) in
+    let more = signed-parts k h m (drop k bs) (omega (arith, l, t, length-drop k bs)) in
+    ap (λ (j : ℕ). signedNumbers k j bs) e
+    ∙ (λ i. signed k (numberOf (first i)) ∷ more i)
+    ∙ (λ i. signed k (numberOf (take k (take s bs))) ∷ (signedNumbers k h (sym rest i)
+    ++ signedNumbers k m ((drop-drop (k * h) k bs ∙ ap (λ (j : ℕ). drop j bs) (sym t)) i)))

@@ -1,7 +1,7 @@
 -- Document 02, 2026-01 and 2026-04: numbers as bytes, and bytes as numbers. Assumes nothing.
 use Prim.Native.Nat.{ℕ, zero, suc, _+_, _-_, _*_, _/_, _%_, _^_}
 use mathlib.Core.Bool.{cond}
-use mathlib.Core.List.{List, [], _∷_, _++_, map}
+use mathlib.Core.List.{List, [], _∷_, _++_}
 use lib.Dec.{ltb}
 use lib.IntN.{ℤ, pos, negℤ}
 use lib.ListN.{take, drop}
@@ -28,14 +28,11 @@ numberOf bs = readOn 0 bs
 abbrev pub numberAt : (k : ℕ) (bs : List ℕ) (i : ℕ) → ℕ
 numberAt k bs i = numberOf (take k (drop (k * i) bs))
 
--- the first m of them
-unfoldable pub numbers : (k m : ℕ) → List ℕ → List ℕ
-numbers k zero bs = []
-numbers k (suc m) bs = numberOf (take k bs) ∷ numbers k m (drop k bs)
-
 -- "signed": the number of k bytes in two's complement, from the half of all on less 256^k
 unfoldable pub signed : (k w : ℕ) → ℤ
 signed k w = cond (ltb (2 * w) (256 ^ k)) (pos w) (negℤ (pos (256 ^ k - w)))
 
-abbrev pub signedNumbers : (k m : ℕ) → List ℕ → List ℤ
-signedNumbers k m bs = map (signed k) (numbers k m bs)
+-- the first m of the numbers that stand in bytes, k for each, as signed ones
+unfoldable pub signedNumbers : (k m : ℕ) → List ℕ → List ℤ
+signedNumbers k zero bs = []
+signedNumbers k (suc m) bs = signed k (numberOf (take k bs)) ∷ signedNumbers k m (drop k bs)

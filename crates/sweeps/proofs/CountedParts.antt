@@ -25,17 +25,12 @@ use Rattle.sweeps.specs.Means.Counted.{Counted, CountedInto, isZero, Tel
 use Rattle.sweeps.specs.declared.SweepAnswer.{SweepAnswer}
 use Rattle.sweeps.proofs.SingleCalls.{singles-append, singles-long, codes-append, refusals-append, codes-long}
 use Rattle.sweeps.proofs.SingleCalls.{refusals-long, many, refusal-at}
-use Rattle.sweeps.proofs.Told.{non-append, told-none, told-some, first-refused}
+use Rattle.sweeps.proofs.Told.{non-append, non-most, told-none, told-some, first-refused}
 
 -- ---- what is counted
 
 pub counted-long : {n : ℕ} {l : List ℤ} {m : ℕ} {cs : List ℕ} → Counted n l m cs → length l ≡ 3 * length cs
 counted-long s = omega (arith, singles-long (s .each), ap length (s .are), codes-long (s .singles))
-
-pub non-most : (fs : List ℕ) → nonZeros fs ≤ length fs
-non-most [] = omega arith
-non-most (zero ∷ fs) = omega (arith, non-most fs)
-non-most (suc f ∷ fs) = omega (arith, non-most fs)
 
 -- no more than there are
 pub counted-most : {n : ℕ} {l : List ℤ} {m : ℕ} {cs : List ℕ} → Counted n l m cs → 3 * m ≤ length l

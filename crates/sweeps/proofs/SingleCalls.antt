@@ -1,13 +1,14 @@
 -- The answers of the single calls: one list of them, of two parts, place by place. Assumes nothing.
 use mathlib.Core.Path.{_≡_, _∙_, refl, sym, ap, subst}
 use mathlib.Core.List.{List, [], _∷_, _++_}
-use Prim.Native.Nat.{ℕ, zero, suc, _+_, _*_, _/_, _%_, _<_}
+use Prim.Native.Nat.{ℕ, zero, suc, _+_, _*_, _/_, _%_, _^_, _<_}
 use native.Mathlib.Omega.{arith}
 use lib.IntN.{ℤ, pos}
 use lib.ListN.{length, getD, List·getD-map}
 use Rattle.words.specs.Family.{noCode}
 use Rattle.words.specs.declared.CodeAnswer.{CodeAnswer}
 use Rattle.directions.specs.Answers.{FileAnswer}
+use Rattle.directions.proofs.FilingCalls.{answer-small}
 use Rattle.directions.proofs.OneFiling.{file-one, file-some}
 use Rattle.grid.specs.Writing.{towards}
 use Rattle.sweeps.specs.Sweeps.{Singles, done, then, codesOf, refusalsOf}
@@ -96,3 +97,17 @@ module _ {n : ℕ} {dirs : List ℤ} {rs : List CodeAnswer} (p : Singles n dirs 
       → getD (refusalsOf rs) i 0 ≡ s .refusal
   refusal-at i s l f =
       List·getD-map (λ (r : CodeAnswer). r .refusal) rs i (noCode 0) ∙ ap (λ (r : CodeAnswer). r .refusal) (is-at i s l f)
+
+-- ---- sizes
+
+pub codes-small : {n : ℕ} {dirs : List ℤ} {rs : List CodeAnswer} → Singles n dirs rs → (i : ℕ)
+    → getD (codesOf rs) i 0 < 2 ^ 64
+codes-small done i = omega arith
+codes-small {n} (then f a) zero = answer-small n _ _ f .0
+codes-small (then f a) (suc i) = codes-small a i
+
+pub refusals-small : {n : ℕ} {dirs : List ℤ} {rs : List CodeAnswer} → Singles n dirs rs → (i : ℕ)
+    → getD (refusalsOf rs) i 0 < 12
+refusals-small done i = omega arith
+refusals-small {n} (then f a) zero = answer-small n _ _ f .1
+refusals-small (then f a) (suc i) = refusals-small a i

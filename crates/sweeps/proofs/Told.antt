@@ -3,7 +3,7 @@
 use mathlib.Core.Path.{_≡_, _∙_, refl, sym, ap}
 use mathlib.Core.Bool.{true, false, true≢false}
 use mathlib.Core.List.{List, [], _∷_, _++_}
-use Prim.Native.Nat.{ℕ, zero, suc, _+_, _<_}
+use Prim.Native.Nat.{ℕ, zero, suc, _+_, _≤_, _<_}
 use native.Mathlib.Omega.{arith}
 use lib.ListN.{length, getD}
 use Rattle.frame.specs.Lists.{some, firstPlace}
@@ -160,3 +160,14 @@ module _ (h : ℕ) (a b : SweepAnswer) where
       go zero zero e f = refl
       go zero (suc k) e f = absurd (omega (arith, f))
       go (suc m) k e f = absurd (omega (arith, e))
+
+-- ---- sizes
+
+pub non-most : (fs : List ℕ) → nonZeros fs ≤ length fs
+non-most [] = omega arith
+non-most (zero ∷ fs) = omega (arith, non-most fs)
+non-most (suc f ∷ fs) = omega (arith, non-most fs)
+
+pub told-most : (fs : List ℕ) → (told fs .refused ≤ length fs) × (told fs .place ≤ length fs)
+told-most fs = by-told fs (λ e q. rw q (omega arith, omega arith))
+    (λ m e q. rw q (omega (arith, non-most fs, e), omega (arith, first-refused fs m e .0)))

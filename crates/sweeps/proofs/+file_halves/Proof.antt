@@ -29,36 +29,24 @@ abbrev file-halves-below : ℕ → In 2 file-halves-kinds.ps
 file-halves-below t =
     and 2 file-halves-kinds.ps (falls 2 file-halves-kinds.ps _<_ μ-file-halves t) file-halves.Pre
 
-file-halves-file-each-requires : (t : ℕ) → file-halves-lts.Need-file-each-requires (
+abbrev calls : ℕ → file-halves-lts.Claims
+calls t = (
   file-each-reads.Asked,
   file-each-reads.Learnt,
   file-halves-below t,
   file-halves.Post,
-) (file-halves-at t) file-halves.Post
+)
+
+file-halves-file-each-requires : (t : ℕ) → file-halves-lts.Need-file-each-requires (calls t) (file-halves-at t) file-halves.Post
 file-halves-file-each-requires t c κs = let s = c .before .before .before in (s .pre .1 .0, s .pre .1 .1)
 
-file-halves-same-length : (t : ℕ) → file-halves-lts.Need-same-length (
-  file-each-reads.Asked,
-  file-each-reads.Learnt,
-  file-halves-below t,
-  file-halves.Post,
-) (file-halves-at t) file-halves.Post
+file-halves-same-length : (t : ℕ) → file-halves-lts.Need-same-length (calls t) (file-halves-at t) file-halves.Post
 file-halves-same-length t c = c .before .before .file-each .kept .1 .1 .0
 
-file-halves-returns : (t : ℕ) → file-halves-lts.Need-returns (
-  file-each-reads.Asked,
-  file-each-reads.Learnt,
-  file-halves-below t,
-  file-halves.Post,
-) (file-halves-at t) file-halves.Post
+file-halves-returns : (t : ℕ) → file-halves-lts.Need-returns (calls t) (file-halves-at t) file-halves.Post
 file-halves-returns t c = c .before .before .file-each .ensures
 
-file-halves-mul-k : (t : ℕ) → file-halves-lts.Need-mul-k (
-  file-each-reads.Asked,
-  file-each-reads.Learnt,
-  file-halves-below t,
-  file-halves.Post,
-) (file-halves-at t) file-halves.Post
+file-halves-mul-k : (t : ℕ) → file-halves-lts.Need-mul-k (calls t) (file-halves-at t) file-halves.Post
 file-halves-mul-k t c = search needs
 
 file-halves-slice-aggregate-file-halves :
@@ -72,87 +60,37 @@ file-halves-slice-aggregate-file-halves t c =
     let dirs = now (c .before .before .before .args .dirs) in
     sym (length-take-le (3 * (length dirs / 3 / 2)) dirs (omega arith))
 
-file-halves-file-halves-requires : (t : ℕ) → file-halves-lts.Need-file-halves-requires (
-  file-each-reads.Asked,
-  file-each-reads.Learnt,
-  file-halves-below t,
-  file-halves.Post,
-) (file-halves-at t) file-halves.Post
+file-halves-file-halves-requires : (t : ℕ) → file-halves-lts.Need-file-halves-requires (calls t) (file-halves-at t) file-halves.Post
 file-halves-file-halves-requires t c κs =
     let dirs = now (c .before .before .before .before .args .dirs) in
     let l = length-take-le (3 * (length dirs / 3 / 2)) dirs (omega arith) in
     (omega arith, (omega arith, omega arith))
 
-file-halves-mul-file-halves : (t : ℕ) → file-halves-lts.Need-mul-file-halves (
-  file-each-reads.Asked,
-  file-each-reads.Learnt,
-  file-halves-below t,
-  file-halves.Post,
-) (file-halves-at t) file-halves.Post
+file-halves-mul-file-halves : (t : ℕ) → file-halves-lts.Need-mul-file-halves (calls t) (file-halves-at t) file-halves.Post
 file-halves-mul-file-halves t c = search needs
 
-file-halves-sub-file-halves : (t : ℕ) → file-halves-lts.Need-sub-file-halves (
-  file-each-reads.Asked,
-  file-each-reads.Learnt,
-  file-halves-below t,
-  file-halves.Post,
-) (file-halves-at t) file-halves.Post
+file-halves-sub-file-halves : (t : ℕ) → file-halves-lts.Need-sub-file-halves (calls t) (file-halves-at t) file-halves.Post
 file-halves-sub-file-halves t c = search needs
 
-file-halves-part-file-halves-start : (t : ℕ) → file-halves-lts.Need-part-file-halves-start (
-  file-each-reads.Asked,
-  file-each-reads.Learnt,
-  file-halves-below t,
-  file-halves.Post,
-) (file-halves-at t) file-halves.Post
+file-halves-part-file-halves-start : (t : ℕ) → file-halves-lts.Need-part-file-halves-start (calls t) (file-halves-at t) file-halves.Post
 file-halves-part-file-halves-start t c = search needs
 
-file-halves-part-file-halves-end : (t : ℕ) → file-halves-lts.Need-part-file-halves-end (
-  file-each-reads.Asked,
-  file-each-reads.Learnt,
-  file-halves-below t,
-  file-halves.Post,
-) (file-halves-at t) file-halves.Post
+file-halves-part-file-halves-end : (t : ℕ) → file-halves-lts.Need-part-file-halves-end (calls t) (file-halves-at t) file-halves.Post
 file-halves-part-file-halves-end t c = search needs
 
-file-halves-mul-file-halves-2 : (t : ℕ) → file-halves-lts.Need-mul-file-halves-2 (
-  file-each-reads.Asked,
-  file-each-reads.Learnt,
-  file-halves-below t,
-  file-halves.Post,
-) (file-halves-at t) file-halves.Post
+file-halves-mul-file-halves-2 : (t : ℕ) → file-halves-lts.Need-mul-file-halves-2 (calls t) (file-halves-at t) file-halves.Post
 file-halves-mul-file-halves-2 t c = search needs
 
-file-halves-sub-file-halves-2 : (t : ℕ) → file-halves-lts.Need-sub-file-halves-2 (
-  file-each-reads.Asked,
-  file-each-reads.Learnt,
-  file-halves-below t,
-  file-halves.Post,
-) (file-halves-at t) file-halves.Post
+file-halves-sub-file-halves-2 : (t : ℕ) → file-halves-lts.Need-sub-file-halves-2 (calls t) (file-halves-at t) file-halves.Post
 file-halves-sub-file-halves-2 t c = search needs
 
-file-halves-part-file-halves-start-2 : (t : ℕ) → file-halves-lts.Need-part-file-halves-start-2 (
-  file-each-reads.Asked,
-  file-each-reads.Learnt,
-  file-halves-below t,
-  file-halves.Post,
-) (file-halves-at t) file-halves.Post
+file-halves-part-file-halves-start-2 : (t : ℕ) → file-halves-lts.Need-part-file-halves-start-2 (calls t) (file-halves-at t) file-halves.Post
 file-halves-part-file-halves-start-2 t c = search needs
 
-file-halves-part-file-halves-end-2 : (t : ℕ) → file-halves-lts.Need-part-file-halves-end-2 (
-  file-each-reads.Asked,
-  file-each-reads.Learnt,
-  file-halves-below t,
-  file-halves.Post,
-) (file-halves-at t) file-halves.Post
+file-halves-part-file-halves-end-2 : (t : ℕ) → file-halves-lts.Need-part-file-halves-end-2 (calls t) (file-halves-at t) file-halves.Post
 file-halves-part-file-halves-end-2 t c = search needs
 
-file-halves-file-halves-requires-2 : (t : ℕ) → file-halves-lts.Need-file-halves-requires-2 (
-  file-each-reads.Asked,
-  file-each-reads.Learnt,
-  file-halves-below t,
-  file-halves.Post,
-) (file-halves-at t) file-halves.Post
+file-halves-file-halves-requires-2 : (t : ℕ) → file-halves-lts.Need-file-halves-requires-2 (calls t) (file-halves-at t) file-halves.Post
 file-halves-file-halves-requires-2 t c κs =
     let r = c .before .before .before .before in
     let s = r .before .before .before .before .before in
@@ -167,12 +105,7 @@ file-halves-file-halves-requires-2 t c κs =
     simp (length-take, length-drop) (omega arith) in
     (omega arith, (omega arith, omega arith))
 
-file-halves-add-result : (t : ℕ) → file-halves-lts.Need-add-result (
-  file-each-reads.Asked,
-  file-each-reads.Learnt,
-  file-halves-below t,
-  file-halves.Post,
-) (file-halves-at t) file-halves.Post
+file-halves-add-result : (t : ℕ) → file-halves-lts.Need-add-result (calls t) (file-halves-at t) file-halves.Post
 file-halves-add-result t c =
     let q = c .before .before in
     let r = q .before .before .before .before .before in
@@ -188,12 +121,7 @@ file-halves-add-result t c =
     let g : length dirs < 2 ^ 64 = s .good .1 .0 .0 in
     omega arith
 
-file-halves-same-length-2 : (t : ℕ) → file-halves-lts.Need-same-length-2 (
-  file-each-reads.Asked,
-  file-each-reads.Learnt,
-  file-halves-below t,
-  file-halves.Post,
-) (file-halves-at t) file-halves.Post
+file-halves-same-length-2 : (t : ℕ) → file-halves-lts.Need-same-length-2 (calls t) (file-halves-at t) file-halves.Post
 file-halves-same-length-2 t c =
     let q = c .before .before in
     let r = q .before .before .before .before .before in
@@ -204,12 +132,7 @@ file-halves-same-length-2 t c =
     same-len-mid h (length mid - h) mid (q .file-halves2 .last .1 .1 .0) (q .file-halves2 .kept .1 .1 .0)
     ∙ r .file-halves .kept .1 .1 .0
 
-file-halves-returns-2 : (t : ℕ) → file-halves-lts.Need-returns-2 (
-  file-each-reads.Asked,
-  file-each-reads.Learnt,
-  file-halves-below t,
-  file-halves.Post,
-) (file-halves-at t) file-halves.Post
+file-halves-returns-2 : (t : ℕ) → file-halves-lts.Need-returns-2 (calls t) (file-halves-at t) file-halves.Post
 file-halves-returns-2 t c =
     let q = c .before .before in
     let r = q .before .before .before .before .before in
@@ -220,12 +143,7 @@ file-halves-returns-2 t c =
     two-slices h dirs (omega arith) (r .file-halves .ensures) (q .file-halves2 .ensures)
 
 pub +file-halves-spec : {M : Type 1} → statement M
-+file-halves-spec = close μ-file-halves λ t. file-halves-lts.spec (
-  file-each-reads.Asked,
-  file-each-reads.Learnt,
-  file-halves-below t,
-  file-halves.Post,
-)
++file-halves-spec = close μ-file-halves λ t. file-halves-lts.spec (calls t)
     (file-halves-at t)
     file-halves.Post
     (file-halves-file-each-requires t)

@@ -9,7 +9,8 @@ use lib.Seq.{take-all, length-take-le}
 use Rattle.net.specs.Steps.{nonZeros}
 use Rattle.directions.specs.Means.Numbers.{answerFor}
 use Rattle.sweeps.specs.Means.Counted.{CountedInto}
-use Rattle.sweeps.proofs.CountedParts.{non-most, counted-most, into-none, into-long, into-next}
+use Rattle.sweeps.proofs.CountedParts.{counted-most, into-none, into-long, into-next}
+use Rattle.sweeps.proofs.Told.{non-most}
 use Rattle.sweeps.proofs.file_each.Statement.{statement}
 use Rattle.sweeps.proofs.file_each.Tie as tie
 
@@ -66,7 +67,8 @@ refusals-in-requires c κs = tt
 add-refused : tie.Need-add-refused Inv-loop μ-loop
 add-refused c =
     let k = known (c .before .before .before) in
-    omega (arith, k .few, k .inside, k .small, c .refusals-in .ensures, non-most (answerFor (c .before .before .file-at .result) .refusal ∷ []))
+    let one = answerFor (c .before .before .file-at .result) in
+    omega (arith, k .few, k .inside, k .small, c .refusals-in .ensures, non-most (one .refusal ∷ []))
 
 add-i : tie.Need-add-i Inv-loop μ-loop
 add-i c = let k = known (c .before .before .before) in omega (arith, k .inside, k .small)

@@ -38,6 +38,10 @@ sent-one {n} {dirs} {codes} {out} x y p q =
       ),
     )
 
+pub sweep-one : (n : ℕ) (dirs codes out : List ℕ) (x y : ℕ × (List ℕ × List ℕ))
+    → together (SweepBytes n dirs codes out) x → together (SweepBytes n dirs codes out) y → x ≡ y
+sweep-one n dirs codes out x y = answer-one (λ z. sent-one x y)
+
 pub sweep-keeps : (n : ℕ) (dirs codes out : List ℕ)
     → KeepsLent (refuseSweep n dirs codes out) (SweepBytes n dirs codes out) (λ r. r) (λ f. f) (codes, out)
 sweep-keeps n dirs codes out =
@@ -54,7 +58,7 @@ sweep-keeps n dirs codes out =
         put = refl;
       },
     )))
-    (λ x y. answer-one (λ z. sent-one x y))
+    (sweep-one n dirs codes out)
 
 -- ---- what a host reads
 

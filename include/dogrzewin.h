@@ -15,7 +15,8 @@
  * What the caller owes. These cannot be checked by a call, and what is proved rests on them:
  *
  *     - The program is for x86-64 Linux: the toolchain makes static libraries for no other processor.
- *     - out points to out_length bytes that may be read and written, or it is any pointer, as NULL, with the length 0.
+ *     - out points to out_length bytes that may be read and written, or it is any pointer, as NULL, with the length 0;
+ *       so does codes with codes_length, and dirs with dirs_length to bytes that may be read. No two of these overlap.
  *     - Nothing else touches these bytes before the call returns: no other thread and no signal handler, and where they
  *       lie in a mapped file or in shared memory no other process and no other mapping.
  *     - There is room on the stack. No proof speaks of the stack.
@@ -38,7 +39,7 @@ extern "C" {
 
 /* What a call returns: 0, or a refusal number of the grid's rules. Where several refusals hold, the first in the order
  * 1, 2, 3, 4, 10, 5, 6, 8, 7, 9, 11 is given; each call below names its own in that order. No call here gives 6 or 11.
- * For 9 the lent list is out, and what it needs stands at each call, in bytes. */
+ * For 9 the lent list is out, or one of a sweep's, and what it needs stands at each call, in bytes. */
 enum grid_refusal {
     /* answered */
     GRID_ANSWERED = 0,
@@ -70,7 +71,8 @@ enum grid_refusal {
 enum grid_bytes {
     GRID_CROSS_BYTES = 16,
     GRID_FILE_BYTES = 8,
-    GRID_LIST_BYTES = 56
+    GRID_LIST_BYTES = 56,
+    GRID_SWEEP_BYTES = 24
 };
 
 /* The number in eight bytes, the most significant first: number k of an answer, from 0, is grid_number(out + 8 * k). */
@@ -112,6 +114,17 @@ uint64_t grid_file(uint64_t degree, int32_t x, int32_t y, int32_t z, uint8_t *ou
  * Writes: 8 + 8 * count bytes: the count, and then the codes, rising. The rest of the 56 bytes stays as it is.
  * Refusals: 1, 8, 7, 9. (9 where out_length is below GRID_LIST_BYTES, whatever the count is.) */
 uint64_t grid_list(uint64_t degree, int32_t x, int32_t y, int32_t z, uint8_t *out, size_t out_length);
+
+/* Files many directions at once, each as grid_file does: a sweep. dirs has twelve bytes for each direction, x, y and z,
+ * four bytes for each, in two's complement and the most significant first. A refused direction is no refusal of the
+ * sweep: it has the code 0 in its place, and the sweep goes on.
+ *
+ * Writes: 8 bytes of codes for each direction, in their order; and 24 bytes of out: how many directions are refused, and
+ * the first one's place, from 0, and its refusal, 7 or 8; all three are 0 where none is.
+ * Refusals: 1, 9. (9 where dirs_length is no multiple of 12, or codes_length is below 8 for each direction, or out_length
+ * below GRID_SWEEP_BYTES.) */
+uint64_t grid_sweep(uint64_t degree, const uint8_t *dirs, size_t dirs_length, uint8_t *codes, size_t codes_length,
+                    uint8_t *out, size_t out_length);
 
 #ifdef __cplusplus
 }

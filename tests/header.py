@@ -212,16 +212,35 @@ def wrong_header(text, functions):
 
 # ---- what occurs in the answers
 
+def lent_lengths(words):
+    """The lengths of the lent slices of a call, which are its last words: each is 'LENGTH FIRST' or 'null'."""
+    lengths = []
+    while words:
+        lengths.append(0 if words[0] == "null" else int(words[0]))
+        words = words[1:] if words[0] == "null" else words[2:]
+    return lengths
+
+
+def out_length(words):
+    """The length of a call's out; None where it has none, or where another slice is too short for a sweep."""
+    if words[0] == "sweep":
+        given = 0 if words[2] in ("null", "empty") else len(words[2]) // 2
+        codes, out = lent_lengths(words[3:])
+        return out if given % 12 == 0 and 8 * (given // 12) <= codes else None
+    lent = {"cross": 3, "file": 5, "list": 5}.get(words[0])
+    return lent_lengths(words[lent:])[0] if lent else None
+
+
 def seen(calls, answers):
-    """Of each call its refusals, and of each of them the lengths of the slices."""
+    """Of each call its refusals, and of each of them the lengths of out."""
     found = {}
     if len(calls) != len(answers):
         raise Unreadable(f"{len(calls)} calls with {len(answers)} answers")
     for call, answer in zip(calls, answers):
         words = call.split()
-        length = int(words[-2]) if len(words) > 3 and words[-1] != "null" else 0
-        name = "grid_" + words[0].replace("-", "_")
-        found.setdefault(name, {}).setdefault(int(answer.split()[0]), set()).add(length)
+        name, length = "grid_" + words[0].replace("-", "_"), out_length(words)
+        lengths = found.setdefault(name, {}).setdefault(int(answer.split()[0]), set())
+        lengths |= {length} - {None}
     return found
 
 
@@ -250,6 +269,7 @@ PLANTED = [
     ("a pointer to what may not be written", "edge, uint8_t *out", "edge, const uint8_t *out"),
     ("a length of another type", "edge, uint8_t *out, size_t out_length", "edge, uint8_t *out, uint32_t out_length"),
     ("two parameters exchanged", "grid_cross(uint64_t code, uint64_t edge", "grid_cross(uint64_t edge, uint64_t code"),
+    ("a pointer to what is only read", "const uint8_t *dirs", "uint8_t *dirs"),
     ("a length before its pointer", "edge, uint8_t *out, size_t out_length", "edge, size_t out_length, uint8_t *out"),
     ("a parameter missing", "grid_file(uint64_t degree, int32_t x, ", "grid_file(uint64_t degree, "),
     ("a parameter too many", "grid_check_triangle(uint64_t word", "grid_check_triangle(uint64_t word, uint64_t more"),
@@ -283,6 +303,7 @@ PLANTED_FOR_ANSWERS = [
     ("another refusal", "Refusals: 1, 2, 3, 4, 5, 9.", "Refusals: 1, 2, 3, 4, 6, 9."),
     ("too many bytes", "GRID_LIST_BYTES = 56", "GRID_LIST_BYTES = 57"),
     ("too few bytes", "GRID_CROSS_BYTES = 16", "GRID_CROSS_BYTES = 15"),
+    ("too many bytes of a sweep", "GRID_SWEEP_BYTES = 24", "GRID_SWEEP_BYTES = 30"),
 ]
 PLANTED_IN_RATTLE = [
     ("a type that C has no name for here", "word: u64", "word: u128"),
@@ -298,8 +319,10 @@ PAIRS = [
     *((f"cross 0x{n} 1 16 0", f"{n} 00") for n in (0, 1, 2, 3, 4, 5)),
     *((f"file {n} 0 0 1 8 0", f"{n} 00") for n in (0, 1, 7, 8)),
     *((f"list {n} 0 0 1 56 0", f"{n} 00") for n in (0, 1, 7, 8)),
-    *((f"{call} 0", "9 00") for call in ("cross 0x1 1 15", "file 1 0 0 1 7", "list 1 0 0 1 55")),
-    *((f"{call} null", "9") for call in ("cross 0x1 1", "file 1 0 0 1", "list 1 0 0 1")),
+    *((f"sweep {n} empty null 24 0", f"{n} 00") for n in (0, 1)),
+    *((f"{call} 0", "9 00") for call in ("cross 0x1 1 15", "file 1 0 0 1 7", "list 1 0 0 1 55", "sweep 1 empty null 23")),
+    *((f"{call} null", "9") for call in ("cross 0x1 1", "file 1 0 0 1", "list 1 0 0 1", "sweep 1 empty 8 0")),
+    ("sweep 1 00 8 0 30 0", "9 00"),
 ]
 
 

@@ -1,12 +1,13 @@
 /* The test bench of the library for programs in C: a call a line in, its answer a line out. LINES.md, beside this
  * file, says how they are written; one space stands between two fields.
  *
- * A call with a slice is made twice. Once the slice ends where memory begins that may not be touched, once it begins
- * where such memory ends; on its other side the bytes must stay as they are. Both calls must answer the same.
+ * A call with slices is made twice. Once each slice ends where memory begins that may not be touched, once it begins
+ * where such memory ends; on its other side the bytes must stay as they are, and so must a slice that is only read.
+ * Both calls must answer the same.
  *
  * The status is 0; 1 where a call touches what it may not, or answers the two ways differently; 2 where a line or an
  * option cannot be read; 3 where the input, the output or memory fails. An option breaks one of these rules on purpose,
- * at each call with a slice, so that a test can see that the bench notices:
+ * at the first slice of each call, so that a test can see that the bench notices:
  *
  *     --trap-end  --trap-start       reads the byte beyond the slice's end, before its start
  *     --around-end  --around-start   alters the byte next to the slice, where it stands at the end, at the start
@@ -25,7 +26,7 @@
 enum { SAME = 0, WRONG = 1, UNREAD = 2, LOST = 3 };
 
 /* A region is as wide as the widest page that Linux has on x86-64 or Arm, so that it can be shut off on either. */
-enum { REGION = 0x10000, AROUND = 256, MOST_BYTES = 64, MOST_FIELDS = 7 };
+enum { REGION = 0x10000, AROUND = 256, MOST_BYTES = 384, MOST_FIELDS = 7, MOST_SLICES = 3 };
 
 /* ---- messages */
 
@@ -49,7 +50,7 @@ static char trap_text[80];
 static int trap_length;
 
 static void prepare_trap_text(void) {
-    trap_length = snprintf(trap_text, sizeof trap_text, "line %lu: touched memory outside out\n", line_number);
+    trap_length = snprintf(trap_text, sizeof trap_text, "line %lu: touched memory outside a slice\n", line_number);
 }
 
 static void on_trap(int signal_number) {
@@ -71,12 +72,18 @@ static void catch_traps(void) {
 
 /* ---- reading a line */
 
+/* A slice before the call: a NULL pointer, or so many bytes. */
+struct slice {
+    int is_null, is_read_only;
+    size_t length;
+    uint8_t bytes[MOST_BYTES];
+};
+
 struct arguments {
     uint64_t number[2];
     int32_t coordinate[3];
-    int has_slice, is_null;
-    size_t length;
-    uint8_t first;
+    int slices;
+    struct slice slice[MOST_SLICES];
 };
 
 /* A number of digits only, at most `most`. */
@@ -131,42 +138,74 @@ static int cut(char *line, char *fields[MOST_FIELDS]) {
     return count;
 }
 
-static void read_slice(char **fields, int count, struct arguments *into) {
-    into->has_slice = 1;
-    into->is_null = count == 1 && strcmp(fields[0], "null") == 0;
-    if (!into->is_null && count != 2) {
+/* A lent slice, 'LENGTH FIRST' or 'null': answers how many fields it takes. */
+static int read_lent(char **fields, int count, struct slice *into) {
+    uint8_t first;
+    into->is_null = strcmp(fields[0], "null") == 0;
+    if (into->is_null) {
+        return 1;
+    }
+    if (count < 2) {
         stop(UNREAD, "a slice is 'LENGTH FIRST' or 'null'");
     }
-    if (!into->is_null) {
-        into->length = (size_t)read_digits(fields[0], 10, MOST_BYTES);
-        into->first = (uint8_t)read_digits(fields[1], 10, UINT8_MAX);
+    into->length = (size_t)read_digits(fields[0], 10, MOST_BYTES);
+    first = (uint8_t)read_digits(fields[1], 10, UINT8_MAX);
+    for (size_t k = 0; k < into->length; k++) {
+        into->bytes[k] = (uint8_t)(first + k);
+    }
+    return 2;
+}
+
+/* A slice that is only read: two hexadecimal digits a byte, 'empty' or 'null'. */
+static void read_bytes(const char *text, struct slice *into) {
+    into->is_read_only = 1;
+    into->is_null = strcmp(text, "null") == 0;
+    if (into->is_null || strcmp(text, "empty") == 0) {
+        return;
+    }
+    into->length = strlen(text) / 2;
+    if (strlen(text) % 2 != 0 || into->length > MOST_BYTES) {
+        stop(UNREAD, "bytes are two digits each, and at most 384");
+    }
+    for (size_t k = 0; k < into->length; k++) {
+        char digits[3] = {text[2 * k], text[2 * k + 1], '\0'};
+        into->bytes[k] = (uint8_t)read_digits(digits, 16, UINT8_MAX);
     }
 }
 
-/* ---- the calls: their names, a letter for each argument (w a word, n a number, c a coordinate, o the slice) */
+/* ---- the calls: their names, a letter for each argument (w a word, n a number, c a coordinate, r a slice that is only
+ * read, o a lent one) */
 
-typedef uint64_t call_function(const struct arguments *a, uint8_t *out, size_t out_length);
+/* Where the slices of a call stand. */
+typedef uint64_t call_function(const struct arguments *a, uint8_t *const at[MOST_SLICES]);
 
-static uint64_t check_triangle(const struct arguments *a, uint8_t *out, size_t out_length) {
-    (void)out, (void)out_length;
+static uint64_t check_triangle(const struct arguments *a, uint8_t *const at[MOST_SLICES]) {
+    (void)at;
     return grid_check_triangle(a->number[0]);
 }
 
-static uint64_t check_name(const struct arguments *a, uint8_t *out, size_t out_length) {
-    (void)out, (void)out_length;
+static uint64_t check_name(const struct arguments *a, uint8_t *const at[MOST_SLICES]) {
+    (void)at;
     return grid_check_name(a->number[0]);
 }
 
-static uint64_t cross(const struct arguments *a, uint8_t *out, size_t out_length) {
-    return grid_cross(a->number[0], a->number[1], out, out_length);
+static uint64_t cross(const struct arguments *a, uint8_t *const at[MOST_SLICES]) {
+    return grid_cross(a->number[0], a->number[1], at[0], a->slice[0].length);
 }
 
-static uint64_t file(const struct arguments *a, uint8_t *out, size_t out_length) {
-    return grid_file(a->number[0], a->coordinate[0], a->coordinate[1], a->coordinate[2], out, out_length);
+static uint64_t file(const struct arguments *a, uint8_t *const at[MOST_SLICES]) {
+    const int32_t *c = a->coordinate;
+    return grid_file(a->number[0], c[0], c[1], c[2], at[0], a->slice[0].length);
 }
 
-static uint64_t list(const struct arguments *a, uint8_t *out, size_t out_length) {
-    return grid_list(a->number[0], a->coordinate[0], a->coordinate[1], a->coordinate[2], out, out_length);
+static uint64_t list(const struct arguments *a, uint8_t *const at[MOST_SLICES]) {
+    const int32_t *c = a->coordinate;
+    return grid_list(a->number[0], c[0], c[1], c[2], at[0], a->slice[0].length);
+}
+
+static uint64_t sweep(const struct arguments *a, uint8_t *const at[MOST_SLICES]) {
+    const struct slice *s = a->slice;
+    return grid_sweep(a->number[0], at[0], s[0].length, at[1], s[1].length, at[2], s[2].length);
 }
 
 struct form {
@@ -180,6 +219,7 @@ static const struct form forms[] = {
     {"cross", "wno", cross},
     {"file", "nccco", file},
     {"list", "nccco", list},
+    {"sweep", "nroo", sweep},
 };
 
 static const struct form *read_form(const char *name) {
@@ -211,9 +251,11 @@ static const struct form *read_line(char *line, struct arguments *into) {
         case 'c':
             into->coordinate[coordinates++] = read_coordinate(fields[at++]);
             break;
+        case 'r':
+            read_bytes(fields[at++], &into->slice[into->slices++]);
+            break;
         default:
-            read_slice(fields + at, count - at, into);
-            at = count;
+            at += read_lent(fields + at, count - at, &into->slice[into->slices++]);
         }
     }
     if (at != count) {
@@ -222,9 +264,9 @@ static const struct form *read_line(char *line, struct arguments *into) {
     return form;
 }
 
-/* ---- memory: a region that may be touched between two that may not */
+/* ---- memory: for each slice a region that may be touched, between two that may not */
 
-static uint8_t *region;
+static uint8_t *regions[MOST_SLICES];
 
 static void shut(uint8_t *place) {
     if (mprotect(place, REGION, PROT_NONE) != 0) {
@@ -233,18 +275,20 @@ static void shut(uint8_t *place) {
 }
 
 /* One region more than is used, so that all can begin at a multiple of their width. */
-static void map_region(void) {
-    uint8_t *all = mmap(NULL, 4 * REGION, PROT_READ | PROT_WRITE, MAP_PRIVATE | MAP_ANONYMOUS, -1, 0);
-    if (all == MAP_FAILED) {
-        fail(LOST, "there is no memory");
+static void map_regions(void) {
+    for (int k = 0; k < MOST_SLICES; k++) {
+        uint8_t *all = mmap(NULL, 4 * REGION, PROT_READ | PROT_WRITE, MAP_PRIVATE | MAP_ANONYMOUS, -1, 0);
+        if (all == MAP_FAILED) {
+            fail(LOST, "there is no memory");
+        }
+        all += REGION - (uintptr_t)all % REGION;
+        regions[k] = all + REGION;
+        shut(regions[k] - REGION);
+        shut(regions[k] + REGION);
     }
-    all += REGION - (uintptr_t)all % REGION;
-    region = all + REGION;
-    shut(region - REGION);
-    shut(region + REGION);
 }
 
-/* ---- making a call with its slice at one end of the region */
+/* ---- making a call with its slices at one end of their regions */
 
 enum place { AT_END, AT_START };
 
@@ -295,42 +339,77 @@ static void check_around(const uint8_t *around, const char *what) {
     }
 }
 
-/* Makes the call, and copies the slice out after it. */
-static uint64_t call_at(enum place place, const struct form *form, const struct arguments *a, uint8_t *bytes) {
-    uint8_t *out = place == AT_END ? region + REGION - a->length : region;
-    uint8_t *around = place == AT_END ? out - AROUND : out + a->length;
+/* Where slice k stands, and where what surrounds it begins. */
+static uint8_t *start_of(enum place place, int k, size_t length) {
+    return place == AT_END ? regions[k] + REGION - length : regions[k];
+}
+
+static uint8_t *around_of(enum place place, uint8_t *start, size_t length) {
+    return place == AT_END ? start - AROUND : start + length;
+}
+
+static uint8_t *set_up(enum place place, int k, const struct slice *slice) {
+    uint8_t *start = start_of(place, k, slice->length);
+    uint8_t *around = around_of(place, start, slice->length);
+    for (size_t j = 0; j < AROUND; j++) {
+        around[j] = known(j);
+    }
+    memcpy(start, slice->bytes, slice->length);
+    return slice->is_null ? NULL : start;
+}
+
+/* What surrounds a slice, and a slice that is only read, are as they were. Copies a lent one out. */
+static void look_at(enum place place, int k, const struct slice *slice, uint8_t *bytes) {
+    uint8_t *start = start_of(place, k, slice->length);
+    uint8_t *around = around_of(place, start, slice->length);
+    check_around(around, place == AT_END ? "altered bytes before a slice" : "altered bytes after a slice");
+    if (slice->is_read_only && memcmp(start, slice->bytes, slice->length) != 0) {
+        stop(WRONG, "altered a slice that is only read");
+    }
+    memcpy(bytes, start, slice->length);
+}
+
+/* Makes the call, and copies the slices out after it. */
+static uint64_t call_at(enum place place, const struct form *form, const struct arguments *a,
+                        uint8_t bytes[MOST_SLICES][MOST_BYTES]) {
+    uint8_t *at[MOST_SLICES] = {NULL, NULL, NULL};
     uint64_t refusal;
-    for (size_t k = 0; k < AROUND; k++) {
-        around[k] = known(k);
+    for (int k = 0; k < a->slices; k++) {
+        at[k] = set_up(place, k, &a->slice[k]);
     }
-    for (size_t k = 0; k < a->length; k++) {
-        out[k] = (uint8_t)(a->first + k);
+    refusal = form->call(a, at);
+    if (a->slices > 0 && at[0] != NULL) {
+        do_damage(place, at[0], a->slice[0].length);
     }
-    refusal = form->call(a, out, a->length);
-    do_damage(place, out, a->length);
-    check_around(around, place == AT_END ? "altered bytes before out" : "altered bytes after out");
-    memcpy(bytes, out, a->length);
+    for (int k = 0; k < a->slices; k++) {
+        look_at(place, k, &a->slice[k], bytes[k]);
+    }
     return refusal;
 }
 
-static uint64_t call_twice(const struct form *form, const struct arguments *a, uint8_t *bytes) {
-    uint8_t again[MOST_BYTES];
+static uint64_t call_twice(const struct form *form, const struct arguments *a, uint8_t bytes[MOST_SLICES][MOST_BYTES]) {
+    static uint8_t again[MOST_SLICES][MOST_BYTES];
     uint64_t refusal = call_at(AT_END, form, a, bytes);
-    if (call_at(AT_START, form, a, again) != refusal || memcmp(bytes, again, a->length) != 0) {
-        stop(WRONG, "the same call with out at another place was answered differently");
+    int same = call_at(AT_START, form, a, again) == refusal;
+    for (int k = 0; k < a->slices; k++) {
+        same = same && memcmp(bytes[k], again[k], a->slice[k].length) == 0;
+    }
+    if (!same) {
+        stop(WRONG, "the same call with its slices at another place was answered differently");
     }
     return refusal;
 }
 
 static void answer(char *line) {
-    struct arguments a;
-    uint8_t bytes[MOST_BYTES];
+    static struct arguments a;
+    static uint8_t bytes[MOST_SLICES][MOST_BYTES];
     const struct form *form = read_line(line, &a);
-    int is_lent = a.has_slice && !a.is_null;
     prepare_trap_text();
-    printf("%" PRIu64, is_lent ? call_twice(form, &a, bytes) : form->call(&a, NULL, 0));
-    for (size_t k = 0; k < a.length; k++) {
-        printf(k == 0 ? " %02x" : "%02x", bytes[k]);
+    printf("%" PRIu64, call_twice(form, &a, bytes));
+    for (int k = 0; k < a.slices; k++) {
+        for (size_t j = 0; !a.slice[k].is_read_only && j < a.slice[k].length; j++) {
+            printf(j == 0 ? " %02x" : "%02x", bytes[k][j]);
+        }
     }
     putchar('\n');
 }
@@ -388,7 +467,7 @@ int main(int argc, char **argv) {
         read_option(argv[1]);
     }
     check_number();
-    map_region();
+    map_regions();
     catch_traps();
     answer_all();
     return SAME;

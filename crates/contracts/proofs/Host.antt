@@ -10,4 +10,5 @@ contracts = record {
   cross = λ κs code edge out new r. says-itself;
   file = λ κs degree x y z out new r. says-itself;
   list = λ κs degree x y z out new r. says-itself;
+  sweep = λ κs degree dirs dirs′ codes new out told r. says-itself;
 }

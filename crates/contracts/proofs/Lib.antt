@@ -1,3 +1,4 @@
 -- The contracts, by computation.
 pub mod Host
+pub mod Sweeps
 pub mod Soundings

@@ -1,4 +1,4 @@
--- Document 02, 2026-01: what the exported functions themselves say, as grid/specs/Contracts.antt has it of document
+-- Document 02, 2026-01 and 2026-04: what the exported functions themselves say, as grid/specs/Contracts.antt has it of document
 -- 01's. Assumes nothing.
 use mathlib.Core.Path.{_≡_}
 use Prim.Native.Nat.{ℕ}
@@ -12,12 +12,13 @@ use Rattle.net.specs.Corners.{nameOf}
 use Rattle.net.specs.Refusals.{checkName}
 use Rattle.grid.specs.Contracts.{Slice}
 use Rattle.grid.specs.Writing.{towards}
-use Rattle.host.specs.Answers.{CrossBytes, FileBytes, ListBytes}
+use Rattle.host.specs.Answers.{CrossBytes, FileBytes, ListBytes, SweepBytes}
 use Rattle.host.proofs.grid_check_triangle.Reads as grid_check_triangle
 use Rattle.host.proofs.grid_check_name.Reads as grid_check_name
 use Rattle.host.proofs.grid_cross.Reads as grid_cross
 use Rattle.host.proofs.grid_file.Reads as grid_file
 use Rattle.host.proofs.grid_list.Reads as grid_list
+use Rattle.host.proofs.grid_sweep.Reads as grid_sweep
 
 -- The calls in the order of `OneAnswer`: for any plain numbers, any result, and bytes left with any contents.
 pub record Contracts : Type 0 where
@@ -39,3 +40,7 @@ pub record Contracts : Type 0 where
       → Says (grid_list.Asked κs (degree, (x, (y, (z, (out, tt))))))
       (grid_list.Learnt κs (degree, (x, (y, (z, (out, tt))))) r (degree, (x, (y, (z, (new, tt))))))
       (ListBytes degree (towards x y z) (now out) r (now new))
+  pub sweep : (κs : Lfts 3) (degree : ℕ) (dirs dirs′ codes new out told : Slice) (r : ℕ)
+      → Says (grid_sweep.Asked κs (degree, (dirs, (codes, (out, tt)))))
+      (grid_sweep.Learnt κs (degree, (dirs, (codes, (out, tt)))) r (degree, (dirs′, (new, (told, tt)))))
+      (SweepBytes degree (now dirs) (now codes) (now out) r (now new, now told))

@@ -1,3 +1,4 @@
 -- What a reader must believe: that a call's contract is just its promise.
 pub mod Host
+pub mod Sweeps
 pub mod Soundings

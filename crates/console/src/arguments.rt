@@ -42,6 +42,14 @@ pub struct Places {
     pub count: usize,
 }
 
+// A degree and how many places a lent list has.
+pub struct Lending {
+    pub read: bool,
+    pub degree: u64,
+    pub places: usize,
+    pub next: usize,
+}
+
 fn number_found(n: Number, next: usize) -> Found
     ensures { λ r. ⌜ r .next ≤ next ⌝ }
 {
@@ -186,6 +194,29 @@ pub fn places_at(line: &[u8], at: usize, usual: usize) -> Places
     }
 }
 
+// What stands before the numbers of a sweep.
+pub fn degree_and_places(line: &[u8], at: usize) -> Lending
+    requires { ⌜ at ≤ length (now line) ⌝ }
+    ensures { λ r. ⌜ (r .places ≤ 16) × (r .next ≤ length (now (line .entry))) ⌝ }
+{
+    let d = number_at(line, at);
+    let p = number_at(line, d.next);
+    if 16 < p.value {
+        return Lending {
+            read: false,
+            degree: 0,
+            places: 0,
+            next: p.next,
+        };
+    }
+    Lending {
+        read: d.read & p.read,
+        degree: d.value,
+        places: p.value as usize,
+        next: p.next,
+    }
+}
+
 // The weights that follow, into a list of at most 16 places, and how many they are; 17 where they cannot be read or are more.
 pub fn weights_at(line: &[u8], at: usize, list: &mut [u64]) -> usize
     requires { ⌜ at ≤ length (now line) ⌝ }
@@ -208,4 +239,30 @@ pub fn weights_at(line: &[u8], at: usize, list: &mut [u64]) -> usize
         return i;
     }
     17
+}
+
+// The signed numbers that follow, in the same way: into a list of at most 48 places, and 49 where they cannot be read
+// or are more.
+pub fn numbers_at(line: &[u8], at: usize, list: &mut [i32]) -> usize
+    requires { ⌜ at ≤ length (now line) ⌝ }
+{
+    let mut i = 0;
+    let mut place = at;
+    while i < list.len() {
+        if at_end(line, place) {
+            return i;
+        }
+        let x = signed_at(line, place);
+        if !x.read {
+            return 49;
+        }
+        let number = x.value;
+        list[i] = number;
+        place = x.next;
+        i += 1;
+    }
+    if at_end(line, place) {
+        return i;
+    }
+    49
 }

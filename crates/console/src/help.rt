@@ -3,7 +3,7 @@ use crate::arguments;
 ghost use Prim.Native.Nat.{_≤_};
 ghost use lib.ListN.{length};
 
-const HELP: [u8; 4440] = *b"The grid of the globe: one call to a line, and one line for its answer.
+const HELP: [u8; 4777] = *b"The grid of the globe: one call to a line, and one line for its answer.
 
   WORD     0x and 1 to 16 hexadecimal digits
   CODE     a triangle code, as 10003 for side 100 and digits 0 and 3; or a WORD
@@ -11,7 +11,7 @@ const HELP: [u8; 4440] = *b"The grid of the globe: one call to a line, and one l
   X Y Z    a direction: three whole numbers
   PLACES   0 to 16: how many places the lent list has. They hold 1, 2, 3 and so on before the call,
            and stand after the answer as the call leaves them
-  MM       millimetres, a whole number: a reading is 0 to 100000. FILL and VALUE are whole numbers too
+  MM       millimetres, a whole number: a reading is 0 to 100000. FILL, VALUE and NUMBER are whole numbers too
 
 Any other number is decimal, or a WORD. A line that begins with # is a remark.
 Under each call stand an example and its answer. A refused call answers its number and the reason.
@@ -76,6 +76,10 @@ file DEGREE X Y Z                   the least code that holds a direction
 
 list DEGREE X Y Z [PLACES]          all codes that hold it, rising
   list 0 0 0 1                      2: 100 0x2000000000000000, 500 0xA000000000000000
+
+sweep DEGREE PLACES [NUMBER]..      files many directions, three numbers each, into the lent list: how many
+                                    are refused, and of the first of them the place, from 0, and the refusal
+  sweep 2 2 0 0 1 0 0 0             1 refused, first at place 1 with 7 | 0x208C000000000000 0x0000000000000000
 
 table DEGREE [LENGTH FILL [PLACE VALUE]..]
                                     opens a table of soundings with no readings, of degree 0 to 6; or any

@@ -6,6 +6,7 @@ mod calls;
 mod held;
 mod help;
 mod lists;
+mod sweeping;
 mod texts;
 
 ghost use Prim.Native.Nat.{_≤_};
@@ -77,6 +78,8 @@ fn call_answer(call: u64, line: &[u8], at: usize, out: &mut [u8]) -> usize
         19 => calls::of_direction(line, at, out),
         // back
         20 => calls::of_weights(line, at, out),
+        // sweep
+        26 => sweeping::answer(line, at, out),
         _ => unknown(out),
     }
 }

@@ -12,6 +12,9 @@ use grid::weights_of_name;
 ghost use Prim.Native.Nat.{_+_, _-_, _*_, _≤_};
 ghost use lib.ListN.{length};
 
+// What a lent list holds before a call. As many of its places are lent as the line asks for.
+pub const LENT: [u64; 16] = [1, 2, 3, 4, 5, 6, 7, 8, 9, 10, 11, 12, 13, 14, 15, 16];
+
 // What is asked of a lent list.
 pub enum Asked {
     Weights(u64, u64),
@@ -153,13 +156,13 @@ fn put_answer(q: Asked, r: CountAnswer, list: &[u64], out: &mut [u8]) -> usize
 }
 
 // All places of the list as the call left them.
-fn put_places(q: Asked, list: &[u64], out: &mut [u8], at: usize) -> usize
+pub fn put_places(e: Entry, list: &[u64], out: &mut [u8], at: usize) -> usize
     requires { ⌜ (length (now list) ≤ 16) × (at + 800 ≤ length (now out)) ⌝ }
     ensures { λ r. ⌜ r ≤ at + 800 ⌝ }
 {
     let bar = lines::put_byte(b' ', out, at);
     let place = lines::put_byte(b'|', out, bar);
-    put_rest(entry_of(q), list, 0, list.len(), out, place)
+    put_rest(e, list, 0, list.len(), out, place)
 }
 
 fn in_list(q: Asked, list: &mut [u64], shown: bool, out: &mut [u8]) -> usize
@@ -169,7 +172,7 @@ fn in_list(q: Asked, list: &mut [u64], shown: bool, out: &mut [u8]) -> usize
     let r = fill(q, list);
     let at = put_answer(q, r, list, out);
     if shown {
-        return put_places(q, list, out, at);
+        return put_places(entry_of(q), list, out, at);
     }
     at
 }
@@ -181,7 +184,7 @@ fn in_first(q: Asked, list: &mut [u64], n: usize, shown: bool, out: &mut [u8]) -
     in_list(q, &mut list[..n], shown, out)
 }
 
-// With the places that the rest of the line asks for, which hold 1, 2, 3 and so on.
+// With the places that the rest of the line asks for.
 fn with_places(q: Asked, line: &[u8], at: usize, usual: usize, out: &mut [u8]) -> usize
     requires { ⌜ (at ≤ length (now line)) × (usual ≤ 16) × (8192 ≤ length (now out)) ⌝ }
     ensures { λ r. ⌜ r ≤ 8000 ⌝ }
@@ -190,7 +193,7 @@ fn with_places(q: Asked, line: &[u8], at: usize, usual: usize, out: &mut [u8]) -
     if !p.read {
         return 0;
     }
-    let mut list = [1u64, 2, 3, 4, 5, 6, 7, 8, 9, 10, 11, 12, 13, 14, 15, 16];
+    let mut list = LENT;
     in_first(q, &mut list, p.count, p.shown, out)
 }
 

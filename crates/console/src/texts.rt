@@ -3,7 +3,7 @@ ghost use Prim.Native.Nat.{_+_, _≤_};
 ghost use lib.ListN.{length};
 
 // How each call is written. A call is known by the number of its row, from 0.
-const CALLS: [u8; 443] = *b"help
+const CALLS: [u8; 474] = *b"help
 check CODE
 parent CODE
 check-name NAME
@@ -28,7 +28,8 @@ table DEGREE [LENGTH FILL [PLACE VALUE]..]
 set CODE MM
 get CODE
 clear CODE
-readings";
+readings
+sweep DEGREE PLACES [NUMBER]..";
 
 // Document 01, 'Refusal numbers': when each is given, from 1.
 const REASONS: [u8; 559] = *b"a degree, as field or argument, is above 24
@@ -145,9 +146,9 @@ fn row_named(table: &[u8], rows: u64, word: &[u8]) -> u64 {
     rows
 }
 
-// The call that a word names; 26 where it names none.
+// The call that a word names; 27 where it names none.
 pub fn call_named(word: &[u8]) -> u64 {
-    row_named(&CALLS, 26, word)
+    row_named(&CALLS, 27, word)
 }
 
 // The form of a call.

@@ -213,6 +213,52 @@ __attribute__((noinline)) static uint64_t singles(uint64_t degree, const int32_t
     return refused ^ place ^ first;
 }
 
+/* The same on bytes, for a program in C. */
+static int give_sweep_in_bytes(struct input *in, const char *kind, uint64_t degree) {
+    struct direction made;
+    uint8_t *dirs = new_list(sweep_length, 12);
+    codes = codes == NULL ? new_list(sweep_length, sizeof *codes) : codes;
+    for (size_t k = 0; k < 3 * sweep_length; k++) {
+        if (k % 3 == 0 && !make_direction(kind, &made)) {
+            return 0;
+        }
+        for (int j = 0; j < 4; j++) {
+            dirs[4 * k + j] = (uint8_t)((uint32_t)made.at[k % 3] >> (24 - 8 * j));
+        }
+    }
+    in->argument[0] = degree;
+    in->argument[1] = (uint64_t)dirs;
+    in->argument[2] = 12 * sweep_length;
+    give_list(in, 3, codes, 8 * sweep_length);
+    return 1;
+}
+
+/* The seventh argument, a length, would not go into a register. */
+__attribute__((noinline)) static uint64_t host_sweep(uint64_t degree, const uint8_t *dirs, size_t bytes, uint8_t *codes,
+                                                     size_t places) {
+    return grid_sweep(degree, dirs, bytes, codes, places, (uint8_t *)lent, 24);
+}
+
+static int32_t number_in(const uint8_t *bytes) {
+    return (int32_t)((uint32_t)bytes[0] << 24 | (uint32_t)bytes[1] << 16 | (uint32_t)bytes[2] << 8 | bytes[3]);
+}
+
+__attribute__((noinline)) static uint64_t host_singles(uint64_t degree, const uint8_t *dirs, size_t bytes,
+                                                       uint8_t *codes, size_t places) {
+    uint64_t refused = 0, place = 0, first = 0;
+    for (size_t k = 0; k < bytes / 12 && k < places / 8; k++) {
+        const uint8_t *at = dirs + 12 * k;
+        uint64_t refusal = grid_file(degree, number_in(at), number_in(at + 4), number_in(at + 8), codes + 8 * k, 8);
+        if (refusal != 0) {
+            memset(codes + 8 * k, 0, 8);
+            place = refused == 0 ? k : place;
+            first = refused == 0 ? refusal : first;
+            refused++;
+        }
+    }
+    return refused ^ place ^ first;
+}
+
 /* ---- the calls */
 
 const struct call calls[] = {
@@ -242,6 +288,8 @@ const struct call calls[] = {
     {"add-up", (any_function *)add_up, WORD, give_readings_alone},
     {"host-cross", (any_function *)grid_cross, WEIGHTS, give_code_number_and_bytes},
     {"host-file", (any_function *)grid_file, WEIGHTS, give_direction_and_bytes},
+    {"host-sweep", (any_function *)host_sweep, WORD, give_sweep_in_bytes},
+    {"host-singles", (any_function *)host_singles, WORD, give_sweep_in_bytes},
     {"host-list", (any_function *)grid_list, WEIGHTS, give_direction_and_bytes},
 };
 const size_t calls_count = sizeof calls / sizeof calls[0];

@@ -79,7 +79,7 @@ two-blocks {n} h dirs {codes} {mid} {late} {a} {b} l e x y =
     let k : 4 * (3 * h) ≡ 12 * h = omega arith in
     let s : 3 * h + (length dirs / 4 - 3 * h) ≡ length dirs / 4 = omega (arith, l) in
     let whole : directionsIn (take (12 * h) dirs)
-        ++ directionsIn (take (length dirs - 12 * h) (drop (12 * h) dirs)) ≡ directionsIn dirs =
+    ++ directionsIn (take (length dirs - 12 * h) (drop (12 * h) dirs)) ≡ directionsIn dirs =
     (λ i. signedNumbers 4 (f i) (take (12 * h) dirs) ++ directionsIn (rest i))
     ∙ (λ i. signedNumbers 4 (3 * h) (take (12 * h) dirs) ++ signedNumbers 4 (m i) (drop (12 * h) dirs))
     ∙ (λ i. signedNumbers 4 (3 * h) (take (sym k i) dirs) ++ signedNumbers 4 (length dirs / 4 - 3 * h) (drop (sym k i) dirs))

@@ -48,8 +48,7 @@ sweep-keeps n dirs codes out =
     keeps (λ x. x .0) refl (λ x s. s .answered)
     (answer-some (refuseSweep n dirs codes out) (together (SentSweep n dirs codes out)) (λ k. (k, (codes, out))) (λ z.
     let f = fine n dirs codes out z in
-    let s = swept-some n (directionsIn dirs) (omega (arith, in-long dirs, f .even)) in
-    (
+    let s = swept-some n (directionsIn dirs) (omega (arith, in-long dirs, f .even)) in (
       (0, (over (bytes 8 (s .1)) codes, over (bytes 8 (s .0 .refused ∷ s .0 .place ∷ s .0 .first ∷ [])) out)),
       record {
         told = s .0;
@@ -145,8 +144,7 @@ module _ (n : ℕ) (dirs codes out places left : List ℕ) (a : SweepAnswer) (r 
         (λ k. ap (λ (x : List ℕ × List ℕ). drop 24 (x .1)) (kept (λ e. k (sym number ∙ e)))) (answers-or-not g);
     kept = kept;
     long = ⊎-elim
-        (λ z. let f = fine n dirs codes out z in
-        (
+        (λ z. let f = fine n dirs codes out z in (
           ap length (put z) ∙ as-long 8 (whole z .codes) codes (omega (arith, many z, f .room)),
           ap length (put-out z) ∙ as-long 8 (a .refused ∷ a .place ∷ a .first ∷ []) out (omega (arith, f .enough)),
         ))

@@ -44,10 +44,13 @@ pub record Examples : Type 0 where
   pub minus-two : signedNumbers 4 1 (0xFF ∷ 0xFF ∷ 0xFF ∷ 0xFE ∷ []) ≡ minus 2 ∷ []
   -- 2026-04: E7 and (0,0,0) in a sweep: the code and 0, one refused, at place 1 by 7; a byte more of each list stays
   pub swept : SweepBytes 2 two-directions (replicate 17 9) (replicate 25 9)
-      leaves (0, (
-        0x50 ∷ 0x8C ∷ replicate 14 0 ++ (9 ∷ []),
-        replicate 7 0 ++ (1 ∷ replicate 7 0) ++ (1 ∷ replicate 7 0) ++ (7 ∷ 9 ∷ []),
-      ))
+      leaves (
+        0,
+        (
+          0x50 ∷ 0x8C ∷ replicate 14 0 ++ (9 ∷ []),
+          replicate 7 0 ++ (1 ∷ replicate 7 0) ++ (1 ∷ replicate 7 0) ++ (7 ∷ 9 ∷ []),
+        ),
+      )
   pub swept-short : SweepBytes 2 two-directions (replicate 15 9) (replicate 24 9)
       leaves (9, (replicate 15 9, replicate 24 9))
 
@@ -98,21 +101,18 @@ pub record Mistakes : Type 0 where
       ((0x20 ∷ replicate 7 0) ++ (0xA0 ∷ replicate 7 0) ++ replicate 40 9) → ⊥
   -- a sweep: the old code left at a refused place, the later byte cleared, the place counted in bytes, the sweep refused
   -- for one direction
-  pub old-code : SweepBytes 2 two-directions (replicate 17 9) (replicate 24 9) 0
-      (
-        0x50 ∷ 0x8C ∷ replicate 6 0 ++ replicate 9 9,
-        replicate 7 0 ++ (1 ∷ replicate 7 0) ++ (1 ∷ replicate 7 0) ++ (7 ∷ []),
-      ) → ⊥
-  pub sweep-cleared : SweepBytes 2 two-directions (replicate 17 9) (replicate 24 9) 0
-      (
-        0x50 ∷ 0x8C ∷ replicate 15 0,
-        replicate 7 0 ++ (1 ∷ replicate 7 0) ++ (1 ∷ replicate 7 0) ++ (7 ∷ []),
-      ) → ⊥
-  pub in-bytes : SweepBytes 2 two-directions (replicate 16 9) (replicate 24 9) 0
-      (
-        0x50 ∷ 0x8C ∷ replicate 14 0,
-        replicate 7 0 ++ (1 ∷ replicate 7 0) ++ (12 ∷ replicate 7 0) ++ (7 ∷ []),
-      ) → ⊥
+  pub old-code : SweepBytes 2 two-directions (replicate 17 9) (replicate 24 9) 0 (
+    0x50 ∷ 0x8C ∷ replicate 6 0 ++ replicate 9 9,
+    replicate 7 0 ++ (1 ∷ replicate 7 0) ++ (1 ∷ replicate 7 0) ++ (7 ∷ []),
+  ) → ⊥
+  pub sweep-cleared : SweepBytes 2 two-directions (replicate 17 9) (replicate 24 9) 0 (
+    0x50 ∷ 0x8C ∷ replicate 15 0,
+    replicate 7 0 ++ (1 ∷ replicate 7 0) ++ (1 ∷ replicate 7 0) ++ (7 ∷ []),
+  ) → ⊥
+  pub in-bytes : SweepBytes 2 two-directions (replicate 16 9) (replicate 24 9) 0 (
+    0x50 ∷ 0x8C ∷ replicate 14 0,
+    replicate 7 0 ++ (1 ∷ replicate 7 0) ++ (12 ∷ replicate 7 0) ++ (7 ∷ []),
+  ) → ⊥
   pub sweep-refused : SweepBytes 2 two-directions (replicate 16 9) (replicate 24 9) 7 (replicate 16 9, replicate 24 9) → ⊥
   -- refusing a longer slice
   pub longer : FileBytes 2 up (replicate 9 9) 9 (replicate 9 9) → ⊥

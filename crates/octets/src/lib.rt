@@ -26,7 +26,10 @@ fn get4(bytes: &[u8]) -> u32
     requires { ⌜ 4 ≤ length (now bytes) ⌝ }
     ensures { λ r. ⌜ r ≡ numberOf (take 4 (now (bytes .entry))) ⌝ }
 {
-    bytes[0] as u32 * 0x100_0000 + bytes[1] as u32 * 0x1_0000 + bytes[2] as u32 * 0x100 + bytes[3] as u32
+    bytes[0] as u32 * 0x100_0000
+        + bytes[1] as u32 * 0x1_0000
+        + bytes[2] as u32 * 0x100
+        + bytes[3] as u32
 }
 
 // The same as a signed number.

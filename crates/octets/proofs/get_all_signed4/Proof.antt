@@ -79,8 +79,7 @@ loop-again c =
     let is : toZ w32 (ofZ w32 (c .get-signed4 .result)) ≡ signed 4 (numberAt 4 bs i) =
     toZ-ofZ w32 (c .get-signed4 .result) (record { sfits = c .get-signed4 .ok })
     ∙ c .get-signed4 .ensures ∙ ap (λ (b : List ℕ). signed 4 (numberOf (take 4 b))) rest in
-    let more : suc i ≡ i + 1 = omega arith in
-    (
+    let more : suc i ≡ i + 1 = omega arith in (
       omega arith,
       (λ j. set (l .inv .1 j) i (is j))
           ∙ over-next (signedNumbers 4 i bs) out (signed 4 (numberAt 4 bs i)) i (signed-long 4 i bs) (omega arith)

@@ -86,7 +86,7 @@ loop-again c =
     let one = answerFor (p .file-at .result) in
     let e : suc (l .i) ≡ l .i + 1 = omega arith in
     let n : CountedInto (s .args .degree) (take (3 * suc (l .i)) dirs) (s .args .codes .now)
-        (l .refused + nonZeros (one .refusal ∷ [])) (set (l .codes) (l .i) (one .code .0)) =
+    (l .refused + nonZeros (one .refusal ∷ [])) (set (l .codes) (l .i) (one .code .0)) =
     into-next (l .i) dirs one (k .inside) (s .pre .1) (l .inv .1) (p .file-at .ensures) in
     (omega arith, rw (sym e, c .before .code-in .ensures, c .refusals-in .ensures) n)
 

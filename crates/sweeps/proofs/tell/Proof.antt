@@ -35,7 +35,7 @@ returns-2 c =
       some = λ k. (
         w,
         subst (λ (p : ℕ). FileAnswer (s .args .degree) (directionAt (s .args .dirs .now) p) (answerFor w)) e
-        (c .file-at .ensures),
+            (c .file-at .ensures),
         λ i. sweepAnswer 0 (s .args .refused) (e i) w,
       );
     }

@@ -11,13 +11,14 @@ import pathlib
 import pty
 import re
 import select
-import shutil
-import signal
 import subprocess
 import sys
 import tempfile
 
-ROOT = pathlib.Path(__file__).resolve().parent.parent
+sys.dont_write_bytecode = True
+import standins
+from standins import NO_ERROR, ROOT, Built, end, expect, quietly, run, start, write
+
 ANSWERS = {
     "file 2 0 0 1": "10003 0x208C000000000000",
     "file 25 0 0 1": "refused 1: a degree, as field or argument, is above 24",
@@ -26,35 +27,6 @@ ANSWERS = {
 MANY = "file 2 0 0 1\n" * 6000  # More answers than a pipe holds.
 UNWRITTEN = "plot: the answers could not be written\n"
 UNREAD = "plot: the calls could not be read\n"
-NO_ERROR = {"stderr": None, "preexec_fn": lambda: os.close(2)}
-wrong = []
-
-
-def expect(what, got, wanted):
-    if got != wanted:
-        wrong.append(f"{what}: {got!r} in place of {wanted!r}")
-
-
-# ---- the stand-ins
-
-# rt counts its runs, reads what it is given, says what it proves, and leaves a program. While the file waits is in the
-# checkout it stays in the middle of a line, for some ten seconds; changes makes it change the source, fails fail.
-RT = """#!/bin/sh
-[ "$*" = "check plot_main" ] || exit 2
-echo run >>runs
-head -c 1 >/dev/null
-printf 'rt: lines '
-waited=0
-while [ -e waits ] && [ "$waited" -lt 200 ]; do sleep 0.05; waited=$((waited + 1)); done
-echo 'proved (unchanged since it was last proved)'
-[ ! -e changes ] || echo changed >>crates/console/src/lib.rt
-mkdir -p target/bin && cp console target/bin/plot_main
-echo 'rt: console proved (7 s)'
-echo 'what the prover says'
-echo 'rt: plot_main proved (8 s)'
-[ ! -e fails ] || { echo 'rt: FAILED: plot_main'; exit 1; }
-echo 'rt: ok, 3 crates proved'
-"""
 
 # The console stops as the real one does. `mute` and `dies` are ways in which that one never ends.
 CONSOLE = """#!/usr/bin/env bash
@@ -72,92 +44,9 @@ while IFS= read -r line || [ -n "$line" ]; do
 done
 """
 
-LOADER = '#!/bin/sh\nexec "$3"\n'
-EMULATOR = '#!/bin/sh\n[ -z "$QEMU_STRACE" ] || echo traced\nexec "$@"\n'
-TOOLS = "awk bash cat cp cut dirname find flock head mkdir mv readlink sed sha256sum sh sleep sort tee xargs".split()
 
-
-def write(path, text, mode=0o644):
-    path.parent.mkdir(parents=True, exist_ok=True)
-    path.write_text(text)
-    path.chmod(mode)
-
-
-class StandIn:
-    """A checkout and a toolkit for a kind of machine, in a folder of their own. Nothing else is on the PATH."""
-
-    def __init__(self, machine="x86_64"):
-        self.folder = pathlib.Path(tempfile.mkdtemp(prefix="plot-"))
-        self.folder.chmod(0o755)
-        self.home, self.kit, self.tools = (self.folder / name for name in ("checkout", "kit", "tools"))
-        write(self.home / "plot", (ROOT / "plot").read_text(), 0o755)
-        write(self.home / "console", CONSOLE, 0o755)
-        write(self.home / "crates.txt", "plot_main: console # the program\nconsole: lines\nlines:\nother:\n")
-        for crate in "lines", "console", "plot_main", "other":
-            write(self.home / "crates" / crate / "src" / "lib.rt", crate)
-        shutil.copy(ROOT / "crates" / "plot_main" / "stdout", self.home / "crates" / "plot_main")
-        write(self.kit / "KIT-ID", "a stand-in\n")
-        write(self.kit / "bin" / "rt", RT, 0o755)
-        self.toolchain = self.kit / "on" / machine / "toolchain"
-        write(self.toolchain / "lib" / "ld-linux-x86-64.so.2", LOADER, 0o755)
-        write(self.toolchain / "bin" / "qemu-x86_64", EMULATOR, 0o755)
-        write(self.tools / "uname", f"#!/bin/sh\necho {machine}\n", 0o755)
-        for tool in TOOLS:
-            (self.tools / tool).symlink_to(shutil.which(tool))
-        self.plot = self.home / "plot"
-        self.environment = {"PATH": f"{self.kit}/bin:{self.tools}"}
-
-    def __enter__(self):
-        return self
-
-    def __exit__(self, *_):
-        self.writable(True)
-        shutil.rmtree(self.folder)
-
-    def writable(self, is_writable):
-        for folder, _, files in os.walk(self.home):
-            for path in [folder, *(os.path.join(folder, name) for name in files)]:
-                os.chmod(path, os.stat(path).st_mode | 0o200 if is_writable else os.stat(path).st_mode & ~0o222)
-
-    def runs(self):
-        """How often rt was run."""
-        counted = self.home / "runs"
-        return len(counted.read_text().splitlines()) if counted.exists() else 0
-
-
-class Built:
-    """./plot itself."""
-
-    plot = ROOT / "plot"
-    environment = dict(os.environ)
-
-
-def start(place, *words, **how):
-    how = {"stdin": subprocess.DEVNULL, "stdout": subprocess.PIPE, "stderr": subprocess.PIPE, "text": True,
-           "env": place.environment, **how}
-    return subprocess.Popen([how.pop("plot", place.plot), *words], start_new_session=True, **how)
-
-
-def end(process, calls=None):
-    """The status, standard output and standard error of a ./plot, which is ended where it hangs."""
-    try:
-        out, err = process.communicate(calls, timeout=900 if "--built" in sys.argv else 60)
-    except subprocess.TimeoutExpired:
-        os.killpg(process.pid, signal.SIGKILL)
-        out, err = process.communicate()
-    return process.returncode, out, err
-
-
-def run(place, *words, calls=None, **how):
-    if calls is not None:
-        how["stdin"] = subprocess.PIPE
-    return end(start(place, *words, **how), calls)
-
-
-def quietly(place, *words, **how):
-    """The same where the console may have to be built first."""
-    status, out, err = run(place, *words, **how)
-    return status, out, "".join(line for line in err.splitlines(True) if "prov" not in line)
+def stand_in(machine="x86_64"):
+    return standins.StandIn("plot", CONSOLE, machine)
 
 
 # ---- what ./plot answers, and its statuses
@@ -172,12 +61,12 @@ def test_calls(place):
 def test_lines(place):
     asked, answered = "\n".join(ANSWERS), "\n".join(ANSWERS.values()) + "\n"
     error = ANSWERS["corner 200 2"] + "\n"
-    expect("calls on standard input", run(place, calls=asked + "\n"), (0, answered, ""))
-    expect("a last line without its end", run(place, calls=asked), (0, answered, ""))
-    expect("no calls", run(place, calls=""), (0, "", ""))
-    expect("standard error closed", run(place, calls=asked, **NO_ERROR), (0, answered, None))
+    expect("calls on standard input", run(place, given=asked + "\n"), (0, answered, ""))
+    expect("a last line without its end", run(place, given=asked), (0, answered, ""))
+    expect("no calls", run(place, given=""), (0, "", ""))
+    expect("standard error closed", run(place, given=asked, **NO_ERROR), (0, answered, None))
     expect("a call, standard error closed", run(place, "corner 200 2", **NO_ERROR), (2, error, None))
-    expect("a call beside other input", run(place, "corner 200 2", calls=asked), (2, error, ""))
+    expect("a call beside other input", run(place, "corner 200 2", given=asked), (2, error, ""))
 
 
 def test_line_end(place):
@@ -186,49 +75,29 @@ def test_line_end(place):
 
 
 def test_lost(place):
-    for words, calls in ((["file 2 0 0 1"], None), ([], MANY)):
-        def lose(what, err=UNWRITTEN, **how):
-            expect(f"{'a call' if words else 'calls'}, {what}", run(place, *words, calls=calls, **how), (3, None, err))
-
-        with open("/dev/full", "w") as full:
-            lose("output full", stdout=full)
-            lose("output and standard error full", stdout=full, stderr=full, err=None)
-            lose("output full, standard error closed", stdout=full, err=None, **NO_ERROR)
-        lose("output closed", stdout=None, preexec_fn=lambda: os.close(1))
-        reading, writing = os.pipe()
-        os.close(reading)
-        lose("pipe closed", stdout=writing)
-        lose("pipe closed and SIGPIPE ignored", stdout=writing, restore_signals=False)
-        os.close(writing)
+    for what, words, calls in (("a call", ["file 2 0 0 1"], None), ("calls", [], MANY)):
+        for how, got, wanted in standins.each_lost(place, words, calls, UNWRITTEN):
+            expect(f"{what}, {how}", got, wanted)
 
 
 def test_head(place):
-    """As `./plot | head -1`: the first answer is read, then none."""
-    with tempfile.TemporaryFile("w+") as calls:
-        calls.write(MANY)
-        calls.seek(0)
-        process = start(place, stdin=calls)
-        expect("the first of many answers", process.stdout.readline(), ANSWERS["file 2 0 0 1"] + "\n")
-        process.stdout.close()
-        process.stdout = None
-        expect("many answers after it", end(process), (3, None, UNWRITTEN))
+    expect("the first of many answers, and those after it", standins.after_first(place, [], MANY),
+           (ANSWERS["file 2 0 0 1"] + "\n", (3, None, UNWRITTEN)))
 
 
 def test_unread(place):
-    folder = os.open("/", os.O_RDONLY)
-    expect("calls from a folder", run(place, stdin=folder), (3, "", UNREAD))
-    os.close(folder)
-    expect("calls, input closed", run(place, stdin=None, preexec_fn=lambda: os.close(0)), (3, "", UNREAD))
-    expect("a call, input closed", run(place, "file 2 0 0 1", stdin=None, preexec_fn=lambda: os.close(0)),
+    expect("calls from a folder", standins.from_folder(place), (3, "", UNREAD))
+    expect("calls, input closed", standins.without_input(place), (3, "", UNREAD))
+    expect("a call, input closed", standins.without_input(place, "file 2 0 0 1"),
            (0, ANSWERS["file 2 0 0 1"] + "\n", ""))
 
 
 def test_link(place):
     with tempfile.TemporaryDirectory() as folder:
         link = pathlib.Path(folder) / "plot"
-        link.symlink_to(os.path.relpath(place.plot, os.path.realpath(folder)))
+        link.symlink_to(os.path.relpath(place.script, os.path.realpath(folder)))
         answer = ANSWERS["file 2 0 0 1"] + "\n"
-        expect("a link to ./plot", run(place, "file 2 0 0 1", plot=link, cwd="/"), (0, answer, ""))
+        expect("a link to ./plot", run(place, "file 2 0 0 1", script=link, cwd="/"), (0, answer, ""))
 
 
 def test_help(place):
@@ -249,7 +118,7 @@ def test_help(place):
 def test_console_fails(place):
     expect("a call without an answer", run(place, "mute")[:2], (3, ""))
     expect("a console that dies at a call", run(place, "dies")[:2], (4, ""))
-    expect("a console that dies", run(place, calls="dies\n")[:2], (4, ""))
+    expect("a console that dies", run(place, given="dies\n")[:2], (4, ""))
 
 
 def one_line(what, got, *parts):
@@ -276,7 +145,7 @@ def test_toolkit(place):
 
 
 def test_emulator():
-    with StandIn("aarch64") as place:
+    with stand_in("aarch64") as place:
         for more in {}, {"QEMU_STRACE": "1"}:
             got = run(place, "file 2 0 0 1", env={**place.environment, **more})
             expect(f"by the emulator {more}", got[:2], (0, ANSWERS["file 2 0 0 1"] + "\n"))
@@ -286,17 +155,17 @@ def test_emulator():
 
 def test_progress():
     said = "plot: proving and building the console first, which can take some minutes\n"
-    with StandIn() as place:
+    with stand_in() as place:
         status, _, err = run(place, "file 2 0 0 1")
         plain = said + "plot: crate 2 of 3: console proved (7 s)\nplot: crate 3 of 3: plot_main proved (8 s)\n"
         expect("a build in plain lines", (status, re.sub(r"\d+ s\)\n$", "N s)\n", err)),
                (0, plain + "plot: the console is proved and built (N s)\n"))
         log = place.home / "target" / "plot" / "build.log"
         expect("its log", log.exists() and "what the prover says\n" in log.read_text(), True)
-    with StandIn() as place:
+    with stand_in() as place:
         answered = (0, ANSWERS["file 2 0 0 1"] + "\n", None)
-        expect("calls before a build", run(place, calls="file 2 0 0 1\n", **NO_ERROR), answered)
-    with StandIn() as place:
+        expect("calls before a build", run(place, given="file 2 0 0 1\n", **NO_ERROR), answered)
+    with stand_in() as place:
         (place.home / "waits").touch()
         terminal, other_end = pty.openpty()
         process = start(place, "file 2 0 0 1", stderr=other_end)
@@ -318,7 +187,7 @@ def test_progress():
 
 
 def test_staleness():
-    with StandIn() as place:
+    with stand_in() as place:
         def runs_after(what, wanted):
             status, out, _ = run(place, "file 2 0 0 1")
             expect(what, (status, out, place.runs()), (0, ANSWERS["file 2 0 0 1"] + "\n", wanted))
@@ -342,7 +211,7 @@ def test_staleness():
 
 
 def test_failed_build():
-    with StandIn() as place:
+    with stand_in() as place:
         (place.home / "fails").touch()
         for what in "a failed comparison", "the console that failed is not used":
             status, out, err = run(place, "file 2 0 0 1")
@@ -356,7 +225,7 @@ def test_failed_build():
 
 
 def test_two_at_a_time():
-    with StandIn() as place:
+    with stand_in() as place:
         (place.home / "waits").touch()
         first = start(place, "file 2 0 0 1")
         expect("the first of two", first.stderr.readline().split()[1:2], ["proving"])
@@ -369,7 +238,7 @@ def test_two_at_a_time():
 
 def test_open_console():
     """A console at which somebody still writes keeps nobody from building another."""
-    with StandIn() as place:
+    with stand_in() as place:
         first = start(place, stdin=subprocess.PIPE)
         first.stdin.write("file 2 0 0 1\n")
         first.stdin.flush()
@@ -384,7 +253,7 @@ def test_open_console():
 def test_read_only():
     """Root may write where nobody else may, so root runs this as nobody."""
     nobody = {"user": 65534, "group": 65534, "extra_groups": []} if os.geteuid() == 0 else {}
-    with StandIn() as place:
+    with stand_in() as place:
         place.writable(False)
         one_line("read-only, not built", run(place, "file 2 0 0 1", **nobody), "target/plot", "written")
         place.writable(True)
@@ -403,13 +272,13 @@ def test_answering(place):
 
 
 if sys.argv[1:] == ["--built"]:
-    test_answering(Built())
+    test_answering(Built("plot"))
 else:
     faulthandler.dump_traceback_later(300, exit=True)
-    with StandIn() as stand_in:
-        test_answering(stand_in)
-        test_console_fails(stand_in)
-        test_toolkit(stand_in)
+    with stand_in() as checkout:
+        test_answering(checkout)
+        test_console_fails(checkout)
+        test_toolkit(checkout)
     test_emulator()
     test_progress()
     test_staleness()
@@ -417,8 +286,4 @@ else:
     test_two_at_a_time()
     test_open_console()
     test_read_only()
-for line in wrong:
-    print(f"tests/plot.py: {line}")
-if wrong:
-    sys.exit(1)
-print("plot: its statuses are as documented, and it builds what it must")
+standins.verdict("plot", "its statuses are as documented, and it builds what it must")

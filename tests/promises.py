@@ -17,7 +17,7 @@ demands' it may be one of grid/specs/Demands.antt, and above its table one that 
 answers the second column has fields of records `Mistakes`, those of grid/specs/Mistakes.antt by their names and others
 as places, all of them, and the last one must-fail edits, as `crate/edit`; a crate holds for the edits after it in its
 row. In the table by calls each call of document 01 (a method of words/src/lib.rt's TriangleCode, or what
-grid/src/lib.rt hands on), each call of a table and each call exported to C has its row, with two edits or more of code.
+grid/src/lib.rt hands on), each call of a table, each of a sweep and each exported to C has its row, with two edits or more of code.
 Every edit stands in a row. Each of these calls has its row where contracts are held to promises, under the name that
 its promise has.
 
@@ -40,6 +40,7 @@ DOCS = (README, PROMISES, DECISIONS, ARCHITECTURE, "docs/FILING.md", "docs/CONSO
 DEMANDS, MISTAKES = "grid/specs/Demands.antt", "grid/specs/Mistakes.antt"
 CONTRACTS, HOST_CONTRACTS = "crates/grid/specs/Contracts.antt", "crates/contracts/specs/Host.antt"
 TABLE_CONTRACTS, TABLE_PROMISES = "crates/contracts/specs/Soundings.antt", "tables/specs/Promises.antt"
+SWEEP_CONTRACTS, SWEEP_PROMISES = "crates/contracts/specs/Sweeps.antt", "sweeps/specs/Promises.antt"
 ASKED = "The demands"
 WRONG_ANSWERS = "Wrong answers that are ruled out, as theorems"
 BY_CALL = "Wrong programs and definitions, call by call"
@@ -210,12 +211,20 @@ def of_table():
 
 
 @functools.cache
+def of_sweep():
+    """The calls of a sweep: the functions that need nothing asked and promise a whole result."""
+    lib = (CRATES / "sweeps/src/lib.rt").read_text(encoding="utf-8")
+    return re.findall(r"^pub fn (\w+)\([^{]*\n    ensures \{ λ r\. ⌜ \w+Result ", lib, re.MULTILINE)
+
+
+@functools.cache
 def contracts():
     """Where calls are held to their promises: the file with a row for each, the record of promises, the calls."""
     return (
         (CONTRACTS, DEMANDS, "Demand1", calls()),
         (HOST_CONTRACTS, "host/specs/Promises.antt", "OneAnswer", exported()),
         (TABLE_CONTRACTS, TABLE_PROMISES, "OneAnswer", of_table()),
+        (SWEEP_CONTRACTS, SWEEP_PROMISES, "OneAnswer", of_sweep()),
     )
 
 
@@ -359,7 +368,7 @@ class Documents:
 
     def check_promises(self):
         refuted, named, titles = set(), set(), set()
-        of_call = {c: set() for c in calls() + of_table() + exported()}
+        of_call = {c: set() for c in calls() + of_table() + of_sweep() + exported()}
         for title, rows, other in self.sections(PROMISES):
             titles.add(title)
             width = 3 if title == WRONG_ANSWERS else 2
@@ -376,7 +385,7 @@ class Documents:
                         if call in of_call:
                             of_call[call].update(e for e in found if edits()[e])
                         elif not call.startswith("./"):
-                            self.say(PROMISES, f"{call} is no call of document 01, of a table or for C")
+                            self.say(PROMISES, f"{call} is no call of document 01, of a table, of a sweep or for C")
                 else:
                     self.check_bare(PROMISES, row[1], [DEMANDS] if title == ASKED else [])
             if title == ASKED:

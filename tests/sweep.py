@@ -284,9 +284,9 @@ def test_beside_plot():
 
 # ---- the example of docs/SWEEP.md, and the cases of tests/second.py
 
-def page_example():
+def page_example(page="docs/SWEEP.md"):
     """The words and the input of its call, and what is written to standard output and standard error."""
-    block = re.search(r"^    \$ \./sweep (.*) <(.*)\n((?:    .*\n)+)", (ROOT / "docs" / "SWEEP.md").read_text(), re.M)
+    block = re.search(r"^    \$ \./sweep (.*) <(.*)\n((?:    .*\n)+)", (ROOT / page).read_text(), re.M)
     *lines, last = block[3].replace("    ", "").splitlines(True)
     return block[1].split(), (ROOT / block[2]).read_text(), "".join(lines), last
 
@@ -294,6 +294,7 @@ def page_example():
 def test_stored_example():
     """What `rt ci` holds the program to is that example."""
     words, given, out, _ = page_example()
+    expect("the example of README.md", page_example("README.md"), page_example())
     expect("crates/sweep_main/args", (EXAMPLE / "args").read_text().split(), [*words, "text", "quiet"])
     expect("crates/sweep_main/stdin", (EXAMPLE / "stdin").read_text(), given)
     expect("crates/sweep_main/stdout", (EXAMPLE / "stdout").read_text(), out)

@@ -1,75 +1,104 @@
--- A sweep over bytes: a block of directions, two parts, and what is returned. Assumes nothing.
+-- A sweep over bytes: a direction more, two parts, and the refusals of the whole call. Assumes nothing.
 use mathlib.Core.Path.{_≡_, _∙_, refl, sym, ap, subst}
 use mathlib.Core.Bool.{not}
-use mathlib.Core.List.{List, [], _∷_, _++_}
-use Prim.Native.Nat.{ℕ, _+_, _-_, _*_, _/_, _%_, _^_, _≤_, _<_}
+use mathlib.Core.List.{List, [], _∷_, _++_, append-nil, append-assoc}
+use Prim.Native.Nat.{ℕ, suc, _+_, _-_, _*_, _/_, _%_, _≤_, _<_}
 use native.Mathlib.Omega.{arith}
 use borrow.Author.Tests.{ltb-false, lt-ltb, le-ltb, eqb-true, eq-eqb, ne-eqb, not-false}
 use borrow.Rule.Slice.PartMut.{putMid}
 use lib.Dec.{eqb}
 use lib.IntN.{ℤ}
 use lib.ListN.{length, take, drop, length-drop}
-use lib.Seq.{take-all, take-at, length-take-le}
+use lib.Seq.{take-all, length-take-le}
 use Rattle.frame.specs.Refusals.{Row, _when_, order, listRows}
 use Rattle.frame.specs.Answers.{over}
 use Rattle.frame.proofs.Refusing.{refuse-first, here, next, nothing, none-so}
 use Rattle.frame.proofs.Lengths.{two-parts}
-use Rattle.octets.specs.Bytes.{bytes, signedNumbers}
-use Rattle.octets.proofs.Laying.{signed-long, signed-parts, bytes-long, bytes-append, as-long}
+use Rattle.octets.specs.Bytes.{bytesOf, bytes, numberAt, signed, signedNumbers}
+use Rattle.octets.proofs.Laying.{signed-long, signed-next, signed-parts, bytes-long, bytes-append, as-long}
 use Rattle.words.specs.Refusals.{degreeRows}
-use Rattle.sweeps.specs.Sweeps.{Swept}
-use Rattle.sweeps.specs.Answers.{SweepResult}
-use Rattle.sweeps.specs.Promises.{joined}
-use Rattle.sweeps.specs.declared.SweepAnswer.{SweepAnswer}
-use Rattle.sweeps.proofs.Refused.{refuse-none}
-use Rattle.sweeps.proofs.SweptParts.{swept-long, swept-most, swept-append}
+use Rattle.words.specs.declared.CodeAnswer.{CodeAnswer}
+use Rattle.net.specs.Steps.{nonZeros}
+use Rattle.directions.specs.Answers.{FileAnswer}
+use Rattle.sweeps.specs.Means.Counted.{Counted}
+use Rattle.sweeps.proofs.CountedParts.{counted-long, counted-most, counted-none, counted-append, counted-one}
 use Rattle.host.specs.Refusals.{refuseSweep}
-use Rattle.host.specs.Answers.{directionsIn, SweptBytes}
+use Rattle.host.specs.Answers.{directionsIn}
+use Rattle.host.specs.Means.CountedBytes.{directionIn, CountedBytes}
 
 pub in-long : (dirs : List ℕ) → length (directionsIn dirs) ≡ length dirs / 4
 in-long dirs = signed-long 4 (length dirs / 4) dirs
 
--- ---- one code for each twelve bytes
+-- ---- one code for each direction
 
-module _ {n : ℕ} {dirs codes new : List ℕ} {a : SweepAnswer} (x : SweptBytes n dirs codes a new) (e : length dirs % 12 ≡ 0) where
-  pub written-long : length (x .written) ≡ length dirs / 12
-  written-long = omega (arith, swept-long (x .swept), in-long dirs, e)
+module _ {n : ℕ} {ds : List ℤ} {codes new : List ℕ} {m : ℕ} (x : CountedBytes n ds codes m new) (i : ℕ) (e : length ds ≡ 3 * i) where
+  pub written-long : length (x .written) ≡ i
+  written-long = omega (arith, counted-long (x .counted), e)
 
-  pub bytes-most : (a .refused ≤ length dirs / 12) × (a .place ≤ length dirs / 12)
-  bytes-most =
-      let m = swept-most (x .swept) in
-      (omega (arith, m .0, written-long), omega (arith, m .1, written-long))
+  pub most : m ≤ i
+  most = omega (arith, counted-most (x .counted), e)
 
--- ---- a block: its numbers, the sweep of them, and the bytes of the codes
+  -- their bytes
+  pub eight-each : length (bytes 8 (x .written)) ≡ 8 * i
+  eight-each = bytes-long 8 (x .written) ∙ ap (λ (j : ℕ). 8 * j) written-long
 
-pub block : {n : ℕ} (dirs codes ws left : List ℕ) (nums zeros : List ℤ) {a : SweepAnswer} {new : List ℕ}
-    → n ≤ 24 → length dirs % 12 ≡ 0 → length dirs / 12 ≤ length ws
-    → nums ≡ over (directionsIn dirs) zeros → SweepResult n (take (length dirs / 4) nums) ws a left
-    → new ≡ over (bytes 8 (take (length dirs / 12) left)) codes → SweptBytes n dirs codes a new
-block {n} dirs codes ws left nums zeros {a} {new} low threes room g s p =
-    let ds = directionsIn dirs in
-    let l = in-long dirs in
-    let t : take (length dirs / 4) nums ≡ ds =
-    ap (take (length dirs / 4)) g ∙ take-at ds (drop (length ds) zeros) (length dirs / 4) l in
-    let q = subst (λ (d : List ℤ). SweepResult n d ws a left) t s in
-    let i = q .answered (sym (refuse-none n ds ws low (omega (arith, l, threes)) (omega (arith, l, threes, room)))) in
-    let c : take (length dirs / 12) left ≡ i .codes =
-    ap (take (length dirs / 12)) (i .put)
-    ∙ take-at (i .codes) (drop (length (i .codes)) ws) (length dirs / 12) (omega (arith, swept-long (i .swept), l, threes)) in
+  pub new-long : 8 * i ≤ length codes → length new ≡ length codes
+  new-long l = ap length (x .put) ∙ as-long 8 (x .written) codes (omega (arith, l, written-long))
+
+-- as the loop goes: i directions are filed, and `mid` is what stands in the bytes
+
+pub bytes-none : {n : ℕ} (dirs codes : List ℕ) → CountedBytes n (signedNumbers 4 (3 * 0) dirs) codes 0 codes
+unfolding signedNumbers bytes
+bytes-none dirs codes = record { written = []; counted = counted-none; put = refl }
+
+-- the numbers of a direction more
+three-more : (i : ℕ) (bs : List ℕ) → signedNumbers 4 (3 * suc i) bs
+    ≡ signedNumbers 4 (3 * i) bs
+    ++ (directionIn bs i .x ∷ directionIn bs i .y ∷ directionIn bs i .z ∷ [])
+three-more i bs =
+    let k = 3 * i in
+    let at : ℕ → ℤ = λ j. signed 4 (numberAt 4 bs j) in
+    let e : 3 * suc i ≡ suc (suc (suc k)) = omega arith in
+    let one : suc k ≡ k + 1 = omega arith in
+    let two : suc (suc k) ≡ k + 2 = omega arith in
+    ap (λ (j : ℕ). signedNumbers 4 j bs) e
+    ∙ signed-next 4 (suc (suc k)) bs
+    ∙ ap (λ (l : List ℤ). l ++ (at (suc (suc k)) ∷ [])) (signed-next 4 (suc k) bs)
+    ∙ ap (λ (l : List ℤ). (l ++ (at (suc k) ∷ [])) ++ (at (suc (suc k)) ∷ [])) (signed-next 4 k bs)
+    ∙ append-assoc (signedNumbers 4 k bs ++ (at k ∷ [])) (at (suc k) ∷ []) (at (suc (suc k)) ∷ [])
+    ∙ append-assoc (signedNumbers 4 k bs) (at k ∷ []) (at (suc k) ∷ at (suc (suc k)) ∷ [])
+    ∙ (λ j. signedNumbers 4 k bs ++ (at k ∷ at (one j) ∷ at (two j) ∷ []))
+
+one-more : (ws : List ℕ) (w : ℕ) → bytes 8 ws ++ bytesOf 8 w ≡ bytes 8 (ws ++ (w ∷ []))
+unfolding bytes
+one-more ws w =
+    ap (λ (l : List ℕ). bytes 8 ws ++ l) (sym (append-nil (bytesOf 8 w))) ∙ sym (bytes-append 8 ws (w ∷ []))
+
+pub bytes-next : {n : ℕ} (i : ℕ) (dirs : List ℕ) {codes mid late : List ℕ} {m : ℕ} (s : CodeAnswer)
+    → CountedBytes n (signedNumbers 4 (3 * i) dirs) codes m mid → FileAnswer n (directionIn dirs i) s
+    → late ≡ over (bytesOf 8 (s .code .0)) (take (length mid - 8 * i) (drop (8 * i) mid))
+    → CountedBytes n (signedNumbers 4 (3 * suc i) dirs) codes (m + nonZeros (s .refusal ∷ []))
+    (putMid (8 * i) (length mid - 8 * i) mid late)
+bytes-next {n} i dirs {codes} {mid} {late} {m} s x f p =
+    let ws = x .written ++ (s .code .0 ∷ []) in
     record {
-      written = i .codes;
-      swept = i .swept;
-      put = p ∙ ap (λ (cs : List ℕ). over (bytes 8 cs) codes) c;
+      written = ws;
+      counted = subst (λ (ds : List ℤ). Counted n ds (m + nonZeros (s .refusal ∷ [])) ws) (sym (three-more i dirs))
+          (counted-append (x .counted) (counted-one _ _ _ s f));
+      put = two-parts codes mid late (bytes 8 (x .written)) (bytesOf 8 (s .code .0)) (8 * i)
+          (eight-each x i (signed-long 4 (3 * i) dirs)) (x .put) p
+          ∙ ap (λ (bs : List ℕ). over bs codes) (one-more (x .written) (s .code .0));
     }
 
 -- ---- two parts, the first of h directions
 
-pub two-blocks : {n : ℕ} (h : ℕ) (dirs : List ℕ) {codes mid late : List ℕ} {a b : SweepAnswer}
-    → 12 * h ≤ length dirs → length dirs % 12 ≡ 0
-    → SweptBytes n (take (12 * h) dirs) codes a mid
-    → SweptBytes n (take (length dirs - 12 * h) (drop (12 * h) dirs)) (take (length mid - 8 * h) (drop (8 * h) mid)) b late
-    → SweptBytes n dirs codes (joined h a b) (putMid (8 * h) (length mid - 8 * h) mid late)
-two-blocks {n} h dirs {codes} {mid} {late} {a} {b} l e x y =
+pub two-halves : {n : ℕ} (h : ℕ) (dirs : List ℕ) {codes mid late : List ℕ} {a b : ℕ}
+    → 12 * h ≤ length dirs
+    → CountedBytes n (directionsIn (take (12 * h) dirs)) codes a mid
+    → CountedBytes n (directionsIn (take (length dirs - 12 * h) (drop (12 * h) dirs)))
+    (take (length mid - 8 * h) (drop (8 * h) mid)) b late
+    → CountedBytes n (directionsIn dirs) codes (a + b) (putMid (8 * h) (length mid - 8 * h) mid late)
+two-halves {n} h dirs {codes} {mid} {late} {a} {b} l x y =
     let t = length-take-le (12 * h) dirs l in
     let d = length-drop (12 * h) dirs in
     let rest : take (length dirs - 12 * h) (drop (12 * h) dirs) ≡ drop (12 * h) dirs =
@@ -85,16 +114,27 @@ two-blocks {n} h dirs {codes} {mid} {late} {a} {b} l e x y =
     ∙ (λ i. signedNumbers 4 (3 * h) (take (sym k i) dirs) ++ signedNumbers 4 (length dirs / 4 - 3 * h) (drop (sym k i) dirs))
     ∙ sym (signed-parts 4 (3 * h) (length dirs / 4 - 3 * h) dirs (omega (arith, l)))
     ∙ ap (λ (j : ℕ). signedNumbers 4 j dirs) s in
-    let three : length (directionsIn (take (12 * h) dirs)) ≡ 3 * h = in-long (take (12 * h) dirs) ∙ f in
-    let eight : length (bytes 8 (x .written)) ≡ 8 * h =
-    bytes-long 8 (x .written) ∙ omega (arith, swept-long (x .swept), three) in
+    let eight = eight-each x h (in-long (take (12 * h) dirs) ∙ f) in
     record {
       written = x .written ++ y .written;
-      swept = subst (λ (ds : List ℤ). Swept n ds (joined h a b) (x .written ++ y .written)) whole
-          (swept-append h three (x .swept) (y .swept));
+      counted = subst (λ (ds : List ℤ). Counted n ds (a + b) (x .written ++ y .written)) whole
+          (counted-append (x .counted) (y .counted));
       put = two-parts codes mid late (bytes 8 (x .written)) (bytes 8 (y .written)) (8 * h) eight (x .put) (y .put)
           ∙ ap (λ (bs : List ℕ). over bs codes) (sym (bytes-append 8 (x .written) (y .written)));
     }
+
+-- ---- three numbers, each in the part that follows
+
+pub laid-three : (a b c : ℕ) (out mid late last : List ℕ) → mid ≡ over (bytesOf 8 a) out
+    → late ≡ over (bytesOf 8 b) (take (length mid - 8) (drop 8 mid))
+    → last ≡ over (bytesOf 8 c) (take (length (putMid 8 (length mid - 8) mid late) - 16)
+    (drop 16 (putMid 8 (length mid - 8) mid late)))
+    → putMid 16 (length (putMid 8 (length mid - 8) mid late) - 16) (putMid 8 (length mid - 8) mid late) last
+    ≡ over (bytes 8 (a ∷ b ∷ c ∷ [])) out
+unfolding bytes
+laid-three a b c out mid late last p q r =
+    two-parts out _ last (bytesOf 8 a ++ bytesOf 8 b) (bytesOf 8 c) 16 refl
+    (two-parts out mid late (bytesOf 8 a) (bytesOf 8 b) 8 refl p q) r
 
 -- ---- the refusals of the whole call by their tests, and when there is none
 

@@ -3,3 +3,5 @@ pub mod Refusals
 pub mod Answers
 pub mod Promises
 pub mod Examples
+-- What the code is proved by, and no promise: see there.
+pub mod Means

@@ -3,21 +3,29 @@
 use grid::CornerName;
 use grid::Direction;
 use grid::TriangleCode;
-use octets::get_all_signed4;
+use octets::get_signed4;
 use octets::put8;
 use sweeps::SweepAnswer;
-use sweeps::join;
+use sweeps::code_in;
+use sweeps::none_refused;
+use sweeps::refusals_in;
 ghost use mathlib.Core.Path.{_≡_};
-ghost use Prim.Native.Nat.{_≤_, _*_, _/_, _%_};
+ghost use mathlib.Core.List.{[], _∷_};
+ghost use Prim.Native.Nat.{_+_, _*_, _/_, _%_, _≤_, _<_};
 ghost use lib.ListN.{length};
 ghost use Rattle.frame.specs.Answers.{over};
+ghost use Rattle.frame.specs.Lists.{firstPlace};
 ghost use Rattle.octets.specs.Bytes.{bytes};
 ghost use Rattle.words.specs.Family.{codeOf};
 ghost use Rattle.words.specs.Refusals.{checkCode};
 ghost use Rattle.net.specs.Corners.{nameOf};
 ghost use Rattle.net.specs.Refusals.{checkName};
+ghost use Rattle.directions.specs.Answers.{FileAnswer};
+ghost use Rattle.directions.specs.Means.Numbers.{answerFor};
 ghost use Rattle.grid.specs.Writing.{towards};
-ghost use Rattle.host.specs.Answers.{CrossBytes, FileBytes, ListBytes, SweptBytes, SweepBytes};
+ghost use Rattle.sweeps.specs.Means.Counted.{isZero, Tells};
+ghost use Rattle.host.specs.Answers.{CrossBytes, FileBytes, ListBytes, directionsIn, SweepBytes};
+ghost use Rattle.host.specs.Means.CountedBytes.{directionIn, CountedBytes, firstBytes};
 
 // Checking a word as a triangle code.
 #[no_mangle]
@@ -99,41 +107,116 @@ pub extern "C" fn grid_list(degree: u64, x: i32, y: i32, z: i32, out: &mut [u8])
 
 // ---- a sweep
 
-// At most 32 directions, twelve bytes each: their numbers, the sweep, and the bytes of the codes.
-fn sweep_block(degree: u64, dirs: &[u8], codes: &mut [u8]) -> SweepAnswer
-    requires { ⌜
-        (degree ≤ 24) × (length (now dirs) % 12 ≡ 0) × (length (now dirs) ≤ 384)
-        × (8 * (length (now dirs) / 12) ≤ length (now codes))
-        ⌝ }
-    ensures { λ r. ⌜ SweptBytes degree (now (dirs .entry)) (now (codes .entry)) r (now (codes .exit)) ⌝ }
+// Files direction i, twelve bytes each: the word of its code, or the number of its refusal, in one number.
+fn file_byte_at(degree: u64, dirs: &[u8], i: usize) -> u64
+    requires { ⌜ 12 * i + 11 < length (now dirs) ⌝ }
+    ensures { λ r. ⌜ FileAnswer degree (directionIn (now (dirs .entry)) i) (answerFor r) ⌝ }
 {
-    let mut numbers = [0i32; 96];
-    let mut words = [0u64; 32];
-    let m = dirs.len() / 4;
-    let n = dirs.len() / 12;
-    get_all_signed4(dirs, &mut numbers);
-    let a = sweeps::sweep(degree, &numbers[..m], &mut words);
-    put_all(&words[..n], codes);
-    a
+    let k = 12 * i;
+    let x = get_signed4(&dirs[k..]);
+    let y = get_signed4(&dirs[k + 4..]);
+    let z = get_signed4(&dirs[k + 8..]);
+    directions::file_word(degree, x, y, z)
 }
 
-// The same by halves: however many directions there are, no more than 58 calls are open at a time.
-fn sweep_bytes(degree: u64, dirs: &[u8], codes: &mut [u8]) -> SweepAnswer
-    requires { ⌜
-        (degree ≤ 24) × (length (now dirs) % 12 ≡ 0) × (8 * (length (now dirs) / 12) ≤ length (now codes))
+// Files one direction after the other, and answers how many are refused.
+fn file_each_byte(degree: u64, dirs: &[u8], codes: &mut [u8]) -> u64
+    requires { ⌜ (length (now dirs) % 12 ≡ 0) × (8 * (length (now dirs) / 12) ≤ length (now codes)) ⌝ }
+    ensures { λ r. ⌜
+        CountedBytes degree (directionsIn (now (dirs .entry))) (now (codes .entry)) r (now (codes .exit))
         ⌝ }
-    ensures { λ r. ⌜ SweptBytes degree (now (dirs .entry)) (now (codes .entry)) r (now (codes .exit)) ⌝ }
 {
     let n = dirs.len() / 12;
-    if n <= 32 {
-        return sweep_block(degree, dirs, codes);
+    let mut refused = 0;
+    let mut i = 0;
+    while i < n {
+        let w = file_byte_at(degree, dirs, i);
+        put8(code_in(w), &mut codes[8 * i..]);
+        refused += refusals_in(w);
+        i += 1;
+    }
+    refused
+}
+
+// The same by halves, down to parts of 64 directions or fewer: however many there are, no more than 58 calls are open at
+// a time.
+fn file_byte_halves(degree: u64, dirs: &[u8], codes: &mut [u8]) -> u64
+    requires { ⌜ (length (now dirs) % 12 ≡ 0) × (8 * (length (now dirs) / 12) ≤ length (now codes)) ⌝ }
+    ensures { λ r. ⌜
+        CountedBytes degree (directionsIn (now (dirs .entry))) (now (codes .entry)) r (now (codes .exit))
+        ⌝ }
+{
+    let n = dirs.len() / 12;
+    if n <= 64 {
+        return file_each_byte(degree, dirs, codes);
     }
     let h = n / 2;
     let k = 12 * h;
     let p = 8 * h;
-    let a = sweep_bytes(degree, &dirs[..k], codes);
-    let b = sweep_bytes(degree, &dirs[k..], &mut codes[p..]);
-    join(h as u64, a, b)
+    let a = file_byte_halves(degree, &dirs[..k], codes);
+    let b = file_byte_halves(degree, &dirs[k..], &mut codes[p..]);
+    a + b
+}
+
+// The first of n codes that is 0, or n: a code that is not 0 has a first byte that is not.
+fn first_zero_code(codes: &[u8], n: usize) -> usize
+    requires { ⌜ 8 * n ≤ length (now codes) ⌝ }
+    ensures { λ r. ⌜ r ≡ firstPlace isZero (firstBytes n (now (codes .entry))) ⌝ }
+{
+    let mut place = 0;
+    while place < n {
+        if codes[8 * place] == 0 {
+            return place;
+        }
+        place += 1;
+    }
+    place
+}
+
+// The answer, where so many are refused: the first is the first with the code 0, and is asked once more for its refusal.
+fn tell_bytes(degree: u64, dirs: &[u8], codes: &[u8], refused: u64) -> SweepAnswer
+    requires { ⌜
+        (8 * (length (now dirs) / 12) ≤ length (now codes))
+        × ((refused ≡ 0 → ⊥) → firstPlace isZero (firstBytes (length (now dirs) / 12) (now codes)) < length (now dirs) / 12)
+        ⌝ }
+    ensures { λ r. ⌜
+        Tells degree (directionsIn (now (dirs .entry)))
+        (firstPlace isZero (firstBytes (length (now (dirs .entry)) / 12) (now (codes .entry)))) refused r
+        ⌝ }
+{
+    if refused == 0 {
+        return none_refused(0);
+    }
+    let place = first_zero_code(codes, dirs.len() / 12);
+    SweepAnswer {
+        refusal: 0,
+        refused,
+        place: place as u64,
+        first: file_byte_at(degree, dirs, place),
+    }
+}
+
+// Three numbers, eight bytes each, over the front of out.
+fn put_three(a: u64, b: u64, c: u64, out: &mut [u8])
+    requires { ⌜ 24 ≤ length (now out) ⌝ }
+    ensures { λ _. ⌜ now (out .exit) ≡ over (bytes 8 (a ∷ b ∷ c ∷ [])) (now (out .entry)) ⌝ }
+{
+    put8(a, out);
+    put8(b, &mut out[8..]);
+    put8(c, &mut out[16..]);
+}
+
+// All directions, few or many. (A short sweep takes the short way, which costs no more than its single calls.)
+fn file_bytes(degree: u64, dirs: &[u8], codes: &mut [u8]) -> u64
+    requires { ⌜ (length (now dirs) % 12 ≡ 0) × (8 * (length (now dirs) / 12) ≤ length (now codes)) ⌝ }
+    ensures { λ r. ⌜
+        CountedBytes degree (directionsIn (now (dirs .entry))) (now (codes .entry)) r (now (codes .exit))
+        ⌝ }
+{
+    if dirs.len() / 12 <= 64 {
+        return file_each_byte(degree, dirs, codes);
+    }
+    file_byte_halves(degree, dirs, codes)
 }
 
 // A sweep: twelve bytes a direction, eight a code, and in twenty-four bytes how many directions are refused, the first
@@ -157,7 +240,8 @@ pub extern "C" fn grid_sweep(degree: u64, dirs: &[u8], codes: &mut [u8], out: &m
     if out.len() < 24 {
         return 9;
     }
-    let a = sweep_bytes(degree, dirs, codes);
-    put_all(&[a.refused, a.place, a.first], out);
+    let refused = file_bytes(degree, dirs, codes);
+    let a = tell_bytes(degree, dirs, codes, refused);
+    put_three(a.refused, a.place, a.first, out);
     0
 }

@@ -178,6 +178,19 @@ signed-next k (suc m) bs =
     ∙ ap (λ (b : List ℕ). signedNumbers k m (drop k bs) ++ (signed k (numberOf (take k b)) ∷ []))
     (drop-drop (k * m) k bs ∙ ap (λ (j : ℕ). drop j bs) e))
 
+-- number i of them
+pub signed-at : (k m : ℕ) (bs : List ℕ) (i : ℕ) → i < m
+    → getD (signedNumbers k m bs) i (pos 0) ≡ signed k (numberAt k bs i)
+unfolding signedNumbers
+signed-at k zero bs i l = absurd (omega (arith, l))
+signed-at k (suc m) bs zero l =
+    let e : k * 0 ≡ 0 = omega arith in
+    ap (λ (j : ℕ). signed k (numberOf (take k (drop j bs)))) (sym e)
+signed-at k (suc m) bs (suc i) l =
+    let e : k + k * i ≡ k * suc i = omega (arith, mul-suc k i) in
+    signed-at k m (drop k bs) i (omega (arith, l))
+    ∙ ap (λ (b : List ℕ). signed k (numberOf (take k b))) (drop-drop (k * i) k bs ∙ ap (λ (j : ℕ). drop j bs) e)
+
 -- in two parts
 pub signed-parts : (k h m : ℕ) (bs : List ℕ) → k * h ≤ length bs
     → signedNumbers k (h + m) bs ≡ signedNumbers k h (take (k * h) bs) ++ signedNumbers k m (drop (k * h) bs)

@@ -1,10 +1,10 @@
 // Numbers as bytes, most significant first. (The toolchain has a library of the name `bytes`, for bytes that are no
 // numbers.)
 ghost use mathlib.Core.Path.{_≡_};
-ghost use Prim.Native.Nat.{_/_, _≤_};
+ghost use Prim.Native.Nat.{_≤_};
 ghost use lib.ListN.{length, take};
 ghost use Rattle.frame.specs.Answers.{over};
-ghost use Rattle.octets.specs.Bytes.{bytesOf, numberOf, signed, signedNumbers};
+ghost use Rattle.octets.specs.Bytes.{bytesOf, numberOf, signed};
 
 // The eight bytes of w over the front of out.
 pub fn put8(w: u64, out: &mut [u8])
@@ -42,20 +42,4 @@ pub fn get_signed4(bytes: &[u8]) -> i32
         return w as i32;
     }
     -1 - (0xFFFF_FFFF - w) as i32
-}
-
-// All signed numbers of bytes, four for each, over the front of numbers.
-pub fn get_all_signed4(bytes: &[u8], numbers: &mut [i32])
-    requires { ⌜ length (now bytes) / 4 ≤ length (now numbers) ⌝ }
-    ensures { λ _. ⌜
-        now (numbers .exit)
-        ≡ over (signedNumbers 4 (length (now (bytes .entry)) / 4) (now (bytes .entry))) (now (numbers .entry))
-        ⌝ }
-{
-    let n = bytes.len() / 4;
-    let mut i = 0;
-    while i < n {
-        numbers[i] = get_signed4(&bytes[4 * i..]);
-        i += 1;
-    }
 }

@@ -73,7 +73,7 @@ fn file_at(degree: u64, dirs: &[i32], i: usize) -> u64
 }
 
 // The code of such a number, 0 where it is a refusal's; and 1 where it is a refusal's, else 0.
-fn code_in(w: u64) -> u64
+pub fn code_in(w: u64) -> u64
     ensures { λ r. ⌜ r ≡ answerFor w .code .0 ⌝ }
 {
     if w < 12 {
@@ -82,7 +82,7 @@ fn code_in(w: u64) -> u64
     w
 }
 
-fn refusals_in(w: u64) -> u64
+pub fn refusals_in(w: u64) -> u64
     ensures { λ r. ⌜ r ≡ nonZeros (answerFor w .refusal ∷ []) ⌝ }
 {
     if w == 0 {

@@ -1,8 +1,9 @@
--- The refusals in turn, then the sweep, and the bytes of what it tells (ByteSweeps). Assumes nothing.
+-- The refusals in turn, then the sweep, and the bytes of what it tells (ByteSweeps, FirstCodes). Assumes nothing.
 use mathlib.Core.Path.{refl, sym}
 use native.Mathlib.Omega.{arith}
 use Rattle.frame.proofs.Answering.{refusing, answering}
 use Rattle.host.proofs.ByteSweeps.{refuse-degree, refuse-odd, refuse-codes, refuse-out, refuse-nothing}
+use Rattle.host.proofs.FirstCodes.{zero-in, tells-bytes}
 use borrow.Author.Needs.{needs}
 use Rattle.host.proofs.grid_sweep.Statement.{statement}
 use Rattle.host.proofs.grid_sweep.Tie as tie
@@ -23,14 +24,19 @@ returns-4 : tie.Need-returns-4
 returns-4 c =
     refusing (refuse-out _ _ _ _ (omega arith) (c .before .before .if2 .left) (omega arith) (omega arith)) (λ z. omega (arith, z))
 
-sweep-bytes-requires : tie.Need-sweep-bytes-requires
-sweep-bytes-requires c κs = search needs
+file-bytes-requires : tie.Need-file-bytes-requires
+file-bytes-requires c κs = search needs
 
-slice-aggregate-put-all : tie.Need-slice-aggregate-put-all
-slice-aggregate-put-all c = search needs
+tell-bytes-requires : tie.Need-tell-bytes-requires
+tell-bytes-requires c κs =
+    let f = c .before .before .before in
+    let e = f .before .before in
+    let s = e .before .before .before .before .before .before .before in
+    let k = f .file-bytes .kept .1 .1 .0 in
+    (omega (arith, k, e .before .if3 .left), zero-in (s .args .dirs .now) (f .file-bytes .ensures) (e .before .before .if2 .left))
 
-put-all-requires : tie.Need-put-all-requires
-put-all-requires c κs = search needs
+put-three-requires : tie.Need-put-three-requires
+put-three-requires c κs = search needs
 
 same-length : tie.Need-same-length
 same-length c = search needs
@@ -41,16 +47,17 @@ same-length-2 c = search needs
 returns-5 : tie.Need-returns-5
 returns-5 c =
     let p = c .before .before in
-    let f = p .before .before .before .before .before in
+    let t = p .before .before in
+    let f = t .before .before .before .before in
     let e = f .before .before in
     answering
     (sym (refuse-nothing _ _ _ _ (e .before .before .before .if1 .left) (e .before .before .if2 .left) (e .before .if3 .left)
     (e .if4 .left)))
     (record {
-      told = f .sweep-bytes .result;
-      swept = f .sweep-bytes .ensures;
+      told = t .tell-bytes .result;
+      swept = tells-bytes _ (f .file-bytes .ensures) (e .before .before .if2 .left) (t .tell-bytes .ensures);
       answered = refl;
-      put = p .put-all .ensures;
+      put = p .put-three .ensures;
     })
 
 pub grid-sweep-spec : {M : Type 1} → statement M
@@ -62,9 +69,9 @@ grid-sweep-spec =
     mul-if3
     returns-3
     returns-4
-    sweep-bytes-requires
-    slice-aggregate-put-all
-    put-all-requires
+    file-bytes-requires
+    tell-bytes-requires
+    put-three-requires
     same-length
     same-length-2
     returns-5)

@@ -1,4 +1,5 @@
--- A sweep over bytes: a direction more, two parts, and the refusals of the whole call. Assumes nothing.
+-- A sweep over bytes: a direction more, the answer's three numbers, and the refusals of the whole call. Assumes
+-- nothing.
 use mathlib.Core.Path.{_≡_, _∙_, refl, sym, ap, subst}
 use mathlib.Core.Bool.{not}
 use mathlib.Core.List.{List, [], _∷_, _++_, append-nil, append-assoc}
@@ -8,14 +9,13 @@ use borrow.Author.Tests.{ltb-false, lt-ltb, le-ltb, eqb-true, eq-eqb, ne-eqb, no
 use borrow.Rule.Slice.PartMut.{putMid}
 use lib.Dec.{eqb}
 use lib.IntN.{ℤ}
-use lib.ListN.{length, take, drop, length-drop}
-use lib.Seq.{take-all, length-take-le}
+use lib.ListN.{length, take, drop}
 use Rattle.frame.specs.Refusals.{Row, _when_, order, listRows}
 use Rattle.frame.specs.Answers.{over}
 use Rattle.frame.proofs.Refusing.{refuse-first, here, next, nothing, none-so}
 use Rattle.frame.proofs.Lengths.{two-parts}
 use Rattle.octets.specs.Bytes.{bytesOf, bytes, numberAt, signed, signedNumbers}
-use Rattle.octets.proofs.Laying.{signed-long, signed-next, signed-parts, bytes-long, bytes-append, as-long}
+use Rattle.octets.proofs.Laying.{signed-long, signed-next, bytes-long, bytes-append, as-long}
 use Rattle.words.specs.Refusals.{degreeRows}
 use Rattle.words.specs.declared.CodeAnswer.{CodeAnswer}
 use Rattle.net.specs.Steps.{nonZeros}
@@ -31,7 +31,8 @@ in-long dirs = signed-long 4 (length dirs / 4) dirs
 
 -- ---- one code for each direction
 
-module _ {n : ℕ} {ds : List ℤ} {codes new : List ℕ} {m : ℕ} (x : CountedBytes n ds codes m new) (i : ℕ) (e : length ds ≡ 3 * i) where
+module _ {n : ℕ} {ds : List ℤ} {codes new : List ℕ} {m : ℕ} (x : CountedBytes n ds codes m new) (i : ℕ)
+    (e : length ds ≡ 3 * i) where
   pub written-long : length (x .written) ≡ i
   written-long = omega (arith, counted-long (x .counted), e)
 
@@ -88,39 +89,6 @@ bytes-next {n} i dirs {codes} {mid} {late} {m} s x f p =
       put = two-parts codes mid late (bytes 8 (x .written)) (bytesOf 8 (s .code .0)) (8 * i)
           (eight-each x i (signed-long 4 (3 * i) dirs)) (x .put) p
           ∙ ap (λ (bs : List ℕ). over bs codes) (one-more (x .written) (s .code .0));
-    }
-
--- ---- two parts, the first of h directions
-
-pub two-halves : {n : ℕ} (h : ℕ) (dirs : List ℕ) {codes mid late : List ℕ} {a b : ℕ}
-    → 12 * h ≤ length dirs
-    → CountedBytes n (directionsIn (take (12 * h) dirs)) codes a mid
-    → CountedBytes n (directionsIn (take (length dirs - 12 * h) (drop (12 * h) dirs)))
-    (take (length mid - 8 * h) (drop (8 * h) mid)) b late
-    → CountedBytes n (directionsIn dirs) codes (a + b) (putMid (8 * h) (length mid - 8 * h) mid late)
-two-halves {n} h dirs {codes} {mid} {late} {a} {b} l x y =
-    let t = length-take-le (12 * h) dirs l in
-    let d = length-drop (12 * h) dirs in
-    let rest : take (length dirs - 12 * h) (drop (12 * h) dirs) ≡ drop (12 * h) dirs =
-    take-all (length dirs - 12 * h) (drop (12 * h) dirs) (omega (arith, d)) in
-    let m : length (drop (12 * h) dirs) / 4 ≡ length dirs / 4 - 3 * h = omega (arith, d, l) in
-    let f : length (take (12 * h) dirs) / 4 ≡ 3 * h = omega (arith, t) in
-    let k : 4 * (3 * h) ≡ 12 * h = omega arith in
-    let s : 3 * h + (length dirs / 4 - 3 * h) ≡ length dirs / 4 = omega (arith, l) in
-    let whole : directionsIn (take (12 * h) dirs)
-    ++ directionsIn (take (length dirs - 12 * h) (drop (12 * h) dirs)) ≡ directionsIn dirs =
-    (λ i. signedNumbers 4 (f i) (take (12 * h) dirs) ++ directionsIn (rest i))
-    ∙ (λ i. signedNumbers 4 (3 * h) (take (12 * h) dirs) ++ signedNumbers 4 (m i) (drop (12 * h) dirs))
-    ∙ (λ i. signedNumbers 4 (3 * h) (take (sym k i) dirs) ++ signedNumbers 4 (length dirs / 4 - 3 * h) (drop (sym k i) dirs))
-    ∙ sym (signed-parts 4 (3 * h) (length dirs / 4 - 3 * h) dirs (omega (arith, l)))
-    ∙ ap (λ (j : ℕ). signedNumbers 4 j dirs) s in
-    let eight = eight-each x h (in-long (take (12 * h) dirs) ∙ f) in
-    record {
-      written = x .written ++ y .written;
-      counted = subst (λ (ds : List ℤ). Counted n ds (a + b) (x .written ++ y .written)) whole
-          (counted-append (x .counted) (y .counted));
-      put = two-parts codes mid late (bytes 8 (x .written)) (bytes 8 (y .written)) (8 * h) eight (x .put) (y .put)
-          ∙ ap (λ (bs : List ℕ). over bs codes) (sym (bytes-append 8 (x .written) (y .written)));
     }
 
 -- ---- three numbers, each in the part that follows

@@ -3,8 +3,8 @@
 use mathlib.Core.Path.{_≡_, _∙_, refl, sym, ap, subst}
 use mathlib.Core.Bool.{cond}
 use mathlib.Core.Logic.{⊎-elim}
-use mathlib.Core.List.{List, [], _∷_, _++_, append-nil}
-use Prim.Native.Nat.{ℕ, zero, suc, _+_, _*_, _/_, _%_, _^_, _≤_, _<_}
+use mathlib.Core.List.{List, [], _++_, append-nil}
+use Prim.Native.Nat.{ℕ, zero, suc, _+_, _*_, _/_, _%_, _^_, _<_}
 use native.Mathlib.Omega.{arith}
 use lib.IntN.{ℤ, pos}
 use lib.ListN.{length, getD, drop}
@@ -68,8 +68,8 @@ firsts-same {n} rest (then {r = r} f a) = λ i. cond (same-zero n _ r f i) 0 (su
 
 -- ---- the answer
 
-module _ {n : ℕ} (dirs : List ℕ) {codes new : List ℕ} {m : ℕ} (x : CountedBytes n (directionsIn dirs) codes m new)
-    (e : length dirs % 12 ≡ 0) where
+module _ {n : ℕ} (dirs : List ℕ) {codes new : List ℕ} {m : ℕ}
+    (x : CountedBytes n (directionsIn dirs) codes m new) (e : length dirs % 12 ≡ 0) where
   place : firstPlace isZero (firstBytes (length dirs / 12) new) ≡ firstPlace isZero (x .written ++ [])
   place =
       let q = written-long x (length dirs / 12) (omega (arith, in-long dirs, e)) in
@@ -83,7 +83,8 @@ module _ {n : ℕ} (dirs : List ℕ) {codes new : List ℕ} {m : ℕ} (x : Count
   zero-in k = omega (arith, place, zero-inside [] (x .counted) k, in-long dirs, e)
 
   pub tells-bytes : {r : SweepAnswer}
-      → Tells n (directionsIn dirs) (firstPlace isZero (firstBytes (length dirs / 12) new)) m r → SweptBytes n dirs codes r new
+      → Tells n (directionsIn dirs) (firstPlace isZero (firstBytes (length dirs / 12) new)) m r
+      → SweptBytes n dirs codes r new
   tells-bytes {r} t = record {
     written = x .written;
     swept = tells-swept [] (x .counted) (subst (λ (p : ℕ). Tells n (directionsIn dirs) p m r) place t);
@@ -91,7 +92,8 @@ module _ {n : ℕ} (dirs : List ℕ) {codes new : List ℕ} {m : ℕ} (x : Count
   }
 
 -- direction i of the numbers is that of the bytes
-pub direction-in : (dirs : List ℕ) (i : ℕ) → 12 * i + 11 < length dirs → directionIn dirs i ≡ directionAt (directionsIn dirs) i
+pub direction-in : (dirs : List ℕ) (i : ℕ) → 12 * i + 11 < length dirs
+    → directionIn dirs i ≡ directionAt (directionsIn dirs) i
 direction-in dirs i l =
     let at : (j : ℕ) → j < length dirs / 4 → signed 4 (numberAt 4 dirs j) ≡ getD (directionsIn dirs) j (pos 0) =
     λ j k. sym (signed-at 4 (length dirs / 4) dirs j k) in

@@ -1,3 +1,3 @@
--- What the functions below a sweep over bytes compute, and the laws speak of. No promise rests on the names here. Assumes
--- nothing.
+-- What the functions below a sweep over bytes compute, and the laws speak of. No promise rests on the names here.
+-- Assumes nothing.
 pub mod CountedBytes

@@ -5,9 +5,7 @@ use grid::Direction;
 use grid::TriangleCode;
 use octets::get_signed4;
 use octets::put8;
-use sweeps::SweepAnswer;
 use sweeps::code_in;
-use sweeps::none_refused;
 use sweeps::refusals_in;
 ghost use mathlib.Core.Path.{_≡_};
 ghost use mathlib.Core.List.{[], _∷_};
@@ -23,9 +21,9 @@ ghost use Rattle.net.specs.Refusals.{checkName};
 ghost use Rattle.directions.specs.Answers.{FileAnswer};
 ghost use Rattle.directions.specs.Means.Numbers.{answerFor};
 ghost use Rattle.grid.specs.Writing.{towards};
-ghost use Rattle.sweeps.specs.Means.Counted.{isZero, Tells};
+ghost use Rattle.sweeps.specs.Means.Counted.{isZero};
 ghost use Rattle.host.specs.Answers.{CrossBytes, FileBytes, ListBytes, directionsIn, SweepBytes};
-ghost use Rattle.host.specs.Means.CountedBytes.{directionIn, CountedBytes, firstBytes};
+ghost use Rattle.host.specs.Means.CountedBytes.{directionIn, CountedBytes, firstBytes, ToldBytes};
 
 // Checking a word as a triangle code.
 #[no_mangle]
@@ -76,7 +74,7 @@ pub extern "C" fn grid_file(degree: u64, x: i32, y: i32, z: i32, out: &mut [u8])
     0
 }
 
-// The bytes of all numbers of ws, one after the other, over the front of out. (As deep as ws is long: 32 at most.)
+// The bytes of all numbers of ws, one after the other, over the front of out. (As deep as ws is long: six at most.)
 fn put_all(ws: &[u64], out: &mut [u8])
     requires { ⌜ 8 * length (now ws) ≤ length (now out) ⌝ }
     ensures { λ _. ⌜ now (out .exit) ≡ over (bytes 8 (now (ws .entry))) (now (out .entry)) ⌝ }
@@ -119,7 +117,8 @@ fn file_byte_at(degree: u64, dirs: &[u8], i: usize) -> u64
     directions::file_word(degree, x, y, z)
 }
 
-// Files one direction after the other, and answers how many are refused.
+// Files one direction after the other, and answers how many are refused. Each code goes to the part of the bytes that
+// starts at its place. (A loop with one caller: it is compiled into the call, and any number takes the same stack.)
 fn file_each_byte(degree: u64, dirs: &[u8], codes: &mut [u8]) -> u64
     requires { ⌜ (length (now dirs) % 12 ≡ 0) × (8 * (length (now dirs) / 12) ≤ length (now codes)) ⌝ }
     ensures { λ r. ⌜
@@ -138,26 +137,6 @@ fn file_each_byte(degree: u64, dirs: &[u8], codes: &mut [u8]) -> u64
     refused
 }
 
-// The same by halves, down to parts of 64 directions or fewer: however many there are, no more than 58 calls are open at
-// a time.
-fn file_byte_halves(degree: u64, dirs: &[u8], codes: &mut [u8]) -> u64
-    requires { ⌜ (length (now dirs) % 12 ≡ 0) × (8 * (length (now dirs) / 12) ≤ length (now codes)) ⌝ }
-    ensures { λ r. ⌜
-        CountedBytes degree (directionsIn (now (dirs .entry))) (now (codes .entry)) r (now (codes .exit))
-        ⌝ }
-{
-    let n = dirs.len() / 12;
-    if n <= 64 {
-        return file_each_byte(degree, dirs, codes);
-    }
-    let h = n / 2;
-    let k = 12 * h;
-    let p = 8 * h;
-    let a = file_byte_halves(degree, &dirs[..k], codes);
-    let b = file_byte_halves(degree, &dirs[k..], &mut codes[p..]);
-    a + b
-}
-
 // The first of n codes that is 0, or n: a code that is not 0 has a first byte that is not.
 fn first_zero_code(codes: &[u8], n: usize) -> usize
     requires { ⌜ 8 * n ≤ length (now codes) ⌝ }
@@ -173,29 +152,6 @@ fn first_zero_code(codes: &[u8], n: usize) -> usize
     place
 }
 
-// The answer, where so many are refused: the first is the first with the code 0, and is asked once more for its refusal.
-fn tell_bytes(degree: u64, dirs: &[u8], codes: &[u8], refused: u64) -> SweepAnswer
-    requires { ⌜
-        (8 * (length (now dirs) / 12) ≤ length (now codes))
-        × ((refused ≡ 0 → ⊥) → firstPlace isZero (firstBytes (length (now dirs) / 12) (now codes)) < length (now dirs) / 12)
-        ⌝ }
-    ensures { λ r. ⌜
-        Tells degree (directionsIn (now (dirs .entry)))
-        (firstPlace isZero (firstBytes (length (now (dirs .entry)) / 12) (now (codes .entry)))) refused r
-        ⌝ }
-{
-    if refused == 0 {
-        return none_refused(0);
-    }
-    let place = first_zero_code(codes, dirs.len() / 12);
-    SweepAnswer {
-        refusal: 0,
-        refused,
-        place: place as u64,
-        first: file_byte_at(degree, dirs, place),
-    }
-}
-
 // Three numbers, eight bytes each, over the front of out.
 fn put_three(a: u64, b: u64, c: u64, out: &mut [u8])
     requires { ⌜ 24 ≤ length (now out) ⌝ }
@@ -206,17 +162,27 @@ fn put_three(a: u64, b: u64, c: u64, out: &mut [u8])
     put8(c, &mut out[16..]);
 }
 
-// All directions, few or many. (A short sweep takes the short way, which costs no more than its single calls.)
-fn file_bytes(degree: u64, dirs: &[u8], codes: &mut [u8]) -> u64
-    requires { ⌜ (length (now dirs) % 12 ≡ 0) × (8 * (length (now dirs) / 12) ≤ length (now codes)) ⌝ }
-    ensures { λ r. ⌜
-        CountedBytes degree (directionsIn (now (dirs .entry))) (now (codes .entry)) r (now (codes .exit))
+// The answer, where so many are refused: the first is the first with the code 0, and is asked once more for its
+// refusal. (Zeros that are written as such take three instructions, any other three numbers sixty.)
+fn tell_in(degree: u64, dirs: &[u8], codes: &[u8], refused: u64, out: &mut [u8])
+    requires { ⌜
+        (24 ≤ length (now out)) × (8 * (length (now dirs) / 12) ≤ length (now codes))
+        × ((refused ≡ 0 → ⊥)
+        → firstPlace isZero (firstBytes (length (now dirs) / 12) (now codes)) < length (now dirs) / 12)
+        ⌝ }
+    ensures { λ _. ⌜
+        ToldBytes degree (directionsIn (now (dirs .entry)))
+        (firstPlace isZero (firstBytes (length (now (dirs .entry)) / 12) (now (codes .entry)))) refused
+        (now (out .entry)) (now (out .exit))
         ⌝ }
 {
-    if dirs.len() / 12 <= 64 {
-        return file_each_byte(degree, dirs, codes);
+    if refused == 0 {
+        put_three(0, 0, 0, out);
+    } else {
+        let place = first_zero_code(codes, dirs.len() / 12);
+        let first = file_byte_at(degree, dirs, place);
+        put_three(refused, place as u64, first, out);
     }
-    file_byte_halves(degree, dirs, codes)
 }
 
 // A sweep: twelve bytes a direction, eight a code, and in twenty-four bytes how many directions are refused, the first
@@ -240,8 +206,7 @@ pub extern "C" fn grid_sweep(degree: u64, dirs: &[u8], codes: &mut [u8], out: &m
     if out.len() < 24 {
         return 9;
     }
-    let refused = file_bytes(degree, dirs, codes);
-    let a = tell_bytes(degree, dirs, codes, refused);
-    put_three(a.refused, a.place, a.first, out);
+    let refused = file_each_byte(degree, dirs, codes);
+    tell_in(degree, dirs, codes, refused, out);
     0
 }

@@ -7,8 +7,8 @@ use native.Mathlib.Omega.{arith}
 use native.Mathlib.Nat.{mod-eq-of-lt, one-le-pow, pow-succ', add-mul, mul-assoc, mul-comm, mul-suc}
 use lib.Arith.{mod-mul}
 use lib.IntN.{ℤ, pos, negsuc, negℤ, _-ℤ_}
-use lib.ListN.{length, getD, take, drop, length-append, length-drop}
-use lib.Seq.{take-at, drop-at, drop-drop, take-take, take-add, length-take-le}
+use lib.ListN.{length, getD, take, drop, length-append}
+use lib.Seq.{take-at, drop-at, drop-drop}
 use mir.Syntax.{w32}
 use mir.Val.{SFits, toZ, ofZ}
 use mir.ValLaws.{toZ-ofZ}
@@ -190,25 +190,3 @@ signed-at k (suc m) bs (suc i) l =
     let e : k + k * i ≡ k * suc i = omega (arith, mul-suc k i) in
     signed-at k m (drop k bs) i (omega (arith, l))
     ∙ ap (λ (b : List ℕ). signed k (numberOf (take k b))) (drop-drop (k * i) k bs ∙ ap (λ (j : ℕ). drop j bs) e)
-
--- in two parts
-pub signed-parts : (k h m : ℕ) (bs : List ℕ) → k * h ≤ length bs
-    → signedNumbers k (h + m) bs ≡ signedNumbers k h (take (k * h) bs) ++ signedNumbers k m (drop (k * h) bs)
-unfolding signedNumbers
-signed-parts k zero m bs l =
-    let e : 0 + m ≡ m = omega arith in
-    let z : 0 ≡ k * 0 = omega arith in
-    (λ i. signedNumbers k (e i) (drop (z i) bs))
-signed-parts k (suc h) m bs l =
-    let s = k * suc h in
-    let t : s ≡ k + k * h = omega (arith, mul-suc k h) in
-    let e : suc h + m ≡ suc (h + m) = omega arith in
-    let first : take k bs ≡ take k (take s bs) = sym (take-take k s bs (omega (arith, t))) in
-    let rest : drop k (take s bs) ≡ take (k * h) (drop k bs) =
-    ap (λ (j : ℕ). drop k (take j bs)) t ∙ ap (drop k) (take-add k (k * h) bs)
-    ∙ drop-at (take k bs) (take (k * h) (drop k bs)) k (length-take-le k bs (omega (arith, l, t))) in
-    let more = signed-parts k h m (drop k bs) (omega (arith, l, t, length-drop k bs)) in
-    ap (λ (j : ℕ). signedNumbers k j bs) e
-    ∙ (λ i. signed k (numberOf (first i)) ∷ more i)
-    ∙ (λ i. signed k (numberOf (take k (take s bs))) ∷ (signedNumbers k h (sym rest i)
-    ++ signedNumbers k m ((drop-drop (k * h) k bs ∙ ap (λ (j : ℕ). drop j bs) (sym t)) i)))

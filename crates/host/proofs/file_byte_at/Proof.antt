@@ -3,7 +3,6 @@ use mathlib.Core.Path.{_≡_, _∙_, ap, subst}
 use mathlib.Core.List.{List}
 use Prim.Native.Nat.{ℕ, _+_, _-_, _*_}
 use native.Mathlib.Omega.{arith}
-use lib.IntN.{ℤ}
 use lib.ListN.{length, take, drop, length-drop}
 use lib.Seq.{take-all}
 use mir.Syntax.{w32}
@@ -19,7 +18,8 @@ use Rattle.host.proofs.file_byte_at.Tie as tie
 
 -- the number of a part that starts at number j
 number : (bs : List ℕ) (k j : ℕ) → k ≡ 4 * j
-    → signed 4 (numberOf (take 4 (take (length bs - k) (drop k bs)))) ≡ signed 4 (numberOf (take 4 (drop (4 * j) bs)))
+    → signed 4 (numberOf (take 4 (take (length bs - k) (drop k bs))))
+    ≡ signed 4 (numberOf (take 4 (drop (4 * j) bs)))
 number bs k j e = ap (λ (b : List ℕ). signed 4 (numberOf (take 4 b)))
     (take-all (length bs - k) (drop k bs) (omega (arith, length-drop k bs)) ∙ ap (λ (q : ℕ). drop q bs) e)
 
@@ -79,7 +79,8 @@ returns c =
     let s = c .before .before .before .before .before .before .before .before in
     let bs = s .args .dirs .now in
     let i = s .args .i in
-    let px = toZ-ofZ w32 (x .result) (record { sfits = x .ok }) ∙ x .ensures ∙ number bs (12 * i) (3 * i) (omega arith) in
+    let px = toZ-ofZ w32 (x .result) (record { sfits = x .ok }) ∙ x .ensures
+    ∙ number bs (12 * i) (3 * i) (omega arith) in
     let py = toZ-ofZ w32 (y .result) (record { sfits = y .ok }) ∙ y .ensures
     ∙ number bs (12 * i + 4) (3 * i + 1) (omega arith) in
     let pz = toZ-ofZ w32 (z .result) (record { sfits = z .ok }) ∙ z .ensures

@@ -1,6 +1,6 @@
 -- The loop: after i directions the bytes are what a sweep of them leaves (ByteSweeps). Assumes nothing.
 use mathlib.Core.Path.{_≡_, sym, _∙_, ap, subst}
-use mathlib.Core.List.{List, [], _∷_}
+use mathlib.Core.List.{[], _∷_}
 use Prim.Native.Nat.{ℕ, suc, _+_, _-_, _*_, _/_, _^_, _≤_, _<_}
 use native.Mathlib.Omega.{arith}
 use lib.ListN.{length, take, drop, length-drop}
@@ -41,9 +41,10 @@ known c =
     let l = c .before .loop in
     let s = c .before .before .before .before in
     let e = signed-long 4 (3 * l .i) (s .args .dirs .now) in
+    let long = new-long (l .inv .1) (l .i) e (omega (arith, l .inv .0, s .pre .1)) in
     record {
       inside = omega (arith, c .loop-test .taken);
-      room = omega (arith, c .loop-test .taken, s .pre .1, new-long (l .inv .1) (l .i) e (omega (arith, l .inv .0, s .pre .1)));
+      room = omega (arith, c .loop-test .taken, s .pre .1, long);
       few = most (l .inv .1) (l .i) e;
       small = s .good .1 .0 .0;
     }
@@ -107,7 +108,8 @@ loop-again c =
     let e : suc (l .i) ≡ l .i + 1 = omega arith in
     let late = p .put8 .last .1 .0 in
     let w : late ≡ over (bytesOf 8 (one .code .0)) (take (length mid - k) (drop k mid)) =
-    p .put8 .ensures ∙ ap (λ (v : ℕ). over (bytesOf 8 v) (take (length mid - k) (drop k mid))) (q .code-in .ensures) in
+    p .put8 .ensures
+    ∙ ap (λ (v : ℕ). over (bytesOf 8 v) (take (length mid - k) (drop k mid))) (q .code-in .ensures) in
     let n : CountedBytes (s .args .degree) (signedNumbers 4 (3 * suc (l .i)) dirs) (s .args .codes .now)
     (l .refused + nonZeros (one .refusal ∷ [])) (putMid k (length mid - k) mid late) =
     bytes-next (l .i) dirs one (l .inv .1) (f .file-byte-at .ensures) w in
@@ -125,7 +127,9 @@ returns c =
     let s = c .before .before .before .before in
     let dirs = s .args .dirs .now in
     let e : 3 * l .i ≡ length dirs / 4 = omega (arith, c .loop-test .left, l .inv .0, s .pre .0) in
-    subst (λ (j : ℕ). CountedBytes (s .args .degree) (signedNumbers 4 j dirs) (s .args .codes .now) (l .refused) (l .codes))
+    subst
+    (λ (j : ℕ).
+    CountedBytes (s .args .degree) (signedNumbers 4 j dirs) (s .args .codes .now) (l .refused) (l .codes))
     e (l .inv .1)
 
 pub file-each-byte-spec : {M : Type 1} → statement M

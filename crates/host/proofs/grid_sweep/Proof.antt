@@ -24,19 +24,19 @@ returns-4 : tie.Need-returns-4
 returns-4 c =
     refusing (refuse-out _ _ _ _ (omega arith) (c .before .before .if2 .left) (omega arith) (omega arith)) (λ z. omega (arith, z))
 
-file-bytes-requires : tie.Need-file-bytes-requires
-file-bytes-requires c κs = search needs
+file-each-byte-requires : tie.Need-file-each-byte-requires
+file-each-byte-requires c κs = search needs
 
-tell-bytes-requires : tie.Need-tell-bytes-requires
-tell-bytes-requires c κs =
-    let f = c .before .before .before in
+tell-in-requires : tie.Need-tell-in-requires
+tell-in-requires c κs =
+    let f = c .before .before .before .before in
     let e = f .before .before in
     let s = e .before .before .before .before .before .before .before in
-    let k = f .file-bytes .kept .1 .1 .0 in
-    (omega (arith, k, e .before .if3 .left), zero-in (s .args .dirs .now) (f .file-bytes .ensures) (e .before .before .if2 .left))
-
-put-three-requires : tie.Need-put-three-requires
-put-three-requires c κs = search needs
+    let k = f .file-each-byte .kept .1 .1 .0 in (
+      e .if4 .left,
+      omega (arith, k, e .before .if3 .left),
+      zero-in (s .args .dirs .now) (f .file-each-byte .ensures) (e .before .before .if2 .left),
+    )
 
 same-length : tie.Need-same-length
 same-length c = search needs
@@ -46,18 +46,18 @@ same-length-2 c = search needs
 
 returns-5 : tie.Need-returns-5
 returns-5 c =
-    let p = c .before .before in
-    let t = p .before .before in
-    let f = t .before .before .before .before in
+    let t = c .before .before in
+    let f = t .before .before .before .before .before in
     let e = f .before .before in
+    let told = t .tell-in .ensures in
     answering
     (sym (refuse-nothing _ _ _ _ (e .before .before .before .if1 .left) (e .before .before .if2 .left) (e .before .if3 .left)
     (e .if4 .left)))
     (record {
-      told = t .tell-bytes .result;
-      swept = tells-bytes _ (f .file-bytes .ensures) (e .before .before .if2 .left) (t .tell-bytes .ensures);
+      told = told .told;
+      swept = tells-bytes _ (f .file-each-byte .ensures) (e .before .before .if2 .left) (told .tells);
       answered = refl;
-      put = p .put-three .ensures;
+      put = told .put;
     })
 
 pub grid-sweep-spec : {M : Type 1} → statement M
@@ -69,9 +69,8 @@ grid-sweep-spec =
     mul-if3
     returns-3
     returns-4
-    file-bytes-requires
-    tell-bytes-requires
-    put-three-requires
+    file-each-byte-requires
+    tell-in-requires
     same-length
     same-length-2
     returns-5)

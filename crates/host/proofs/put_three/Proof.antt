@@ -40,7 +40,8 @@ returns c =
     let q = r .before .before .before .before in
     let p = q .before .before .before .before in
     let s = p .before .before .before in
-    laid-three (s .args .a) (s .args .b) (s .args .c) _ (p .put8 .last .1 .0) (q .put82 .last .1 .0) (r .put83 .last .1 .0)
+    laid-three (s .args .a) (s .args .b) (s .args .c) _ (p .put8 .last .1 .0) (q .put82 .last .1 .0)
+    (r .put83 .last .1 .0)
     (p .put8 .ensures) (q .put82 .ensures) (r .put83 .ensures)
 
 pub put-three-spec : {M : Type 1} → statement M

@@ -10,7 +10,7 @@ use Rattle.frame.specs.Lists.{some, firstPlace}
 use Rattle.frame.proofs.Scanning.{first-there, none-before}
 use Rattle.net.specs.Steps.{nonZeros}
 use Rattle.sweeps.specs.Sweeps.{isRefusal, sweepAnswer, noSweep, firstRefused, toldOf, told}
-use Rattle.sweeps.specs.Promises.{joined}
+use Rattle.sweeps.specs.Promises.{joinedBy, joined}
 use Rattle.sweeps.specs.declared.SweepAnswer.{SweepAnswer}
 
 -- ---- none is refused, or some are
@@ -133,6 +133,33 @@ pub told-one : (f : ℕ) → (f ≡ 0 → ⊥) → told (f ∷ []) ≡ sweepAnsw
 unfolding told firstPlace
 told-one zero k = absurd (k refl)
 told-one (suc f) k = refl
+
+-- ---- the answers of two parts by the program's tests
+
+module _ (h : ℕ) (a b : SweepAnswer) where
+  pub join-here : (a .refused ≡ 0 → ⊥) → sweepAnswer 0 (a .refused + b .refused) (a .place) (a .first) ≡ joined h a b
+  join-here = go (a .refused) (b .refused)
+    where
+      go : (m k : ℕ) → (m ≡ 0 → ⊥) → sweepAnswer 0 (m + k) (a .place) (a .first) ≡ joinedBy m k h a b
+      go zero k e = absurd (e refl)
+      go (suc m) k e = refl
+
+  pub join-later : a .refused ≡ 0 → (b .refused ≡ 0 → ⊥)
+      → sweepAnswer 0 (b .refused) (h + b .place) (b .first) ≡ joined h a b
+  join-later = go (a .refused) (b .refused)
+    where
+      go : (m k : ℕ) → m ≡ 0 → (k ≡ 0 → ⊥) → sweepAnswer 0 k (h + b .place) (b .first) ≡ joinedBy m k h a b
+      go zero zero e f = absurd (f refl)
+      go zero (suc k) e f = refl
+      go (suc m) k e f = absurd (omega (arith, e))
+
+  pub join-none : a .refused ≡ 0 → b .refused ≡ 0 → noSweep 0 ≡ joined h a b
+  join-none = go (a .refused) (b .refused)
+    where
+      go : (m k : ℕ) → m ≡ 0 → k ≡ 0 → noSweep 0 ≡ joinedBy m k h a b
+      go zero zero e f = refl
+      go zero (suc k) e f = absurd (omega (arith, f))
+      go (suc m) k e f = absurd (omega (arith, e))
 
 -- ---- sizes
 

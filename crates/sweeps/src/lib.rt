@@ -2,7 +2,7 @@
 // parts are handed on as parts that start in the middle of both lists.
 ghost use mathlib.Core.Path.{_≡_};
 ghost use mathlib.Core.List.{[], _∷_};
-ghost use Prim.Native.Nat.{_+_, _*_, _%_, _≤_, _<_};
+ghost use Prim.Native.Nat.{_+_, _*_, _%_, _^_, _≤_, _<_};
 ghost use lib.ListN.{length};
 ghost use Rattle.frame.specs.Lists.{firstPlace};
 ghost use Rattle.net.specs.Steps.{nonZeros};
@@ -10,7 +10,7 @@ ghost use Rattle.directions.specs.Answers.{FileAnswer};
 ghost use Rattle.directions.specs.Means.Numbers.{answerFor};
 ghost use Rattle.sweeps.specs.Sweeps.{sweepAnswer};
 ghost use Rattle.sweeps.specs.Answers.{SweepResult};
-ghost use Rattle.sweeps.specs.Promises.{directionAt};
+ghost use Rattle.sweeps.specs.Promises.{directionAt, joined};
 ghost use Rattle.sweeps.specs.Means.Counted.{CountedInto, isZero, Tells};
 
 // The refusal of the whole call, or 0; how many directions were refused, and the first one's place, from 0, and refusal.
@@ -33,6 +33,30 @@ pub fn none_refused(f: u64) -> SweepAnswer
         place: 0,
         first: 0,
     }
+}
+
+// What two parts come to, the first of h directions.
+pub fn join(h: u64, a: SweepAnswer, b: SweepAnswer) -> SweepAnswer
+    requires { ⌜ (a .refused + b .refused < 2 ^ 64) × (h + b .place < 2 ^ 64) ⌝ }
+    ensures { λ r. ⌜ r ≡ joined h a b ⌝ }
+{
+    if a.refused != 0 {
+        return SweepAnswer {
+            refusal: 0,
+            refused: a.refused + b.refused,
+            place: a.place,
+            first: a.first,
+        };
+    }
+    if b.refused != 0 {
+        return SweepAnswer {
+            refusal: 0,
+            refused: b.refused,
+            place: h + b.place,
+            first: b.first,
+        };
+    }
+    none_refused(0)
 }
 
 // ---- the sweep

@@ -119,10 +119,10 @@ uint64_t grid_list(uint64_t degree, int32_t x, int32_t y, int32_t z, uint8_t *ou
  * four bytes for each, in two's complement and the most significant first. A refused direction is no refusal of the
  * sweep: it has the code 0 in its place, and the sweep goes on.
  *
- * Writes: 8 bytes of codes for each direction, in their order; and 24 bytes of out: how many directions are refused, and
- * the first one's place, from 0, and its refusal, 7 or 8; all three are 0 where none is.
- * Refusals: 1, 9. (9 where dirs_length is no multiple of 12, or codes_length is below 8 for each direction, or out_length
- * below GRID_SWEEP_BYTES.) */
+ * Writes: 8 bytes of codes for each direction, in their order; and 24 bytes of out: how many directions are refused,
+ * and the first one's place, from 0, and its refusal, 7 or 8; all three are 0 where none is.
+ * Refusals: 1, 9. (9 where dirs_length is no multiple of 12, or codes_length is below 8 for each direction, or
+ * out_length below GRID_SWEEP_BYTES.) */
 uint64_t grid_sweep(uint64_t degree, const uint8_t *dirs, size_t dirs_length, uint8_t *codes, size_t codes_length,
                     uint8_t *out, size_t out_length);
 

@@ -320,7 +320,8 @@ PAIRS = [
     *((f"file {n} 0 0 1 8 0", f"{n} 00") for n in (0, 1, 7, 8)),
     *((f"list {n} 0 0 1 56 0", f"{n} 00") for n in (0, 1, 7, 8)),
     *((f"sweep {n} empty null 24 0", f"{n} 00") for n in (0, 1)),
-    *((f"{call} 0", "9 00") for call in ("cross 0x1 1 15", "file 1 0 0 1 7", "list 1 0 0 1 55", "sweep 1 empty null 23")),
+    *((f"{call} 0", "9 00") for call in ("cross 0x1 1 15", "file 1 0 0 1 7", "list 1 0 0 1 55")),
+    ("sweep 1 empty null 23 0", "9 00"),
     *((f"{call} null", "9") for call in ("cross 0x1 1", "file 1 0 0 1", "list 1 0 0 1", "sweep 1 empty 8 0")),
     ("sweep 1 00 8 0 30 0", "9 00"),
 ]

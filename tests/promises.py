@@ -17,9 +17,9 @@ demands' it may be one of grid/specs/Demands.antt, and above its table one that 
 answers the second column has fields of records `Mistakes`, those of grid/specs/Mistakes.antt by their names and others
 as places, all of them, and the last one must-fail edits, as `crate/edit`; a crate holds for the edits after it in its
 row. In the table by calls each call of document 01 (a method of words/src/lib.rt's TriangleCode, or what
-grid/src/lib.rt hands on), each call of a table, each of a sweep and each exported to C has its row, with two edits or more of code.
-Every edit stands in a row. Each of these calls has its row where contracts are held to promises, under the name that
-its promise has.
+grid/src/lib.rt hands on), each call of a table, each of a sweep and each exported to C has its row, with two edits or
+more of code. Every edit stands in a row. Each of these calls has its row where contracts are held to promises, under
+the name that its promise has.
 
 The crates in the tables of README.md and ARCHITECTURE.md are the libraries of crates.txt, and the modules that
 ARCHITECTURE.md names stand in their crates. LANDINGS.md tells what was, and is not read.

@@ -197,8 +197,9 @@ static int give_sweep(struct input *in, const char *kind, uint64_t degree) {
     return 1;
 }
 
-/* What a sweep is measured by: a loop that makes its single calls and comes to the same, the codes, how many are refused,
- * and the first one's place and refusal. (bench_file answers a code, or a refusal's number, which is below 12.) */
+/* What a sweep is measured by: a loop that makes its single calls and comes to the same, the codes, how many are
+ * refused, and the first one's place and refusal. (bench_file answers a code, or a refusal's number, which is below
+ * 12.) */
 __attribute__((noinline)) static uint64_t singles(uint64_t degree, const int32_t *dirs, size_t numbers,
                                                   uint64_t *codes, size_t places) {
     uint64_t refused = 0, place = 0, first = 0;

@@ -1,8 +1,8 @@
 /* One sweep of many directions, compared with single calls.
  *
  *     sweep COUNT STEP    sweeps COUNT directions of the inputs of tests/bench/directions.c, of which every 1000th is
- *                         (0, 0, 0) and every 1001st too far, by one grid_sweep, and compares each STEPth code with what
- *                         grid_file answers for its direction, and the answer with what was swept
+ *                         (0, 0, 0) and every 1001st too far, by one grid_sweep, and compares each STEPth code with
+ *                         what grid_file answers for its direction, and the answer with what was swept
  *
  * The status is 0; 1 where something differs, 2 where the arguments cannot be read, 3 where there is no memory. */
 #include "dogrzewin.h"

@@ -1,5 +1,5 @@
--- Document 02, 2026-01 and 2026-04: what the exported functions themselves say, as grid/specs/Contracts.antt has it of document
--- 01's. Assumes nothing.
+-- Document 02, 2026-01 and 2026-04: what the exported functions themselves say, as grid/specs/Contracts.antt has it of
+-- document 01's. Assumes nothing.
 use mathlib.Core.Path.{_≡_}
 use Prim.Native.Nat.{ℕ}
 use lib.IntN.{ℤ}

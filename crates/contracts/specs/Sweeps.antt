@@ -14,5 +14,6 @@ use Rattle.sweeps.proofs.sweep.Reads as sweep
 -- For any arguments, any result, and a list of codes left with any contents.
 pub record Contracts : Type 0 where
   pub sweep : (κs : Lfts 2) (n : ℕ) (dirs dirs′ : RefT (List ℤ)) (codes new : Slice) (r : SweepAnswer)
-      → Says (sweep.Asked κs (n, (dirs, (codes, tt)))) (sweep.Learnt κs (n, (dirs, (codes, tt))) r (n, (dirs′, (new, tt))))
+      → Says (sweep.Asked κs (n, (dirs, (codes, tt))))
+      (sweep.Learnt κs (n, (dirs, (codes, tt))) r (n, (dirs′, (new, tt))))
       (SweepResult n (now dirs) (now codes) r (now new))

@@ -135,7 +135,8 @@ module _ (n : ℕ) (dirs codes out : List ℕ) where
         pub refuse-nothing : 24 ≤ length out → 0 ≡ refuseSweep n dirs codes out
         unfolding refuseSweep
         refuse-nothing l = refuse-first order rows tt
-            (next (le-ltb _ _ low) (next (ap not (eq-eqb _ _ even)) (next (le-ltb _ _ room) (next (le-ltb _ _ l) nothing))))
+            (next (le-ltb _ _ low)
+            (next (ap not (eq-eqb _ _ even)) (next (le-ltb _ _ room) (next (le-ltb _ _ l) nothing))))
 
   pub record Fine : Type 0 where
     pub low : n ≤ 24

@@ -126,7 +126,8 @@ two-swept codes out z =
     }))
 
 pub examples : Examples
-unfolding bytes signedNumbers signed refuseCross refuseFile refuseList refuseSweep checkCode firstOf decimals written digits path wordOf
+unfolding bytes signedNumbers signed refuseCross refuseFile refuseList refuseSweep checkCode firstOf decimals written
+    digits path wordOf
 examples = record {
   eight-bytes = refl;
   back = refl;
@@ -178,7 +179,8 @@ abbrev told-byte : ℕ → ℕ × (List ℕ × List ℕ) → ℕ
 told-byte i x = getD (x .1 .1) i 0
 
 pub mistakes : Mistakes
-unfolding bytes signedNumbers signed refuseCross refuseFile refuseList refuseSweep checkCode firstOf decimals written digits path wordOf
+unfolding bytes signedNumbers signed refuseCross refuseFile refuseList refuseSweep checkCode firstOf decimals written
+    digits path wordOf
 mistakes = record {
   one-check = λ e. let f = sym (grid-bounds.bounds .not-canonical) ∙ e in absurd (omega (arith, f));
   reversed = no-other {s = (0, _)} (byte 0) (e3 (replicate 8 9) refl) refl;

@@ -86,7 +86,8 @@ module _ (n : ℕ) (dirs codes out places left : List ℕ) (a : SweepAnswer) (r 
 
   refused : (a .refusal ≡ 0 → ⊥) → r ≡ a .refusal
   refused k = ⊎-elim (λ l. absurd (k (passes l)))
-      (λ l. number ∙ sym (refuse-degree n dirs codes out l) ∙ numbers.refuse-degree n (directionsIn dirs) places l ∙ sym its)
+      (λ l. number ∙ sym (refuse-degree n dirs codes out l)
+      ∙ numbers.refuse-degree n (directionsIn dirs) places l ∙ sym its)
       (le-or-lt n 24)
 
   kept : (r ≡ 0 → ⊥) → new ≡ (codes, out)

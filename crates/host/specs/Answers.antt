@@ -1,6 +1,6 @@
--- Document 02, 2026-01 and 2026-04: the complete answer of each exported call, for every input: what the contracts cite. `out` is
--- the lent bytes as they come, `new` as they are left. (Check has no bytes: its contract is an equation, at the
--- function.) Assumes nothing.
+-- Document 02, 2026-01 and 2026-04: the complete answer of each exported call, for every input: what the contracts
+-- cite. `out` is the lent bytes as they come, `new` as they are left. (Check has no bytes: its contract is an equation,
+-- at the function.) Assumes nothing.
 use mathlib.Core.Path.{_≡_}
 use mathlib.Core.List.{List, [], _∷_}
 use Prim.Native.Nat.{ℕ, _/_}

@@ -1,4 +1,5 @@
--- Document 02, 2026-01 and 2026-04: what a stranger would try, each refusal at its bound, and wrong answers. Assumes nothing.
+-- Document 02, 2026-01 and 2026-04: what a stranger would try, each refusal at its bound, and wrong answers. Assumes
+-- nothing.
 use mathlib.Core.Path.{_≡_}
 use mathlib.Core.List.{List, [], _∷_, _++_}
 use Prim.Native.Nat.{ℕ}
@@ -99,8 +100,8 @@ pub record Mistakes : Type 0 where
   -- codes without the count
   pub no-count : ListBytes 0 up (replicate 56 9) 0
       ((0x20 ∷ replicate 7 0) ++ (0xA0 ∷ replicate 7 0) ++ replicate 40 9) → ⊥
-  -- a sweep: the old code left at a refused place, the later byte cleared, the place counted in bytes, the sweep refused
-  -- for one direction
+  -- a sweep: the old code left at a refused place, the later byte cleared, the place counted in bytes, the sweep
+  -- refused for one direction
   pub old-code : SweepBytes 2 two-directions (replicate 17 9) (replicate 24 9) 0 (
     0x50 ∷ 0x8C ∷ replicate 6 0 ++ replicate 9 9,
     replicate 7 0 ++ (1 ∷ replicate 7 0) ++ (1 ∷ replicate 7 0) ++ (7 ∷ []),
@@ -113,6 +114,7 @@ pub record Mistakes : Type 0 where
     0x50 ∷ 0x8C ∷ replicate 14 0,
     replicate 7 0 ++ (1 ∷ replicate 7 0) ++ (12 ∷ replicate 7 0) ++ (7 ∷ []),
   ) → ⊥
-  pub sweep-refused : SweepBytes 2 two-directions (replicate 16 9) (replicate 24 9) 7 (replicate 16 9, replicate 24 9) → ⊥
+  pub sweep-refused : SweepBytes 2 two-directions (replicate 16 9) (replicate 24 9) 7
+      (replicate 16 9, replicate 24 9) → ⊥
   -- refusing a longer slice
   pub longer : FileBytes 2 up (replicate 9 9) 9 (replicate 9 9) → ⊥

@@ -69,8 +69,8 @@ pub record AsTheGrid : Type 0 where
       (new : List ℕ) → 6 ≤ length places → ListAnswer n d places a left → ListBytes n d out r new
       → Hosted (a .refusal) (a .count ∷ take (a .count) left) 56 out r new
 
--- 2026-04: what a host has of a sweep over bytes, where the call on the numbers that they are answers a, and leaves `left`
--- of a list that is long enough. Each list of codes has m places, one for each direction.
+-- 2026-04: what a host has of a sweep over bytes, where the call on the numbers that they are answers a, and leaves
+-- `left` of a list that is long enough. Each list of codes has m places, one for each direction.
 pub record HostedSweep (a : SweepAnswer) (left : List ℕ) (m : ℕ) (codes out : List ℕ) (r : ℕ) (new : List ℕ × List ℕ)
     : Type 0 where
   pub refused : (a .refusal ≡ 0 → ⊥) → r ≡ a .refusal

@@ -1,6 +1,6 @@
--- Document 02, 2026-01 and 2026-04: the refusals of the exported calls that are lent bytes. "Otherwise document 01 holds": what its
--- call can refuse, in its order. (Check has no bytes, and refuses as in document 01: `checkCode` of the crate words,
--- `checkName` of the crate net.) Assumes nothing.
+-- Document 02, 2026-01 and 2026-04: the refusals of the exported calls that are lent bytes. "Otherwise document 01
+-- holds": what its call can refuse, in its order. (Check has no bytes, and refuses as in document 01: `checkCode` of
+-- the crate words, `checkName` of the crate net.) Assumes nothing.
 use Prim.Native.Nat.{ℕ, _*_, _/_, _%_}
 use mathlib.Core.Bool.{not}
 use mathlib.Core.List.{List, [], _∷_, _++_}
@@ -25,8 +25,9 @@ refuseFile n d out = refusal (degreeRows n ++ directionRows d ++ listRows 8 out)
 unfoldable pub refuseList : ℕ → Direction → List ℕ → ℕ
 refuseList n d out = refusal (degreeRows n ++ directionRows d ++ listRows 56 out)
 
--- 2026-04: "refusal 1 for a degree above 24, then 9 if the input length isn't a multiple of 3 or the code list is shorter
--- than the number of directions": twelve bytes a direction, eight a code; and the answer's three numbers have 24
+-- 2026-04: "refusal 1 for a degree above 24, then 9 if the input length isn't a multiple of 3 or the code list is
+-- shorter than the number of directions": twelve bytes a direction, eight a code; and the answer's three numbers have
+-- 24
 unfoldable pub refuseSweep : (degree : ℕ) (dirs codes out : List ℕ) → ℕ
 refuseSweep n dirs codes out = refusal
     (degreeRows n ++ (9 when not (eqb (length dirs % 12) 0) ∷ [])

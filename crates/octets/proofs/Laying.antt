@@ -66,7 +66,8 @@ pub bytes-append : (k : ℕ) (ws vs : List ℕ) → bytes k (ws ++ vs) ≡ bytes
 unfolding bytes
 bytes-append k [] vs = refl
 bytes-append k (w ∷ ws) vs =
-    ap (λ (l : List ℕ). bytesOf k w ++ l) (bytes-append k ws vs) ∙ sym (append-assoc (bytesOf k w) (bytes k ws) (bytes k vs))
+    ap (λ (l : List ℕ). bytesOf k w ++ l) (bytes-append k ws vs)
+    ∙ sym (append-assoc (bytesOf k w) (bytes k ws) (bytes k vs))
 
 -- number i of them, whatever follows
 taken : (k : ℕ) (ws rest : List ℕ) (i : ℕ) → i < length ws

@@ -101,7 +101,8 @@ into-next {n} i dirs {out} {mid} {m} s l room x f =
       counted = subst (λ (d : List ℤ). Counted n d (m + nonZeros (s .refusal ∷ [])) (x .codes ++ (s .code .0 ∷ [])))
           (sym (take-three dirs i l)) (counted-append (x .counted) (counted-one _ _ _ s f));
       put = ap (λ (y : List ℕ). set y i (s .code .0)) (x .put)
-          ∙ over-next (x .codes) out (s .code .0) i (omega (arith, counted-long (x .counted), t)) (omega (arith, l, room));
+          ∙ over-next (x .codes) out (s .code .0) i (omega (arith, counted-long (x .counted), t))
+          (omega (arith, l, room));
     }
 
 -- as the halves are handed on: the first h directions into the list, the rest into its part from place h
@@ -119,7 +120,8 @@ two-slices {n} h dirs {out} {mid} {late} {a} {b} l x y =
       codes = x .codes ++ y .codes;
       counted = subst (λ (d : List ℤ). Counted n d (a + b) (x .codes ++ y .codes)) whole
           (counted-append (x .counted) (y .counted));
-      put = two-parts out mid late (x .codes) (y .codes) h (omega (arith, counted-long (x .counted), t)) (x .put) (y .put);
+      put = two-parts out mid late (x .codes) (y .codes) h (omega (arith, counted-long (x .counted), t)) (x .put)
+          (y .put);
     }
 
 -- ---- the first refused is the first with the code 0

@@ -23,7 +23,8 @@ module _ (n : ℕ) (dirs : List ℤ) (out : List ℕ) where
   module _ (low : n ≤ 24) where
     pub refuse-threes : (length dirs % 3 ≡ 0 → ⊥) → 9 ≡ refuseSweep n dirs out
     unfolding refuseSweep
-    refuse-threes e = refuse-first order rows tt (next (le-ltb _ _ low) (here (either-left _ _ (ap not (ne-eqb _ _ e)))))
+    refuse-threes e = refuse-first order rows tt
+        (next (le-ltb _ _ low) (here (either-left _ _ (ap not (ne-eqb _ _ e)))))
 
     pub refuse-short : length out < length dirs / 3 → 9 ≡ refuseSweep n dirs out
     unfolding refuseSweep

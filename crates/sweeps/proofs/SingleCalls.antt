@@ -78,7 +78,8 @@ single-at : {n : ℕ} {dirs : List ℤ} {rs : List CodeAnswer} → Singles n dir
 single-at done i l = absurd (omega (arith, l))
 single-at (then x a) zero l = x
 single-at {n} (then {x} {y} {z} {more} {r} {rs} f a) (suc i) l =
-    subst (λ d. FileAnswer n d (getD rs i (noCode 0))) (sym (next-place i x y z more)) (single-at a i (omega (arith, l)))
+    subst (λ d. FileAnswer n d (getD rs i (noCode 0))) (sym (next-place i x y z more))
+    (single-at a i (omega (arith, l)))
 
 module _ {n : ℕ} {dirs : List ℤ} {rs : List CodeAnswer} (p : Singles n dirs rs) where
   pub many : length rs ≡ length dirs / 3
@@ -91,12 +92,14 @@ module _ {n : ℕ} {dirs : List ℤ} {rs : List CodeAnswer} (p : Singles n dirs 
   pub code-at : (i : ℕ) (s : CodeAnswer) → i < length dirs / 3 → FileAnswer n (directionAt dirs i) s
       → getD (codesOf rs) i 0 ≡ s .code .0
   code-at i s l f =
-      List·getD-map (λ (r : CodeAnswer). r .code .0) rs i (noCode 0) ∙ ap (λ (r : CodeAnswer). r .code .0) (is-at i s l f)
+      List·getD-map (λ (r : CodeAnswer). r .code .0) rs i (noCode 0)
+      ∙ ap (λ (r : CodeAnswer). r .code .0) (is-at i s l f)
 
   pub refusal-at : (i : ℕ) (s : CodeAnswer) → i < length dirs / 3 → FileAnswer n (directionAt dirs i) s
       → getD (refusalsOf rs) i 0 ≡ s .refusal
   refusal-at i s l f =
-      List·getD-map (λ (r : CodeAnswer). r .refusal) rs i (noCode 0) ∙ ap (λ (r : CodeAnswer). r .refusal) (is-at i s l f)
+      List·getD-map (λ (r : CodeAnswer). r .refusal) rs i (noCode 0)
+      ∙ ap (λ (r : CodeAnswer). r .refusal) (is-at i s l f)
 
 -- ---- sizes
 

@@ -76,7 +76,8 @@ found {n} {dirs} {out} {new} {r} x =
     let rest = drop (length (x .codes)) out in
     record {
       single = λ i s l f. ap (λ (y : List ℕ). getD y i 0) (x .put)
-          ∙ List·getD-append (x .codes) rest 0 i (omega (arith, l, m)) ∙ ap (λ (y : List ℕ). getD y i 0) (p .are) ∙ code-at (p .each) i s l f;
+          ∙ List·getD-append (x .codes) rest 0 i (omega (arith, l, m))
+          ∙ ap (λ (y : List ℕ). getD y i 0) (p .are) ∙ code-at (p .each) i s l f;
       later = ap (drop (length dirs / 3)) (x .put) ∙ drop-at (x .codes) rest (length dirs / 3) m
           ∙ ap (λ (k : ℕ). drop k out) m;
       first = first-at p;

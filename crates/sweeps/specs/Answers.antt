@@ -1,5 +1,5 @@
--- Document 02, 2026-04: the complete answer of a sweep, for every input: what the contract cites. `out` is the lent list
--- of codes as it comes, `new` as it is left. Assumes nothing.
+-- Document 02, 2026-04: the complete answer of a sweep, for every input: what the contract cites. `out` is the lent
+-- list of codes as it comes, `new` as it is left. Assumes nothing.
 use mathlib.Core.Path.{_≡_}
 use mathlib.Core.List.{List}
 use Prim.Native.Nat.{ℕ}

@@ -26,8 +26,8 @@ directionAt dirs i =
 
 -- What is found, sentence by sentence, where a sweep answers r and leaves the list of codes as `new`.
 pub record Found (n : ℕ) (dirs : List ℤ) (out : List ℕ) (r : SweepAnswer) (new : List ℕ) : Type 0 where
-  -- "Each result equals the single call's."  "A refused direction writes 0 in its own place and the sweep goes on": s is
-  -- the single call's answer, whose code is 0 where it is refused
+  -- "Each result equals the single call's."  "A refused direction writes 0 in its own place and the sweep goes on": s
+  -- is the single call's answer, whose code is 0 where it is refused
   pub single : (i : ℕ) (s : CodeAnswer) → i < length dirs / 3 → FileAnswer n (directionAt dirs i) s
       → getD new i 0 ≡ s .code .0
   -- "Code places after the last direction stay unchanged."
@@ -51,7 +51,8 @@ pub record Places : Type 0 where
   -- "An empty sweep is answered with no refused directions."
   pub empty : (n : ℕ) (out : List ℕ) → n ≤ 24 → SweepResult n [] out (noSweep 0) out
 
--- what the answers of two parts make together, the first of h directions: the place counts directions of the whole sweep
+-- what the answers of two parts make together, the first of h directions: the place counts directions of the whole
+-- sweep
 abbrev pub joinedBy : (first second h : ℕ) → SweepAnswer → SweepAnswer → SweepAnswer
 joinedBy zero zero h a b = noSweep 0
 joinedBy zero (suc m) h a b = sweepAnswer 0 (suc m) (h + b .place) (b .first)
@@ -60,15 +61,15 @@ joinedBy (suc m) k h a b = sweepAnswer 0 (suc m + k) (a .place) (a .first)
 abbrev pub joined : (h : ℕ) → SweepAnswer → SweepAnswer → SweepAnswer
 joined h a b = joinedBy (a .refused) (b .refused) h a b
 
--- "hand later parts of the sweep on as parts that start in the middle of the lent list": the first h directions into the
--- list, and the rest into the part of the list that starts at place h, come to the whole sweep
+-- "hand later parts of the sweep on as parts that start in the middle of the lent list": the first h directions into
+-- the list, and the rest into the part of the list that starts at place h, come to the whole sweep
 pub record Parts : Type 0 where
   pub parts : (n h : ℕ) (dirs : List ℤ) (out mid late : List ℕ) (a b : SweepAnswer) → h ≤ length dirs / 3
       → refuseSweep n dirs out ≡ 0 → SweepResult n (take (3 * h) dirs) out a mid
       → SweepResult n (drop (3 * h) dirs) (drop h mid) b late
       → SweepResult n dirs out (joined h a b) (take h mid ++ late)
-  -- "the number of refused directions": of two parts it is the sum; of a direction alone, with the single call's answer s,
-  -- it is 0 or 1
+  -- "the number of refused directions": of two parts it is the sum; of a direction alone, with the single call's answer
+  -- s, it is 0 or 1
   pub alone : (n : ℕ) (x y z : ℤ) (out : List ℕ) (r : SweepAnswer) (new : List ℕ) (s : CodeAnswer)
       → SweepResult n (x ∷ y ∷ z ∷ []) out r new → r .refusal ≡ 0 → FileAnswer n (towards x y z) s
       → (s .refusal ≡ 0 → r ≡ noSweep 0) × ((s .refusal ≡ 0 → ⊥) → r ≡ sweepAnswer 0 1 0 (s .refusal))

@@ -1,5 +1,5 @@
-// Filing a sweep (document 02, 2026-04): a lent list of directions, three numbers each, into a lent list of codes. Later
-// parts are handed on as parts that start in the middle of both lists.
+// Filing a sweep (document 02, 2026-04): a lent list of directions, three numbers each, into a lent list of codes.
+// Later parts are handed on as parts that start in the middle of both lists.
 ghost use mathlib.Core.Path.{_≡_};
 ghost use mathlib.Core.List.{[], _∷_};
 ghost use Prim.Native.Nat.{_+_, _*_, _%_, _^_, _≤_, _<_};
@@ -13,7 +13,8 @@ ghost use Rattle.sweeps.specs.Answers.{SweepResult};
 ghost use Rattle.sweeps.specs.Promises.{directionAt, joined};
 ghost use Rattle.sweeps.specs.Means.Counted.{CountedInto, isZero, Tells};
 
-// The refusal of the whole call, or 0; how many directions were refused, and the first one's place, from 0, and refusal.
+// The refusal of the whole call, or 0; how many directions were refused, and the first one's place, from 0, and
+// refusal.
 pub struct SweepAnswer {
     pub refusal: u64,
     pub refused: u64,
@@ -111,8 +112,8 @@ fn file_each(degree: u64, dirs: &[i32], codes: &mut [u64]) -> u64
     refused
 }
 
-// The same by halves, down to parts of 64 directions or fewer: however many there are, no more than 58 calls are open at
-// a time.
+// The same by halves, down to parts of 64 directions or fewer: however many there are, no more than 58 calls are open
+// at a time.
 fn file_halves(degree: u64, dirs: &[i32], codes: &mut [u64]) -> u64
     requires { ⌜ (length (now dirs) % 3 ≡ 0) × (length (now dirs) ≤ 3 * length (now codes)) ⌝ }
     ensures { λ r. ⌜ CountedInto degree (now (dirs .entry)) (now (codes .entry)) r (now (codes .exit)) ⌝ }
@@ -142,7 +143,8 @@ fn first_zero(codes: &[u64]) -> usize
     place
 }
 
-// The answer, where so many are refused: the first is the first with the code 0, and is asked once more for its refusal.
+// The answer, where so many are refused: the first is the first with the code 0, and is asked once more for its
+// refusal.
 fn tell(degree: u64, dirs: &[i32], codes: &[u64], refused: u64) -> SweepAnswer
     requires { ⌜ ((refused ≡ 0 → ⊥) → 3 * firstPlace isZero (now codes) + 2 < length (now dirs)) ⌝ }
     ensures { λ r. ⌜ Tells degree (now (dirs .entry)) (firstPlace isZero (now (codes .entry))) refused r ⌝ }

@@ -29,7 +29,8 @@ read c r p =
     let x = toZ-ofZ w32 (c .args .x) (c .fits .x) in
     let y = toZ-ofZ w32 (c .args .y) (c .fits .y) in
     let z = toZ-ofZ w32 (c .args .z) (c .fits .z) in
-    subst (λ (d : Direction). FileAnswer (c .args .degree) d (answerFor r)) (λ i. record { x = x i; y = y i; z = z i }) p
+    subst (λ (d : Direction). FileAnswer (c .args .degree) d (answerFor r))
+    (λ i. record { x = x i; y = y i; z = z i }) p
 
 refuse-direction-requires : tie.Need-refuse-direction-requires
 refuse-direction-requires c κs = search needs

@@ -22,7 +22,8 @@ returns-3 c = refusing (refuse-codes _ _ _ _ (omega arith) (c .before .if2 .left
 
 returns-4 : tie.Need-returns-4
 returns-4 c =
-    refusing (refuse-out _ _ _ _ (omega arith) (c .before .before .if2 .left) (omega arith) (omega arith)) (λ z. omega (arith, z))
+    refusing (refuse-out _ _ _ _ (omega arith) (c .before .before .if2 .left) (omega arith) (omega arith))
+    (λ z. omega (arith, z))
 
 file-each-byte-requires : tie.Need-file-each-byte-requires
 file-each-byte-requires c κs = search needs
@@ -51,7 +52,8 @@ returns-5 c =
     let e = f .before .before in
     let told = t .tell-in .ensures in
     answering
-    (sym (refuse-nothing _ _ _ _ (e .before .before .before .if1 .left) (e .before .before .if2 .left) (e .before .if3 .left)
+    (sym (refuse-nothing _ _ _ _ (e .before .before .before .if1 .left) (e .before .before .if2 .left)
+    (e .before .if3 .left)
     (e .if4 .left)))
     (record {
       told = told .told;

@@ -36,7 +36,12 @@ mul-result-3 : tie.Need-mul-result-3
 mul-result-3 c = omega (arith, c .shared-slice-known3 .given 2)
 
 add-result-2 : tie.Need-add-result-2
-add-result-2 c = omega (arith, c .before .before .shared-slice-known .given 0, c .before .shared-slice-known2 .given 1, c .shared-slice-known3 .given 2)
+add-result-2 c = omega (
+  arith,
+  c .before .before .shared-slice-known .given 0,
+  c .before .shared-slice-known2 .given 1,
+  c .shared-slice-known3 .given 2,
+)
 
 shared-slice-read-result-4 : tie.Need-shared-slice-read-result-4
 shared-slice-read-result-4 c = search needs
@@ -45,7 +50,13 @@ cast-result-4 : tie.Need-cast-result-4
 cast-result-4 c = omega (arith, c .shared-slice-known4 .given 3)
 
 add-result-3 : tie.Need-add-result-3
-add-result-3 c = omega (arith, c .before .before .before .shared-slice-known .given 0, c .before .before .shared-slice-known2 .given 1, c .before .shared-slice-known3 .given 2, c .shared-slice-known4 .given 3)
+add-result-3 c = omega (
+  arith,
+  c .before .before .before .shared-slice-known .given 0,
+  c .before .before .shared-slice-known2 .given 1,
+  c .before .shared-slice-known3 .given 2,
+  c .shared-slice-known4 .given 3,
+)
 
 returns : tie.Need-returns
 returns c =

@@ -37,7 +37,8 @@ calls t = (
   file-halves.Post,
 )
 
-file-halves-file-each-requires : (t : ℕ) → file-halves-lts.Need-file-each-requires (calls t) (file-halves-at t) file-halves.Post
+file-halves-file-each-requires : (t : ℕ) → file-halves-lts.Need-file-each-requires (calls t) (file-halves-at t)
+    file-halves.Post
 file-halves-file-each-requires t c κs = let s = c .before .before .before in (s .pre .1 .0, s .pre .1 .1)
 
 file-halves-same-length : (t : ℕ) → file-halves-lts.Need-same-length (calls t) (file-halves-at t) file-halves.Post
@@ -60,37 +61,47 @@ file-halves-slice-aggregate-file-halves t c =
     let dirs = now (c .before .before .before .args .dirs) in
     sym (length-take-le (3 * (length dirs / 3 / 2)) dirs (omega arith))
 
-file-halves-file-halves-requires : (t : ℕ) → file-halves-lts.Need-file-halves-requires (calls t) (file-halves-at t) file-halves.Post
+file-halves-file-halves-requires : (t : ℕ) → file-halves-lts.Need-file-halves-requires (calls t) (file-halves-at t)
+    file-halves.Post
 file-halves-file-halves-requires t c κs =
     let dirs = now (c .before .before .before .before .args .dirs) in
     let l = length-take-le (3 * (length dirs / 3 / 2)) dirs (omega arith) in
     (omega arith, (omega arith, omega arith))
 
-file-halves-mul-file-halves : (t : ℕ) → file-halves-lts.Need-mul-file-halves (calls t) (file-halves-at t) file-halves.Post
+file-halves-mul-file-halves : (t : ℕ) → file-halves-lts.Need-mul-file-halves (calls t) (file-halves-at t)
+    file-halves.Post
 file-halves-mul-file-halves t c = search needs
 
-file-halves-sub-file-halves : (t : ℕ) → file-halves-lts.Need-sub-file-halves (calls t) (file-halves-at t) file-halves.Post
+file-halves-sub-file-halves : (t : ℕ) → file-halves-lts.Need-sub-file-halves (calls t) (file-halves-at t)
+    file-halves.Post
 file-halves-sub-file-halves t c = search needs
 
-file-halves-part-file-halves-start : (t : ℕ) → file-halves-lts.Need-part-file-halves-start (calls t) (file-halves-at t) file-halves.Post
+file-halves-part-file-halves-start : (t : ℕ) → file-halves-lts.Need-part-file-halves-start (calls t) (file-halves-at t)
+    file-halves.Post
 file-halves-part-file-halves-start t c = search needs
 
-file-halves-part-file-halves-end : (t : ℕ) → file-halves-lts.Need-part-file-halves-end (calls t) (file-halves-at t) file-halves.Post
+file-halves-part-file-halves-end : (t : ℕ) → file-halves-lts.Need-part-file-halves-end (calls t) (file-halves-at t)
+    file-halves.Post
 file-halves-part-file-halves-end t c = search needs
 
-file-halves-mul-file-halves-2 : (t : ℕ) → file-halves-lts.Need-mul-file-halves-2 (calls t) (file-halves-at t) file-halves.Post
+file-halves-mul-file-halves-2 : (t : ℕ) → file-halves-lts.Need-mul-file-halves-2 (calls t) (file-halves-at t)
+    file-halves.Post
 file-halves-mul-file-halves-2 t c = search needs
 
-file-halves-sub-file-halves-2 : (t : ℕ) → file-halves-lts.Need-sub-file-halves-2 (calls t) (file-halves-at t) file-halves.Post
+file-halves-sub-file-halves-2 : (t : ℕ) → file-halves-lts.Need-sub-file-halves-2 (calls t) (file-halves-at t)
+    file-halves.Post
 file-halves-sub-file-halves-2 t c = search needs
 
-file-halves-part-file-halves-start-2 : (t : ℕ) → file-halves-lts.Need-part-file-halves-start-2 (calls t) (file-halves-at t) file-halves.Post
+file-halves-part-file-halves-start-2 : (t : ℕ) → file-halves-lts.Need-part-file-halves-start-2 (calls t)
+    (file-halves-at t) file-halves.Post
 file-halves-part-file-halves-start-2 t c = search needs
 
-file-halves-part-file-halves-end-2 : (t : ℕ) → file-halves-lts.Need-part-file-halves-end-2 (calls t) (file-halves-at t) file-halves.Post
+file-halves-part-file-halves-end-2 : (t : ℕ) → file-halves-lts.Need-part-file-halves-end-2 (calls t) (file-halves-at t)
+    file-halves.Post
 file-halves-part-file-halves-end-2 t c = search needs
 
-file-halves-file-halves-requires-2 : (t : ℕ) → file-halves-lts.Need-file-halves-requires-2 (calls t) (file-halves-at t) file-halves.Post
+file-halves-file-halves-requires-2 : (t : ℕ) → file-halves-lts.Need-file-halves-requires-2 (calls t) (file-halves-at t)
+    file-halves.Post
 file-halves-file-halves-requires-2 t c κs =
     let r = c .before .before .before .before in
     let s = r .before .before .before .before .before in

@@ -58,7 +58,8 @@ returns c =
     let x = toZ-ofZ w32 (at k) (record { sfits = c .before .before .before .x .given }) in
     let y = toZ-ofZ w32 (at (k + 1)) (record { sfits = c .before .before .y .given }) in
     let z = toZ-ofZ w32 (at (k + 2)) (record { sfits = c .before .z .given }) in
-    subst (λ (d : Direction). FileAnswer (s .args .degree) d (answerFor (c .file-word .result))) (λ i. towards (x i) (y i) (z i))
+    subst (λ (d : Direction). FileAnswer (s .args .degree) d (answerFor (c .file-word .result)))
+    (λ i. towards (x i) (y i) (z i))
     (c .file-word .ensures)
 
 pub file-at-spec : {M : Type 1} → statement M

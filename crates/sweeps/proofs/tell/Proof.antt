@@ -23,7 +23,8 @@ first-zero-requires c κs = search needs
 file-at-requires : tie.Need-file-at-requires
 file-at-requires c κs =
     let s = c .before .before .before in
-    subst (λ (p : ℕ). 3 * p + 2 < length (s .args .dirs .now)) (sym (c .first-zero .ensures)) (s .pre (c .before .if1 .left))
+    subst (λ (p : ℕ). 3 * p + 2 < length (s .args .dirs .now)) (sym (c .first-zero .ensures))
+    (s .pre (c .before .if1 .left))
 
 returns-2 : tie.Need-returns-2
 returns-2 c =

@@ -1,8 +1,10 @@
-/* One sweep of many directions, compared with single calls.
+/* One sweep of many directions, compared with single calls: on bytes, by the library for programs in C, and on
+ * numbers, as crates/bench exports it.
  *
  *     sweep COUNT STEP    sweeps COUNT directions of the inputs of tests/bench/directions.c, of which every 1000th is
  *                         (0, 0, 0) and every 1001st too far, by one grid_sweep, and compares each STEPth code with
- *                         what grid_file answers for its direction, and the answer with what was swept
+ *                         what grid_file answers for its direction, and the answer with what was swept; then
+ *                         sweeps the same numbers by one bench_sweep, and compares all codes and the answer
  *
  * The status is 0; 1 where something differs, 2 where the arguments cannot be read, 3 where there is no memory. */
 #include "dogrzewin.h"
@@ -12,6 +14,9 @@
 #include <stdio.h>
 #include <stdlib.h>
 #include <string.h>
+
+/* The sweep of crates/sweeps; it answers its four numbers in one, by exclusive or. */
+uint64_t bench_sweep(uint64_t degree, const int32_t *dirs, size_t dirs_length, uint64_t *codes, size_t codes_length);
 
 static const char *const kinds[] = {"random", "edge", "zero", "small", "axis", "near", "round"};
 
@@ -44,8 +49,8 @@ static int32_t number_at(const uint8_t *bytes) {
     return (int32_t)number;
 }
 
-static uint8_t *memory(size_t bytes) {
-    uint8_t *all = malloc(bytes);
+static void *memory(size_t bytes) {
+    void *all = malloc(bytes);
     if (all == NULL) {
         fail(3, "there is no memory", 0);
     }
@@ -79,6 +84,28 @@ static uint64_t compare(uint64_t degree, const uint8_t *dirs, const uint8_t *cod
     return refused;
 }
 
+/* The same directions as numbers, whose codes and answer must be those of the bytes. */
+static void compare_numbers(uint64_t degree, const uint8_t *dirs, const uint8_t *codes, size_t count,
+                            const uint8_t *out) {
+    int32_t *numbers = memory(3 * count * sizeof *numbers);
+    uint64_t *words = memory(count * sizeof *words), answer;
+    for (size_t k = 0; k < 3 * count; k++) {
+        numbers[k] = number_at(dirs + 4 * k);
+    }
+    memset(words, 0xFF, count * sizeof *words);
+    answer = bench_sweep(degree, numbers, 3 * count, words, count);
+    if (answer != (grid_number(out) ^ grid_number(out + 8) ^ grid_number(out + 16))) {
+        fail(1, "the sweep on numbers answers otherwise", 0);
+    }
+    for (size_t k = 0; k < count; k++) {
+        if (words[k] != grid_number(codes + 8 * k)) {
+            fail(1, "the sweep on numbers has another code", k);
+        }
+    }
+    free(numbers);
+    free(words);
+}
+
 int main(int argc, char **argv) {
     size_t count = argc == 3 ? strtoul(argv[1], NULL, 10) : 0, step = argc == 3 ? strtoul(argv[2], NULL, 10) : 0;
     uint64_t degree = 24, refusal, refused;
@@ -103,6 +130,7 @@ int main(int argc, char **argv) {
     if (refused != grid_number(out)) {
         fail(1, "another number of refused directions is answered", (size_t)grid_number(out));
     }
+    compare_numbers(degree, dirs, codes, count, out);
     printf("%zu directions swept, %" PRIu64 " refused\n", count, refused);
     free(dirs);
     free(codes);

@@ -9,7 +9,6 @@ use lib.ListN.{length, take, drop, set, getD, length-drop, take-append-drop}
 use lib.Seq.{take-all, take-suc, length-take-le}
 use borrow.Rule.Slice.PartMut.{putMid}
 use Rattle.frame.specs.Lists.{firstPlace}
-use Rattle.frame.specs.Answers.{over}
 use Rattle.frame.proofs.Lengths.{two-parts, over-next, over-long}
 use Rattle.words.specs.declared.CodeAnswer.{CodeAnswer}
 use Rattle.net.specs.Steps.{nonZeros}

@@ -1,16 +1,15 @@
 -- The promises of specs/Promises.antt, from the laws. Assumes nothing.
 use mathlib.Core.Path.{_≡_, _∙_, refl, sym, ap}
 use mathlib.Core.Logic.{⊎-elim}
-use mathlib.Core.List.{List, [], _∷_}
-use Prim.Native.Nat.{ℕ, _*_, _/_, _≤_}
+use mathlib.Core.List.{List, []}
+use Prim.Native.Nat.{ℕ, _*_, _≤_}
 use native.Mathlib.Omega.{arith}
 use lib.IntN.{ℤ}
 use lib.ListN.{length, take, drop, length-drop}
 use lib.Seq.{length-take-le}
 use Rattle.frame.proofs.Answering.{answers-or-not, answering}
-use Rattle.words.specs.declared.CodeAnswer.{CodeAnswer}
 use Rattle.sweeps.specs.Refusals.{refuseSweep}
-use Rattle.sweeps.specs.Answers.{SweptInto, SweepResult}
+use Rattle.sweeps.specs.Answers.{SweepResult}
 use Rattle.sweeps.specs.Promises.{OneAnswer, Places, Parts}
 use Rattle.sweeps.specs.declared.SweepAnswer.{SweepAnswer}
 use Rattle.sweeps.proofs.Refused.{fine, refuse-none}

@@ -1,8 +1,7 @@
 -- The refusals of the whole call in turn (Refused); then what is counted, and what it tells (CountedParts). Assumes
 -- nothing.
-use mathlib.Core.Path.{_≡_, sym, _∙_}
+use mathlib.Core.Path.{sym}
 use native.Mathlib.Omega.{arith}
-use denote.Ref.{now}
 use Rattle.frame.proofs.Answering.{refusing, answering}
 use Rattle.sweeps.proofs.Refused.{refuse-degree, refuse-threes, refuse-short, refuse-none}
 use Rattle.sweeps.proofs.CountedParts.{zero-in, tells-into}

@@ -217,7 +217,8 @@ pub fn degree_and_places(line: &[u8], at: usize) -> Lending
     }
 }
 
-// The weights that follow, into a list of at most 16 places, and how many they are; 17 where they cannot be read or are more.
+// The weights that follow, into a list of at most 16 places, and how many they are; 17 where they cannot be read or are
+// more.
 pub fn weights_at(line: &[u8], at: usize, list: &mut [u64]) -> usize
     requires { ⌜ at ≤ length (now line) ⌝ }
 {

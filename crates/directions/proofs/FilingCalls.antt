@@ -61,7 +61,8 @@ number-refused w k = ⊎-elim (λ l. absurd (k (ap (λ (a : CodeAnswer). a .refu
 -- the code of an answer is 0 just where it refuses
 pub filed-code : (n : ℕ) (d : Direction) (s : CodeAnswer) → FileAnswer n d s → s .refusal ≡ 0 → 0 < s .code .0
 filed-code n d s p e = ⊎-elim (λ z. omega (arith, code-fields (p .answered z .is .code) .aLow))
-    (λ k. absurd (k (sym (ap (λ (a : CodeAnswer). a .refusal) (p .refused k)) ∙ e))) (answers-or-not (refuseFile n d))
+    (λ k. absurd (k (sym (ap (λ (a : CodeAnswer). a .refusal) (p .refused k)) ∙ e)))
+    (answers-or-not (refuseFile n d))
 
 pub refused-code : (n : ℕ) (d : Direction) (s : CodeAnswer) → FileAnswer n d s → (s .refusal ≡ 0 → ⊥)
     → s .code .0 ≡ 0

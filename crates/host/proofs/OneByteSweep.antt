@@ -108,7 +108,8 @@ module _ (n : ℕ) (dirs codes out places left : List ℕ) (a : SweepAnswer) (r 
     put = sent .swept .put ∙ ap (λ (cs : List ℕ). over (bytes 8 cs) codes) (same .1)
 
     put-out : new .1 ≡ over (bytes 8 (a .refused ∷ a .place ∷ a .first ∷ [])) out
-    put-out = sent .put ∙ ap (λ (b : SweepAnswer). over (bytes 8 (b .refused ∷ b .place ∷ b .first ∷ [])) out) (same .0)
+    put-out = sent .put
+        ∙ ap (λ (b : SweepAnswer). over (bytes 8 (b .refused ∷ b .place ∷ b .first ∷ [])) out) (same .0)
 
     many : length (whole .codes) ≡ m
     many = omega (arith, swept-long (whole .swept), in-long dirs, even)
@@ -139,15 +140,18 @@ module _ (n : ℕ) (dirs codes out places left : List ℕ) (a : SweepAnswer) (r 
     laterCodes = ⊎-elim
         (λ z. let e : 8 * length (whole z .codes) ≡ 8 * m = omega (arith, many z) in
         (λ i. drop (sym e i) (put z i)) ∙ after-bytes 8 (whole z .codes) codes ∙ ap (λ (k : ℕ). drop k codes) e)
-        (λ k. ap (λ (x : List ℕ × List ℕ). drop (8 * m) (x .0)) (kept (λ e. k (sym number ∙ e)))) (answers-or-not g);
+        (λ k. ap (λ (x : List ℕ × List ℕ). drop (8 * m) (x .0)) (kept (λ e. k (sym number ∙ e))))
+        (answers-or-not g);
     later = ⊎-elim
         (λ z. ap (drop 24) (put-out z) ∙ after-bytes 8 (a .refused ∷ a .place ∷ a .first ∷ []) out)
-        (λ k. ap (λ (x : List ℕ × List ℕ). drop 24 (x .1)) (kept (λ e. k (sym number ∙ e)))) (answers-or-not g);
+        (λ k. ap (λ (x : List ℕ × List ℕ). drop 24 (x .1)) (kept (λ e. k (sym number ∙ e))))
+        (answers-or-not g);
     kept = kept;
     long = ⊎-elim
         (λ z. let f = fine n dirs codes out z in (
           ap length (put z) ∙ as-long 8 (whole z .codes) codes (omega (arith, many z, f .room)),
-          ap length (put-out z) ∙ as-long 8 (a .refused ∷ a .place ∷ a .first ∷ []) out (omega (arith, f .enough)),
+          ap length (put-out z) ∙ as-long 8 (a .refused ∷ a .place ∷ a .first ∷ []) out
+              (omega (arith, f .enough)),
         ))
         (λ k. let e = kept (λ e. k (sym number ∙ e)) in
         (ap (λ (x : List ℕ × List ℕ). length (x .0)) e, ap (λ (x : List ℕ × List ℕ). length (x .1)) e))

@@ -71,7 +71,8 @@ pub record AsTheGrid : Type 0 where
 
 -- 2026-04: what a host has of a sweep over bytes, where the call on the numbers that they are answers a, and leaves
 -- `left` of a list that is long enough. Each list of codes has m places, one for each direction.
-pub record HostedSweep (a : SweepAnswer) (left : List ℕ) (m : ℕ) (codes out : List ℕ) (r : ℕ) (new : List ℕ × List ℕ)
+pub record HostedSweep (a : SweepAnswer) (left : List ℕ) (m : ℕ) (codes out : List ℕ) (r : ℕ)
+    (new : List ℕ × List ℕ)
     : Type 0 where
   pub refused : (a .refusal ≡ 0 → ⊥) → r ≡ a .refusal
   pub short : a .refusal ≡ 0 → length codes < 8 * m → r ≡ 9
@@ -93,5 +94,6 @@ pub record AsTheSweep : Type 0 where
       → SweepResult n (directionsIn dirs) places a left → SweepBytes n dirs codes out r new
       → HostedSweep a left (length dirs / 12) codes out r new
   -- bytes that are no whole number of directions
-  pub odd : (n : ℕ) (dirs codes out : List ℕ) (r : ℕ) (new : List ℕ × List ℕ) → n ≤ 24 → (length dirs % 12 ≡ 0 → ⊥)
+  pub odd : (n : ℕ) (dirs codes out : List ℕ) (r : ℕ) (new : List ℕ × List ℕ) → n ≤ 24
+      → (length dirs % 12 ≡ 0 → ⊥)
       → SweepBytes n dirs codes out r new → r ≡ 9

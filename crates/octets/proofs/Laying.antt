@@ -190,4 +190,5 @@ signed-at k (suc m) bs zero l =
 signed-at k (suc m) bs (suc i) l =
     let e : k + k * i ≡ k * suc i = omega (arith, mul-suc k i) in
     signed-at k m (drop k bs) i (omega (arith, l))
-    ∙ ap (λ (b : List ℕ). signed k (numberOf (take k b))) (drop-drop (k * i) k bs ∙ ap (λ (j : ℕ). drop j bs) e)
+    ∙ ap (λ (b : List ℕ). signed k (numberOf (take k b)))
+    (drop-drop (k * i) k bs ∙ ap (λ (j : ℕ). drop j bs) e)

@@ -28,7 +28,8 @@ use Rattle.sweeps.proofs.Told.{non-append, non-most, told-none, told-so
 
 -- ---- what is counted
 
-pub counted-long : {n : ℕ} {l : List ℤ} {m : ℕ} {cs : List ℕ} → Counted n l m cs → length l ≡ 3 * length cs
+pub counted-long : {n : ℕ} {l : List ℤ} {m : ℕ} {cs : List ℕ} → Counted n l m cs
+    → length l ≡ 3 * length cs
 counted-long s = omega (arith, singles-long (s .each), ap length (s .are), codes-long (s .singles))
 
 -- no more than there are
@@ -75,7 +76,8 @@ take-three dirs i l =
     ∙ ap (λ (x : List ℤ). x ++ (getD dirs (suc (suc k)) z ∷ [])) (take-suc dirs (suc k) z (omega (arith, l)))
     ∙ ap (λ (x : List ℤ). (x ++ (getD dirs (suc k) z ∷ [])) ++ (getD dirs (suc (suc k)) z ∷ []))
     (take-suc dirs k z (omega (arith, l)))
-    ∙ append-assoc (take k dirs ++ (getD dirs k z ∷ [])) (getD dirs (suc k) z ∷ []) (getD dirs (suc (suc k)) z ∷ [])
+    ∙ append-assoc (take k dirs ++ (getD dirs k z ∷ [])) (getD dirs (suc k) z ∷ [])
+    (getD dirs (suc (suc k)) z ∷ [])
     ∙ append-assoc (take k dirs) (getD dirs k z ∷ []) (getD dirs (suc k) z ∷ getD dirs (suc (suc k)) z ∷ [])
     ∙ (λ j. take k dirs ++ (getD dirs k z ∷ getD dirs (one j) z ∷ getD dirs (two j) z ∷ []))
 
@@ -89,7 +91,8 @@ pub into-long : {n : ℕ} {dirs : List ℤ} {out new : List ℕ} {m : ℕ} → C
 into-long x l = ap length (x .put) ∙ over-long (x .codes) _ (omega (arith, l, counted-long (x .counted)))
 
 -- as the loop goes: i directions are filed, and `mid` is what stands in the list
-pub into-next : {n : ℕ} (i : ℕ) (dirs : List ℤ) {out mid : List ℕ} {m : ℕ} (s : CodeAnswer) → 3 * i + 2 < length dirs
+pub into-next : {n : ℕ} (i : ℕ) (dirs : List ℤ) {out mid : List ℕ} {m : ℕ} (s : CodeAnswer)
+    → 3 * i + 2 < length dirs
     → length dirs ≤ 3 * length out → CountedInto n (take (3 * i) dirs) out m mid
     → FileAnswer n (directionAt dirs i) s
     → CountedInto n (take (3 * suc i) dirs) out (m + nonZeros (s .refusal ∷ [])) (set mid i (s .code .0))
@@ -97,7 +100,8 @@ into-next {n} i dirs {out} {mid} {m} s l room x f =
     let t = length-take-le (3 * i) dirs (omega (arith, l)) in
     record {
       codes = x .codes ++ (s .code .0 ∷ []);
-      counted = subst (λ (d : List ℤ). Counted n d (m + nonZeros (s .refusal ∷ [])) (x .codes ++ (s .code .0 ∷ [])))
+      counted = subst (λ (d : List ℤ). Counted n d (m + nonZeros (s .refusal ∷ []))
+          (x .codes ++ (s .code .0 ∷ [])))
           (sym (take-three dirs i l)) (counted-append (x .counted) (counted-one _ _ _ s f));
       put = ap (λ (y : List ℕ). set y i (s .code .0)) (x .put)
           ∙ over-next (x .codes) out (s .code .0) i (omega (arith, counted-long (x .counted), t))
@@ -186,7 +190,8 @@ module _ {n : ℕ} {dirs : List ℤ} {m : ℕ} {cs : List ℕ} (rest : List ℕ)
           s .2 ∙ (λ i. sweepAnswer 0 (e i) (p i) (h i)) ∙ sym (told-some fs k q)
 
 -- the same in a list
-pub tells-into : {n : ℕ} {dirs : List ℤ} {out new : List ℕ} {m : ℕ} {r : SweepAnswer} → CountedInto n dirs out m new
+pub tells-into : {n : ℕ} {dirs : List ℤ} {out new : List ℕ} {m : ℕ} {r : SweepAnswer}
+    → CountedInto n dirs out m new
     → Tells n dirs (firstPlace isZero new) m r → SweptInto n dirs out r new
 tells-into {n} {dirs} {out} {new} {m} {r} x t = record {
   codes = x .codes;
@@ -195,7 +200,8 @@ tells-into {n} {dirs} {out} {new} {m} {r} x t = record {
   put = x .put;
 }
 
-pub zero-in : {n : ℕ} {dirs : List ℤ} {out new : List ℕ} {m : ℕ} → CountedInto n dirs out m new → (m ≡ 0 → ⊥)
+pub zero-in : {n : ℕ} {dirs : List ℤ} {out new : List ℕ} {m : ℕ} → CountedInto n dirs out m new
+    → (m ≡ 0 → ⊥)
     → 3 * firstPlace isZero new + 2 < length dirs
 zero-in {n} {dirs} {out} {new} x k =
     subst (λ (l : List ℕ). 3 * firstPlace isZero l + 2 < length dirs) (sym (x .put))

@@ -26,7 +26,8 @@ use Rattle.sweeps.specs.declared.SweepAnswer.{SweepAnswer}
 use Rattle.sweeps.proofs.OneSweep.{sweep-one}
 
 -- what the single calls answer is what is left
-shows : (n : ℕ) (dirs : List ℤ) (out : List ℕ) {rs : List CodeAnswer} → refuseSweep n dirs out ≡ 0 → Singles n dirs rs
+shows : (n : ℕ) (dirs : List ℤ) (out : List ℕ) {rs : List CodeAnswer} → refuseSweep n dirs out ≡ 0
+    → Singles n dirs rs
     → SweepResult n dirs out leaves (told (refusalsOf rs), over (codesOf rs) out)
 shows n dirs out {rs} z s =
     gives-one (sweep-one n dirs out)

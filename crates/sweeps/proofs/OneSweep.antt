@@ -18,7 +18,8 @@ use Rattle.sweeps.proofs.Refused.{fine}
 -- ---- what they come to
 
 -- the answer and the codes, of any two lists of single answers
-pub swept-one : {n : ℕ} {dirs : List ℤ} {a b : SweepAnswer} {cs ds : List ℕ} → Swept n dirs a cs → Swept n dirs b ds
+pub swept-one : {n : ℕ} {dirs : List ℤ} {a b : SweepAnswer} {cs ds : List ℕ} → Swept n dirs a cs
+    → Swept n dirs b ds
     → (a ≡ b) × (cs ≡ ds)
 swept-one x y =
     let e = singles-one (x .each) (y .each) in

@@ -16,7 +16,8 @@ use Rattle.sweeps.specs.Promises.{directionAt}
 
 -- ---- one list of answers at most, and one where the numbers are three for each
 
-pub singles-one : {n : ℕ} {dirs : List ℤ} {rs rs′ : List CodeAnswer} → Singles n dirs rs → Singles n dirs rs′
+pub singles-one : {n : ℕ} {dirs : List ℤ} {rs rs′ : List CodeAnswer} → Singles n dirs rs
+    → Singles n dirs rs′
     → rs ≡ rs′
 singles-one done done = refl
 singles-one (then x xs) (then y ys) = let e = file-one _ _ _ _ x y in let f = singles-one xs ys in λ i. e i ∷ f i
@@ -65,7 +66,8 @@ refusals-long (r ∷ rs) = ap suc (refusals-long rs)
 
 -- ---- place by place
 
-next-place : (i : ℕ) (x y z : ℤ) (dirs : List ℤ) → directionAt (x ∷ y ∷ z ∷ dirs) (suc i) ≡ directionAt dirs i
+next-place : (i : ℕ) (x y z : ℤ) (dirs : List ℤ)
+    → directionAt (x ∷ y ∷ z ∷ dirs) (suc i) ≡ directionAt dirs i
 next-place i x y z dirs =
     let l = x ∷ y ∷ z ∷ dirs in
     let a : 3 * suc i ≡ suc (suc (suc (3 * i))) = omega arith in

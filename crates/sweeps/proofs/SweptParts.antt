@@ -15,7 +15,8 @@ use Rattle.sweeps.proofs.SingleCalls.{refusals-long, codes-small, refus
 use Rattle.sweeps.proofs.Told.{by-told, told-append, told-most}
 
 -- one code for each direction
-pub swept-long : {n : ℕ} {l : List ℤ} {a : SweepAnswer} {cs : List ℕ} → Swept n l a cs → length l ≡ 3 * length cs
+pub swept-long : {n : ℕ} {l : List ℤ} {a : SweepAnswer} {cs : List ℕ} → Swept n l a cs
+    → length l ≡ 3 * length cs
 swept-long s = omega (arith, singles-long (s .each), ap length (s .are), codes-long (s .singles))
 
 -- counts and places are at most the number of directions
@@ -30,7 +31,8 @@ swept-most s =
 
 -- every number of it has 64 bits, where there are no more directions than that
 pub swept-small : {n : ℕ} {l : List ℤ} {a : SweepAnswer} {cs : List ℕ} → Swept n l a cs → length cs < 2 ^ 64
-    → ((i : ℕ) → getD cs i 0 < 2 ^ 64) × ((i : ℕ) → getD (a .refused ∷ a .place ∷ a .first ∷ []) i 0 < 2 ^ 64)
+    → ((i : ℕ) → getD cs i 0 < 2 ^ 64)
+    × ((i : ℕ) → getD (a .refused ∷ a .place ∷ a .first ∷ []) i 0 < 2 ^ 64)
 swept-small {n} {l} {a} {cs} s k = (
   λ i. rw (s .are) (codes-small (s .each) i),
   at,

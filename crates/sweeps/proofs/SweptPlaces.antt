@@ -89,7 +89,8 @@ found {n} {dirs} {out} {new} {r} x =
 
 -- ---- two parts
 
-pub into-parts : {n : ℕ} (h : ℕ) (dirs : List ℤ) {out mid late : List ℕ} {a b : SweepAnswer} → 3 * h ≤ length dirs
+pub into-parts : {n : ℕ} (h : ℕ) (dirs : List ℤ) {out mid late : List ℕ} {a b : SweepAnswer}
+    → 3 * h ≤ length dirs
     → SweptInto n (take (3 * h) dirs) out a mid → SweptInto n (drop (3 * h) dirs) (drop h mid) b late
     → SweptInto n dirs out (joined h a b) (take h mid ++ late)
 into-parts {n} h dirs {out} {mid} {late} {a} {b} l x y =
@@ -112,10 +113,13 @@ into-parts {n} h dirs {out} {mid} {late} {a} {b} l x y =
 
 -- ---- a direction alone
 
-pub alone : {n : ℕ} {x y z : ℤ} {r : SweepAnswer} {cs : List ℕ} {s : CodeAnswer} → Swept n (x ∷ y ∷ z ∷ []) r cs
+pub alone : {n : ℕ} {x y z : ℤ} {r : SweepAnswer} {cs : List ℕ} {s : CodeAnswer}
+    → Swept n (x ∷ y ∷ z ∷ []) r cs
     → FileAnswer n (towards x y z) s
     → (s .refusal ≡ 0 → r ≡ noSweep 0) × ((s .refusal ≡ 0 → ⊥) → r ≡ sweepAnswer 0 1 0 (s .refusal))
 alone {n} {x} {y} {z} {r} {cs} {s} p f =
     let e : r ≡ told (s .refusal ∷ []) =
-    p .answer ∙ ap (λ (rs : List CodeAnswer). told (refusalsOf rs)) (singles-one (p .each) (then f done)) in
-    (λ k. e ∙ told-none (s .refusal ∷ []) (ap (λ (g : ℕ). nonZeros (g ∷ [])) k), λ k. e ∙ told-one (s .refusal) k)
+    p .answer ∙ ap (λ (rs : List CodeAnswer). told (refusalsOf rs)) (singles-one (p .each) (then f done)) in (
+      λ k. e ∙ told-none (s .refusal ∷ []) (ap (λ (g : ℕ). nonZeros (g ∷ [])) k),
+      λ k. e ∙ told-one (s .refusal) k,
+    )

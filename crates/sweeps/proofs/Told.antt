@@ -36,7 +36,8 @@ by-told {A} fs none one = go (nonZeros fs) refl
 
 -- the whole call is not refused
 pub told-0 : (fs : List ℕ) → told fs .refusal ≡ 0
-told-0 fs = by-told fs (λ e q. ap (λ (r : SweepAnswer). r .refusal) q) (λ m e q. ap (λ (r : SweepAnswer). r .refusal) q)
+told-0 fs = by-told fs (λ e q. ap (λ (r : SweepAnswer). r .refusal) q)
+    (λ m e q. ap (λ (r : SweepAnswer). r .refusal) q)
 
 -- ---- where the first stands
 
@@ -111,7 +112,8 @@ told-count fs = by-told fs (λ e q. ap (λ (r : SweepAnswer). r .refused) q ∙ 
 pub told-append : (fs gs : List ℕ) → told (fs ++ gs) ≡ joined (length fs) (told fs) (told gs)
 told-append fs gs = go (nonZeros fs) (nonZeros gs) refl refl
   where
-    go : (m k : ℕ) → nonZeros fs ≡ m → nonZeros gs ≡ k → told (fs ++ gs) ≡ joined (length fs) (told fs) (told gs)
+    go : (m k : ℕ) → nonZeros fs ≡ m → nonZeros gs ≡ k
+        → told (fs ++ gs) ≡ joined (length fs) (told fs) (told gs)
     go zero zero e f =
         told-none (fs ++ gs) (omega (arith, non-append fs gs, e, f))
         ∙ sym (λ i. joined (length fs) (told-none fs e i) (told-none gs f i))
@@ -137,7 +139,8 @@ told-one (suc f) k = refl
 -- ---- the answers of two parts by the program's tests
 
 module _ (h : ℕ) (a b : SweepAnswer) where
-  pub join-here : (a .refused ≡ 0 → ⊥) → sweepAnswer 0 (a .refused + b .refused) (a .place) (a .first) ≡ joined h a b
+  pub join-here : (a .refused ≡ 0 → ⊥)
+      → sweepAnswer 0 (a .refused + b .refused) (a .place) (a .first) ≡ joined h a b
   join-here = go (a .refused) (b .refused)
     where
       go : (m k : ℕ) → (m ≡ 0 → ⊥) → sweepAnswer 0 (m + k) (a .place) (a .first) ≡ joinedBy m k h a b
@@ -148,7 +151,8 @@ module _ (h : ℕ) (a b : SweepAnswer) where
       → sweepAnswer 0 (b .refused) (h + b .place) (b .first) ≡ joined h a b
   join-later = go (a .refused) (b .refused)
     where
-      go : (m k : ℕ) → m ≡ 0 → (k ≡ 0 → ⊥) → sweepAnswer 0 k (h + b .place) (b .first) ≡ joinedBy m k h a b
+      go : (m k : ℕ) → m ≡ 0 → (k ≡ 0 → ⊥)
+          → sweepAnswer 0 k (h + b .place) (b .first) ≡ joinedBy m k h a b
       go zero zero e f = absurd (f refl)
       go zero (suc k) e f = refl
       go (suc m) k e f = absurd (omega (arith, e))

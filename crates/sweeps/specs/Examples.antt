@@ -74,7 +74,8 @@ pub record Mistakes : Type 0 where
   pub in-numbers : SweepResult 2 four (replicate 5 9) (sweepAnswer 0 2 3 7) (e3 ∷ 0 ∷ e6 ∷ 0 ∷ 9 ∷ []) → ⊥
   pub from-1 : SweepResult 2 four (replicate 5 9) (sweepAnswer 0 2 2 7) (e3 ∷ 0 ∷ e6 ∷ 0 ∷ 9 ∷ []) → ⊥
   -- the last refused in place of the first
-  pub last-refused : SweepResult 2 four (replicate 5 9) (sweepAnswer 0 2 3 8) (e3 ∷ 0 ∷ e6 ∷ 0 ∷ 9 ∷ []) → ⊥
+  pub last-refused : SweepResult 2 four (replicate 5 9) (sweepAnswer 0 2 3 8) (e3 ∷ 0 ∷ e6 ∷ 0 ∷ 9 ∷ [])
+      → ⊥
   -- the later places cleared
   pub cleared : SweepResult 2 four (replicate 5 9) (sweepAnswer 0 2 1 7) (e3 ∷ 0 ∷ e6 ∷ 0 ∷ 0 ∷ []) → ⊥
   -- refusing a longer list

@@ -36,7 +36,8 @@ pub record Found (n : ℕ) (dirs : List ℤ) (out : List ℕ) (r : SweepAnswer) 
   pub first : (s : CodeAnswer) → (r .refused ≡ 0 → ⊥) → FileAnswer n (directionAt dirs (r .place)) s
       → (s .refusal ≡ r .first) × (s .refusal ≡ 0 → ⊥)
   pub inside : (r .refused ≡ 0 → ⊥) → r .place < length dirs / 3
-  pub noneBefore : (i : ℕ) (s : CodeAnswer) → i < r .place → FileAnswer n (directionAt dirs i) s → s .refusal ≡ 0
+  pub noneBefore : (i : ℕ) (s : CodeAnswer) → i < r .place → FileAnswer n (directionAt dirs i) s
+      → s .refusal ≡ 0
   -- "all zeros if there is none": and where the number is 0, there is none
   pub noneRefused : r .refused ≡ 0 → r ≡ noSweep 0
   pub allFiled : (i : ℕ) (s : CodeAnswer) → r .refused ≡ 0 → i < length dirs / 3
@@ -44,9 +45,11 @@ pub record Found (n : ℕ) (dirs : List ℤ) (out : List ℕ) (r : SweepAnswer) 
 
 -- The sentences one by one.
 pub record Places : Type 0 where
-  pub found : (n : ℕ) (dirs : List ℤ) (out : List ℕ) (r : SweepAnswer) (new : List ℕ) → SweepResult n dirs out r new
+  pub found : (n : ℕ) (dirs : List ℤ) (out : List ℕ) (r : SweepAnswer) (new : List ℕ)
+      → SweepResult n dirs out r new
       → r .refusal ≡ 0 → Found n dirs out r new
-  pub long : (n : ℕ) (dirs : List ℤ) (out : List ℕ) (r : SweepAnswer) (new : List ℕ) → SweepResult n dirs out r new
+  pub long : (n : ℕ) (dirs : List ℤ) (out : List ℕ) (r : SweepAnswer) (new : List ℕ)
+      → SweepResult n dirs out r new
       → length new ≡ length out
   -- "An empty sweep is answered with no refused directions."
   pub empty : (n : ℕ) (out : List ℕ) → n ≤ 24 → SweepResult n [] out (noSweep 0) out
@@ -72,4 +75,5 @@ pub record Parts : Type 0 where
   -- s, it is 0 or 1
   pub alone : (n : ℕ) (x y z : ℤ) (out : List ℕ) (r : SweepAnswer) (new : List ℕ) (s : CodeAnswer)
       → SweepResult n (x ∷ y ∷ z ∷ []) out r new → r .refusal ≡ 0 → FileAnswer n (towards x y z) s
-      → (s .refusal ≡ 0 → r ≡ noSweep 0) × ((s .refusal ≡ 0 → ⊥) → r ≡ sweepAnswer 0 1 0 (s .refusal))
+      → (s .refusal ≡ 0 → r ≡ noSweep 0)
+      × ((s .refusal ≡ 0 → ⊥) → r ≡ sweepAnswer 0 1 0 (s .refusal))

@@ -17,7 +17,8 @@ use Rattle.sweeps.specs.declared.SweepAnswer.{SweepAnswer}
 pub data Singles (degree : ℕ) : List ℤ → List CodeAnswer → Type 0 where
   done : Singles degree [] []
   then : {x y z : ℤ} {more : List ℤ} {r : CodeAnswer} {rs : List CodeAnswer}
-      → FileAnswer degree (towards x y z) r → Singles degree more rs → Singles degree (x ∷ y ∷ z ∷ more) (r ∷ rs)
+      → FileAnswer degree (towards x y z) r → Singles degree more rs
+      → Singles degree (x ∷ y ∷ z ∷ more) (r ∷ rs)
 
 -- "A refused direction writes 0 in its own place": a refused single call answers the code 0
 abbrev pub codesOf : List CodeAnswer → List ℕ

@@ -18,7 +18,8 @@ mul-if3 : tie.Need-mul-if3
 mul-if3 c = search needs
 
 returns-3 : tie.Need-returns-3
-returns-3 c = refusing (refuse-codes _ _ _ _ (omega arith) (c .before .if2 .left) (omega arith)) (λ z. omega (arith, z))
+returns-3 c = refusing (refuse-codes _ _ _ _ (omega arith) (c .before .if2 .left) (omega arith))
+    (λ z. omega (arith, z))
 
 returns-4 : tie.Need-returns-4
 returns-4 c =

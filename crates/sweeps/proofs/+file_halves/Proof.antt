@@ -76,7 +76,8 @@ file-halves-sub-file-halves : (t : ℕ) → file-halves-lts.Need-sub-file-halves
     file-halves.Post
 file-halves-sub-file-halves t c = search needs
 
-file-halves-part-file-halves-start : (t : ℕ) → file-halves-lts.Need-part-file-halves-start (calls t) (file-halves-at t)
+file-halves-part-file-halves-start : (t : ℕ)
+    → file-halves-lts.Need-part-file-halves-start (calls t) (file-halves-at t)
     file-halves.Post
 file-halves-part-file-halves-start t c = search needs
 
@@ -96,11 +97,13 @@ file-halves-part-file-halves-start-2 : (t : ℕ) → file-halves-lts.Need-part-f
     (file-halves-at t) file-halves.Post
 file-halves-part-file-halves-start-2 t c = search needs
 
-file-halves-part-file-halves-end-2 : (t : ℕ) → file-halves-lts.Need-part-file-halves-end-2 (calls t) (file-halves-at t)
+file-halves-part-file-halves-end-2 : (t : ℕ)
+    → file-halves-lts.Need-part-file-halves-end-2 (calls t) (file-halves-at t)
     file-halves.Post
 file-halves-part-file-halves-end-2 t c = search needs
 
-file-halves-file-halves-requires-2 : (t : ℕ) → file-halves-lts.Need-file-halves-requires-2 (calls t) (file-halves-at t)
+file-halves-file-halves-requires-2 : (t : ℕ)
+    → file-halves-lts.Need-file-halves-requires-2 (calls t) (file-halves-at t)
     file-halves.Post
 file-halves-file-halves-requires-2 t c κs =
     let r = c .before .before .before .before in
@@ -132,7 +135,8 @@ file-halves-add-result t c =
     let g : length dirs < 2 ^ 64 = s .good .1 .0 .0 in
     omega arith
 
-file-halves-same-length-2 : (t : ℕ) → file-halves-lts.Need-same-length-2 (calls t) (file-halves-at t) file-halves.Post
+file-halves-same-length-2 : (t : ℕ)
+    → file-halves-lts.Need-same-length-2 (calls t) (file-halves-at t) file-halves.Post
 file-halves-same-length-2 t c =
     let q = c .before .before in
     let r = q .before .before .before .before .before in

@@ -1,6 +1,6 @@
 -- Looking through a list for what passes a test: place by place, with a way out at the first or without one. Assumes
 -- nothing.
-use mathlib.Core.Path.{_≡_, refl, sym, _∙_}
+use mathlib.Core.Path.{_≡_, refl, sym, ap, _∙_}
 use mathlib.Core.Bool.{Bool, true, false, true≢false}
 use mathlib.Core.List.{List, [], _∷_}
 use Prim.Native.Nat.{ℕ, zero, suc, _≤_, _<_}
@@ -9,7 +9,7 @@ use lib.ListN.{length, getD, drop, set, replicate, drop-of-length-le}
 use lib.Seq.{drop-cons}
 use Rattle.frame.specs.Refusals.{_either_}
 use Rattle.frame.proofs.Refusing.{either-right, either-false}
-use Rattle.frame.specs.Lists.{some, firstPlace}
+use Rattle.frame.specs.Lists.{some, firstPlace, those}
 
 either-none : (b : Bool) → b either false ≡ b
 either-none true = refl
@@ -103,3 +103,17 @@ pub in-range : {A : Type 0} (l : List A) (i : ℕ) (d e : A) → i < length l �
 in-range [] i d e h = absurd (omega (arith, h))
 in-range (x ∷ xs) zero d e h = refl
 in-range (x ∷ xs) (suc i) d e h = in-range xs i d e (omega (arith, h))
+
+-- where all that pass the one test pass the other, the other leaves none of them out
+pub those-within : {A : Type 0} (f g : A → Bool) → ((x : A) → f x ≡ true → g x ≡ true) → (xs : List A)
+    → those f (those g xs) ≡ those f xs
+unfolding those
+those-within f g w [] = refl
+those-within f g w (x ∷ xs) = go (f x) (g x) refl refl (those-within f g w xs)
+  where
+    go : (a b : Bool) → f x ≡ a → g x ≡ b → those f (those g xs) ≡ those f xs
+        → those f (those g (x ∷ xs)) ≡ those f (x ∷ xs)
+    go true true a b ih = rw (b, a) (ap (λ ys. x ∷ ys) ih)
+    go true false a b ih = absurd (true≢false (sym (w x a) ∙ b))
+    go false true a b ih = rw (b, a) ih
+    go false false a b ih = rw (b, a) ih

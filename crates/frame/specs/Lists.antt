@@ -12,3 +12,8 @@ some f (x ∷ xs) = f x either some f xs
 unfoldable pub firstPlace : {A : Type 0} → (A → Bool) → List A → ℕ
 firstPlace f [] = 0
 firstPlace f (x ∷ xs) = cond (f x) 0 (suc (firstPlace f xs))
+
+-- those of a list that pass a test, in its order
+unfoldable pub those : {A : Type 0} → (A → Bool) → List A → List A
+those f [] = []
+those f (x ∷ xs) = cond (f x) (x ∷ those f xs) (those f xs)

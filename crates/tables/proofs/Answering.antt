@@ -6,7 +6,8 @@ use borrow.Author.Tests.{ne-eqb}
 use lib.IntN.{ℤ}
 use Rattle.frame.proofs.Answering.{answering, refused-as}
 use Rattle.words.specs.declared.TriangleCode.{TriangleCode}
-use Rattle.tables.specs.Tables.{leastBad, said, numberAt, listAfter}
+use Rattle.tables.specs.Tables.{leastBad, said, numberAt}
+use Rattle.tables.specs.Owners.{Shared, sharedAfter}
 use Rattle.tables.specs.Refusals.{refuseGet, refuseDeed}
 use Rattle.tables.specs.Answers.{tableAnswer, soundingAnswer, refused, GetAnswer, DeedAnswer}
 use Rattle.tables.specs.declared.Sounding.{Sounding}
@@ -54,13 +55,13 @@ module _ (n : ℕ) (t : TriangleCode) (list : List ℤ) (a : TableAnswer) (e : a
         → GetAnswer n t list (soundingAnswer 0 0 s)
     get-found z q = answering (none list _ a e z) (ap (soundingAnswer 0 0) q)
 
-module _ (d : Deed) (n : ℕ) (t : TriangleCode) (list : List ℤ) (a : TableAnswer)
-    (e : a ≡ refused list (refuseDeed d n t list)) where
-  pub deed-refused : (a .refusal ≡ 0 → ⊥) → DeedAnswer d n t list a list
-  deed-refused k = refused-as (ap (λ (r : TableAnswer). (r, list)) e) (some list _ a e k)
+module _ (e : Deed) (d n : ℕ) (t : TriangleCode) (s : Shared) (a : TableAnswer)
+    (q : a ≡ refused (s .readings) (refuseDeed e d n t s)) where
+  pub deed-refused : (a .refusal ≡ 0 → ⊥) → DeedAnswer e d n t s a s
+  deed-refused k = refused-as (ap (λ (r : TableAnswer). (r, s)) q) (some (s .readings) _ a q k)
 
-  pub deed-done : a .refusal ≡ 0 → {new : List ℤ} → new ≡ listAfter d t list → DeedAnswer d n t list a new
-  deed-done z q =
-      let f = none list _ a e z in
-      let k : a ≡ tableAnswer 0 0 = e ∙ ap (refused list) f in
-      answering f (λ i. (k i, q i))
+  pub deed-done : a .refusal ≡ 0 → {new : Shared} → new ≡ sharedAfter e d t s → DeedAnswer e d n t s a new
+  deed-done z w =
+      let f = none (s .readings) _ a q z in
+      let k : a ≡ tableAnswer 0 0 = q ∙ ap (refused (s .readings)) f in
+      answering f (λ i. (k i, w i))

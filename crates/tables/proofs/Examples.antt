@@ -1,7 +1,6 @@
 -- The examples, bounds and mistakes of specs/Examples.antt, computed. Assumes nothing.
 use mathlib.Core.Path.{_≡_, refl}
 use mathlib.Core.Bool.{false}
-use mathlib.Core.List.{List}
 use Prim.Native.Nat.{ℕ, suc, _+_}
 use lib.Dec.{eqb}
 use lib.IntN.{ℤ, pos, negsuc}
@@ -14,7 +13,8 @@ use Rattle.words.specs.Words.{digits, path, wordOf}
 use Rattle.words.specs.Counting.{placeOf}
 use Rattle.grid.specs.Writing.{decimals, written}
 use Rattle.tables.specs.Tables.{number}
-use Rattle.tables.specs.Refusals.{refuseCall}
+use Rattle.tables.specs.Owners.{Shared}
+use Rattle.tables.specs.Refusals.{refuseCall, refuseDeed}
 use Rattle.tables.specs.Histories.{answers, after}
 use Rattle.tables.specs.Examples.{Examples, Bounds, Mistakes}
 use Rattle.tables.specs.declared.Sounding.{Sounding}
@@ -23,7 +23,7 @@ use Rattle.tables.specs.declared.SoundingAnswer.{SoundingAnswer}
 use Rattle.tables.specs.declared.TableAnswer.{TableAnswer}
 
 pub examples : Examples
-unfolding placeOf some firstPlace firstOf refuseCall answers after decimals written path wordOf digits
+unfolding placeOf some firstPlace firstOf refuseCall refuseDeed answers after decimals written path wordOf digits
 examples = record {
   first = refl;
   second = refl;
@@ -40,7 +40,7 @@ examples = record {
 }
 
 pub bounds : Bounds
-unfolding placeOf some firstPlace firstOf refuseCall decimals written path wordOf digits
+unfolding placeOf some firstPlace firstOf refuseCall refuseDeed decimals written path wordOf digits
 bounds = record {
   reading-0 = refl;
   reading-most = refl;
@@ -77,7 +77,7 @@ bounds = record {
 
 -- ---- an answer that differs from the computed one in some number
 
-wrong : {A : Type 0} {f : ℕ} {v : A} {zeros : ℕ → A} {r : A} (tell : A → ℕ)
+pub wrong : {A : Type 0} {f : ℕ} {v : A} {zeros : ℕ → A} {r : A} (tell : A → ℕ)
     → eqb (tell r) (tell (settled f v zeros)) ≡ false → Known f v zeros r → ⊥
 wrong tell = no-other tell (known-gives refl)
 
@@ -86,10 +86,11 @@ abbrev told : ℤ → ℕ
 told (pos n) = n + n
 told (negsuc n) = suc (n + n)
 
-abbrev at : ℕ → TableAnswer × List ℤ → ℕ
-at i x = told (getD (x .1) i (pos 0))
+-- the reading at a place that is left, and the refusal
+abbrev pub at : ℕ → TableAnswer × Shared → ℕ
+at i x = told (getD (x .1 .readings) i (pos 0))
 
-abbrev refusal : TableAnswer × List ℤ → ℕ
+abbrev pub refusal : TableAnswer × Shared → ℕ
 refusal x = x .0 .refusal
 
 abbrev heard : SoundingAnswer → ℕ
@@ -101,7 +102,7 @@ case Nothing = 0
 case (Reading x) = 1
 
 pub mistakes : Mistakes
-unfolding placeOf some firstPlace firstOf refuseCall decimals written path wordOf digits
+unfolding placeOf some firstPlace firstOf refuseCall refuseDeed decimals written path wordOf digits
 mistakes = record {
   unwritten = wrong (at 0) refl;
   elsewhere = wrong (at 0) refl;

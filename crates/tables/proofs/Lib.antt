@@ -2,7 +2,12 @@
 pub mod Numbers
 pub mod Places
 pub mod Refused
+pub mod Deeds
 pub mod Answering
+pub mod Holding
 pub mod SimpleMaps
+pub mod Ownership
+pub mod Unwinding
 pub mod Promises
 pub mod Examples
+pub mod DeskExamples

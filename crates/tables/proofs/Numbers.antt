@@ -1,13 +1,15 @@
 -- The numbers of a table, by the tests that a program makes. Assumes nothing.
 use mathlib.Core.Path.{_≡_, refl, sym, ap, _∙_}
-use mathlib.Core.Bool.{Bool, true, false, true≢false}
-use Prim.Native.Nat.{zero, suc}
+use mathlib.Core.Bool.{Bool, true, false, not, true≢false}
+use Prim.Native.Nat.{ℕ, zero, suc}
 use native.Mathlib.Omega.{arith}
-use borrow.Author.Tests.{lt-ltb, le-ltb, leb-true, leb-false}
-use lib.Dec.{ltb, leb, eqb·suc-zero}
+use borrow.Author.Tests.{lt-ltb, le-ltb, ne-eqb, leb-true, leb-false, not-false}
+use lib.Dec.{ltb, leb, eqb, eqb·suc-zero}
 use lib.IntN.{ℤ, pos, negsuc}
 use lib.Signed.{ltZ, leZ}
+use Rattle.frame.specs.Refusals.{_either_}
 use Rattle.tables.specs.Tables.{isReading, none, isBad, said, number}
+use Rattle.tables.specs.Owners.{nobody, isDesk, isOther}
 use Rattle.tables.specs.declared.Sounding.{Sounding}
 use Rattle.tables.specs.declared.Sounding.the-variants.{Nothing, Reading}
 
@@ -54,11 +56,11 @@ pub said-is : (x : ℤ) → isReading x ≡ true → said x ≡ Reading x
 said-is (pos r) e = refl
 said-is (negsuc r) e = absurd (true≢false (sym e))
 
--- a number that is not bad is that of what it says, and is a reading where it says one
-pub number-said : (x : ℤ) → isBad x ≡ false → number (said x) ≡ x
-number-said (pos n) e = refl
-number-said (negsuc zero) e = refl
-number-said (negsuc (suc n)) e = absurd (true≢false (sym (rw (eqb·suc-zero n)) ∙ e))
+-- a number is that of what it says; one that is not bad is a reading where it says one
+pub number-said : (x : ℤ) → number (said x) ≡ x
+number-said (pos n) = refl
+number-said (negsuc zero) = refl
+number-said (negsuc (suc n)) = rw (eqb·suc-zero n)
 
 abbrev isThere : Sounding → Bool
 isThere Nothing = false
@@ -75,3 +77,30 @@ reading-said x (pos n) e q = ap isReading (sym (ap number q)) ∙ go (leb n 1000
     go false b = absurd (true≢false (sym (rw b) ∙ e))
 reading-said x (negsuc zero) e q = absurd (no-reading refl q)
 reading-said x (negsuc (suc n)) e q = absurd (true≢false (sym (rw (eqb·suc-zero n)) ∙ e))
+
+-- ---- owners
+
+pub is-other : (o : ℕ) → ltb 2 o ≡ isOther o
+is-other zero = refl
+is-other (suc zero) = refl
+is-other (suc (suc zero)) = refl
+is-other (suc (suc (suc o))) =
+    lt-ltb 2 (suc (suc (suc o))) (omega arith)
+    ∙ rw (ne-eqb (suc (suc (suc o))) 0 (omega arith), ne-eqb (suc (suc (suc o))) 1 (omega arith),
+    ne-eqb (suc (suc (suc o))) 2 (omega arith))
+
+pub desk-not-other : (d : ℕ) → isDesk d ≡ true → isOther d ≡ false
+desk-not-other d e = rw e (no-more (eqb d nobody))
+  where
+    no-more : (b : Bool) → not (b either true) ≡ false
+    no-more true = refl
+    no-more false = refl
+
+pub desk-not-nobody : (d : ℕ) → isDesk d ≡ true → d ≡ nobody → ⊥
+desk-not-nobody d e z = true≢false (sym e ∙ ap isDesk z)
+
+-- one that is neither is a desk
+pub owner-desk : (o : ℕ) → isOther o ≡ false → (o ≡ nobody → ⊥) → isDesk o ≡ true
+owner-desk o e z =
+    let k : eqb o nobody either isDesk o ≡ true = not-false (eqb o nobody either isDesk o) e in
+    rw (ne-eqb o nobody z) at k

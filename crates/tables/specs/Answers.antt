@@ -1,5 +1,6 @@
--- Document 02, 2026-03: the complete answer of get, set and clear, for every input: what the contracts cite. `list` is
--- the lent list as it comes, `new` as it is left. Assumes nothing.
+-- Document 02, 2026-03 and 2026-07: the complete answer of get, take, set, clear and give, for every input: what the
+-- contracts cite. `list` is the lent list of readings; `s` is both lists as they come, `new` as they are left. Assumes
+-- nothing.
 use mathlib.Core.Bool.{cond}
 use mathlib.Core.List.{List}
 use Prim.Native.Nat.{ℕ}
@@ -7,12 +8,13 @@ use lib.Dec.{eqb}
 use lib.IntN.{ℤ}
 use Rattle.frame.specs.Answers.{Known}
 use Rattle.words.specs.declared.TriangleCode.{TriangleCode}
-use Rattle.tables.specs.Tables.{leastBad, said, numberAt, listAfter}
+use Rattle.tables.specs.Tables.{leastBad, said, numberAt}
+use Rattle.tables.specs.Owners.{Shared, sharedAfter}
 use Rattle.tables.specs.Refusals.{refuseGet, refuseDeed}
 use Rattle.tables.specs.declared.Sounding.{Sounding}
 use Rattle.tables.specs.declared.Sounding.the-variants.{Nothing}
 use Rattle.tables.specs.declared.Deed.{Deed}
-use Rattle.tables.specs.declared.Deed.the-variants.{Setting, Clearing}
+use Rattle.tables.specs.declared.Deed.the-variants.{Taking, Setting, Clearing, Giving}
 use Rattle.tables.specs.declared.TableAnswer.{TableAnswer}
 use Rattle.tables.specs.declared.SoundingAnswer.{SoundingAnswer}
 
@@ -43,21 +45,27 @@ found t list = soundingAnswer 0 0 (said (numberAt t list))
 abbrev pub GetAnswer : (degree : ℕ) → TriangleCode → List ℤ → SoundingAnswer → Type 0
 GetAnswer n t list r = Known (refuseGet n t list) (found t list) (refusedGet list) r
 
--- ---- set and clear: the answer together with the list
+-- ---- the calls that write: the answer together with both lists
 
-abbrev pub carriedOut : Deed → TriangleCode → List ℤ → TableAnswer × List ℤ
-carriedOut e t list = (tableAnswer 0 0, listAfter e t list)
+abbrev pub carriedOut : Deed → (desk : ℕ) → TriangleCode → Shared → TableAnswer × Shared
+carriedOut e d t s = (tableAnswer 0 0, sharedAfter e d t s)
 
 -- "None changes the list."
-abbrev pub refusedDeed : List ℤ → (refusal : ℕ) → TableAnswer × List ℤ
-refusedDeed list f = (refused list f, list)
+abbrev pub refusedDeed : Shared → (refusal : ℕ) → TableAnswer × Shared
+refusedDeed s f = (refused (s .readings) f, s)
 
-abbrev pub DeedAnswer : Deed → (degree : ℕ) → TriangleCode → List ℤ → TableAnswer → List ℤ → Type 0
-DeedAnswer e n t list r new = Known (refuseDeed e n t list) (carriedOut e t list) (refusedDeed list) (r, new)
+abbrev pub DeedAnswer : Deed → (desk degree : ℕ) → TriangleCode → Shared → TableAnswer → Shared → Type 0
+DeedAnswer e d n t s r new = Known (refuseDeed e d n t s) (carriedOut e d t s) (refusedDeed s) (r, new)
 
-abbrev pub SetAnswer : (degree : ℕ) → TriangleCode → (reading : ℤ) → List ℤ → TableAnswer → List ℤ
-    → Type 0
-SetAnswer n t x = DeedAnswer (Setting x) n t
+abbrev pub TakeAnswer : (desk degree : ℕ) → TriangleCode → Shared → TableAnswer → Shared → Type 0
+TakeAnswer = DeedAnswer Taking
 
-abbrev pub ClearAnswer : (degree : ℕ) → TriangleCode → List ℤ → TableAnswer → List ℤ → Type 0
+-- "Set and clear from 2026-03 now need ownership"
+abbrev pub SetAnswer : (desk degree : ℕ) → TriangleCode → (reading : ℤ) → Shared → TableAnswer → Shared → Type 0
+SetAnswer d n t x = DeedAnswer (Setting x) d n t
+
+abbrev pub ClearAnswer : (desk degree : ℕ) → TriangleCode → Shared → TableAnswer → Shared → Type 0
 ClearAnswer = DeedAnswer Clearing
+
+abbrev pub GiveAnswer : (desk degree : ℕ) → TriangleCode → Shared → TableAnswer → Shared → Type 0
+GiveAnswer = DeedAnswer Giving

@@ -5,15 +5,13 @@ use mathlib.Core.Bool.{Bool, false, not, cond}
 use mathlib.Core.List.{List}
 use lib.Dec.{leb, eqb}
 use lib.IntN.{ℤ, pos, negsuc}
-use lib.ListN.{length, getD, set, replicate}
+use lib.ListN.{length, getD, replicate}
 use Rattle.frame.specs.Refusals.{_either_}
 use Rattle.frame.specs.Lists.{some, firstPlace}
 use Rattle.words.specs.Counting.{placeOf}
 use Rattle.words.specs.declared.TriangleCode.{TriangleCode}
 use Rattle.tables.specs.declared.Sounding.{Sounding}
 use Rattle.tables.specs.declared.Sounding.the-variants.{Nothing, Reading}
-use Rattle.tables.specs.declared.Deed.{Deed}
-use Rattle.tables.specs.declared.Deed.the-variants.{Setting, Clearing}
 
 -- ---- the numbers
 
@@ -71,11 +69,3 @@ number (Reading r) = r
 
 abbrev pub numberAt : TriangleCode → List ℤ → ℤ
 numberAt t list = getD list (placeOf t) none
-
--- "Set, clear": what the triangle has then, and the list with its place alone written
-abbrev pub soundingAfter : Deed → Sounding
-soundingAfter (Setting x) = Reading x
-soundingAfter Clearing = Nothing
-
-abbrev pub listAfter : Deed → TriangleCode → List ℤ → List ℤ
-listAfter e t list = set list (placeOf t) (number (soundingAfter e))

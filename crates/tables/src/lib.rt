@@ -1,8 +1,9 @@
-// A table of soundings (document 02, 2026-03): what its list holds and what its calls answer (specs/), with the laws of
-// it (proofs/); in code the kinds of value that the calls speak of, and which numbers are readings. The calls
-// themselves are in the crate soundings.
+// A table of soundings that two desks share (document 02, 2026-03 and 2026-07): what its lists hold and what its calls
+// answer (specs/), with the laws of it (proofs/); in code the kinds of value that the calls speak of, which numbers are
+// readings and which are owners. The calls themselves are in the crate soundings.
 ghost use mathlib.Core.Path.{_≡_};
 ghost use Rattle.tables.specs.Tables.{isReading, isBad};
+ghost use Rattle.tables.specs.Owners.{isDesk, isOther};
 
 // What a table has for a triangle: no reading, or one in millimetres.
 pub enum Sounding {
@@ -10,10 +11,12 @@ pub enum Sounding {
     Reading(i32),
 }
 
-// What a call that writes is to do with a triangle: set this reading, or clear.
+// What a desk is to do with a triangle: take it, set this reading, clear, or give it back.
 pub enum Deed {
+    Taking,
     Setting(i32),
     Clearing,
+    Giving,
 }
 
 // The answer of a call that writes: a refusal's number, 0 where it is answered, and beside 23 the least bad place.
@@ -50,4 +53,21 @@ pub fn is_bad(x: i32) -> bool
         return true;
     }
     MOST < x
+}
+
+// Whether a number is a desk.
+pub fn is_desk(desk: u64) -> bool
+    ensures { λ r. ⌜ r ≡ isDesk desk ⌝ }
+{
+    if desk == 1 {
+        return true;
+    }
+    desk == 2
+}
+
+// Whether a number is neither nobody nor a desk.
+pub fn is_other(owner: u8) -> bool
+    ensures { λ r. ⌜ r ≡ isOther owner ⌝ }
+{
+    2 < owner
 }

@@ -1,23 +1,26 @@
-// The calls of a table of soundings (document 02, 2026-03), which has one reading for each triangle of one degree from
-// 0 to 6, in a lent list ordered by code: `get`, `set` and `clear`. None has a `requires`; each states its complete
-// answer, and the crate contracts holds it to that.
+// The calls of a table of soundings (document 02, 2026-03 and 2026-07), which has one reading for each triangle of one
+// degree from 0 to 6, in a lent list ordered by code, and each triangle's owner in another: `get`, which reads the
+// readings alone, and `take`, `set`, `clear` and `give`, to which the desk that makes the call and both lists are handed
+// in. None has a `requires`; each states its complete answer, and the crate contracts holds it to that.
 use tables::Deed;
 use tables::is_bad;
+use tables::is_other;
 use words::TriangleCode;
 ghost use mathlib.Core.Path.{_≡_};
-ghost use Prim.Native.Nat.{_<_, _≤_};
-ghost use lib.ListN.{length, set};
+ghost use Prim.Native.Nat.{_≤_};
 ghost use Rattle.frame.specs.Refusals.{firstOf};
-ghost use Rattle.words.specs.Refusals.{checkCode};
-ghost use Rattle.words.specs.Counting.{placeOf};
-ghost use Rattle.tables.specs.Tables.{anyBad, leastBad, said, number, soundingAfter};
+ghost use Rattle.words.specs.Refusals.{IsCode};
+ghost use Rattle.tables.specs.Tables.{anyBad, leastBad, said, number};
+ghost use Rattle.tables.specs.Owners.{anyOther, shared, isTaking, ownerAfter, soundingAfter};
 ghost use Rattle.tables.specs.Refusals.{tableOrder, triangleRows, outOfRange, tableRows, refuseCall};
-ghost use Rattle.tables.specs.Answers.{tableAnswer, refused, GetAnswer, DeedAnswer, SetAnswer, ClearAnswer};
+ghost use Rattle.tables.specs.Refusals.{deskOrder, ownedRows, sharedRows, refuseDeed};
+ghost use Rattle.tables.specs.Answers.{tableAnswer, refused, GetAnswer};
+ghost use Rattle.tables.specs.Answers.{DeedAnswer, TakeAnswer, SetAnswer, ClearAnswer, GiveAnswer};
 pub use tables::Sounding;
 pub use tables::SoundingAnswer;
 pub use tables::TableAnswer;
 
-// ---- the list
+// ---- the lists
 
 // Whether the list holds a bad number. It looks at every place whatever it finds, so that it is compiled to vector
 // instructions: every call goes through the whole list.
@@ -49,13 +52,19 @@ fn least_bad(list: &[i32]) -> usize
     place
 }
 
-// A number stored for a triangle.
-fn store(t: TriangleCode, x: i32, list: &mut [i32])
-    requires { ⌜ (checkCode t ≡ 0) × (placeOf t < length (now list)) ⌝ }
-    ensures { λ _. ⌜ now (list .exit) ≡ set (now (list .entry)) (placeOf t) x ⌝ }
+// Whether the list of owners holds another number than an owner. It looks at every place too.
+fn any_other(owners: &[u8]) -> bool
+    ensures { λ r. ⌜ r ≡ anyOther (now (owners .entry)) ⌝ }
 {
-    let i = words::place_of(t) as usize;
-    list[i] = x;
+    let mut found = false;
+    let mut i = 0;
+    while i < owners.len() {
+        if is_other(owners[i]) {
+            found = true;
+        }
+        i += 1;
+    }
+    found
 }
 
 // ---- refusals
@@ -156,50 +165,205 @@ pub fn get(degree: u64, t: TriangleCode, list: &[i32]) -> SoundingAnswer
     }
 }
 
-// ---- set and clear
+// ---- what a desk does with a triangle
+
+fn is_taking(deed: Deed) -> bool
+    ensures { λ r. ⌜ r ≡ isTaking deed ⌝ }
+{
+    match deed {
+        Deed::Taking => true,
+        Deed::Setting(_) => false,
+        Deed::Clearing => false,
+        Deed::Giving => false,
+    }
+}
 
 // 21: of the reading that is to be set.
 fn is_out_of_range(deed: Deed) -> bool
     ensures { λ r. ⌜ r ≡ outOfRange deed ⌝ }
 {
     match deed {
+        Deed::Taking => false,
         Deed::Setting(x) => !tables::is_reading(x),
         Deed::Clearing => false,
+        Deed::Giving => false,
     }
 }
 
-// The number that a deed leaves for its triangle.
-fn number_after(deed: Deed) -> i32
-    ensures { λ r. ⌜ r ≡ number (soundingAfter deed) ⌝ }
+// The number that a deed leaves for its triangle, which has `before`.
+fn number_after(deed: Deed, before: i32) -> i32
+    ensures { λ r. ⌜ r ≡ number (soundingAfter deed (said before)) ⌝ }
 {
     match deed {
+        Deed::Taking => before,
         Deed::Setting(x) => x,
         Deed::Clearing => -1,
+        Deed::Giving => -1,
     }
 }
 
-// Checks all, and then writes one place.
-fn carry_out(deed: Deed, degree: u64, t: TriangleCode, list: &mut [i32]) -> TableAnswer
-    ensures { λ r. ⌜ DeedAnswer deed degree t (now (list .entry)) r (now (list .exit)) ⌝ }
+// Whose the triangle is then, which is `before`'s.
+fn owner_after(deed: Deed, desk: u8, before: u8) -> u8
+    ensures { λ r. ⌜ r ≡ ownerAfter deed desk before ⌝ }
+{
+    match deed {
+        Deed::Taking => desk,
+        Deed::Setting(_) => before,
+        Deed::Clearing => before,
+        Deed::Giving => 0,
+    }
+}
+
+// ---- its refusals
+
+// 26 and 27: of the triangle's owner.
+fn refuse_owner(deed: Deed, desk: u64, owner: u64) -> u64
+    ensures { λ r. ⌜ r ≡ firstOf deskOrder (ownedRows deed desk owner) ⌝ }
+{
+    if owner == 0 {
+        if is_taking(deed) {
+            return 0;
+        }
+        return 27;
+    }
+    if owner != desk {
+        return 26;
+    }
+    0
+}
+
+fn wide(owner: u8) -> u64
+    ensures { λ r. ⌜ r ≡ owner ⌝ }
+{
+    owner as u64
+}
+
+// 24 to 27: of the desk and the owners.
+fn refuse_shared(deed: Deed, desk: u64, degree: u64, t: TriangleCode, owners: &[u8]) -> u64
+    requires { ⌜ (degree ≤ 6) × IsCode degree t ⌝ }
+    ensures { λ r. ⌜ r ≡ firstOf deskOrder (sharedRows deed desk degree t (now (owners .entry))) ⌝ }
+{
+    if !tables::is_desk(desk) {
+        return 24;
+    }
+    if owners.len() as u64 != words::codes_of(degree) {
+        return 25;
+    }
+    if any_other(owners) {
+        return 25;
+    }
+    let i = words::place_of(t) as usize;
+    refuse_owner(deed, desk, wide(owners[i]))
+}
+
+// All refusals of a call that writes.
+fn refuse_deed(
+    deed: Deed,
+    desk: u64,
+    degree: u64,
+    t: TriangleCode,
+    list: &[i32],
+    owners: &[u8],
+) -> TableAnswer
+    ensures { λ r. ⌜
+        r ≡ refused (now (list .entry))
+        (refuseDeed deed desk degree t (shared (now (list .entry)) (now (owners .entry))))
+        ⌝ }
 {
     let checked = refuse_call(is_out_of_range(deed), degree, t, list);
     if checked.refusal != 0 {
         return checked;
     }
-    store(t, number_after(deed), list);
+    refuse(refuse_shared(deed, desk, degree, t, owners))
+}
+
+// ---- take, set, clear and give
+
+// Checks all, and then writes one place of each list.
+fn carry_out(
+    deed: Deed,
+    desk: u64,
+    degree: u64,
+    t: TriangleCode,
+    list: &mut [i32],
+    owners: &mut [u8],
+) -> TableAnswer
+    ensures { λ r. ⌜
+        DeedAnswer deed desk degree t (shared (now (list .entry)) (now (owners .entry))) r
+        (shared (now (list .exit)) (now (owners .exit)))
+        ⌝ }
+{
+    let checked = refuse_deed(deed, desk, degree, t, list, owners);
+    if checked.refusal != 0 {
+        return checked;
+    }
+    let i = words::place_of(t) as usize;
+    list[i] = number_after(deed, list[i]);
+    owners[i] = owner_after(deed, desk as u8, owners[i]);
     checked
 }
 
-// Sets the reading of a triangle.
-pub fn set(degree: u64, t: TriangleCode, reading: i32, list: &mut [i32]) -> TableAnswer
-    ensures { λ r. ⌜ SetAnswer degree t reading (now (list .entry)) r (now (list .exit)) ⌝ }
+// A free triangle becomes the desk's, with the reading that it has.
+pub fn take(
+    desk: u64,
+    degree: u64,
+    t: TriangleCode,
+    list: &mut [i32],
+    owners: &mut [u8],
+) -> TableAnswer
+    ensures { λ r. ⌜
+        TakeAnswer desk degree t (shared (now (list .entry)) (now (owners .entry))) r
+        (shared (now (list .exit)) (now (owners .exit)))
+        ⌝ }
 {
-    carry_out(Deed::Setting(reading), degree, t, list)
+    carry_out(Deed::Taking, desk, degree, t, list, owners)
 }
 
-// Leaves a triangle with no reading.
-pub fn clear(degree: u64, t: TriangleCode, list: &mut [i32]) -> TableAnswer
-    ensures { λ r. ⌜ ClearAnswer degree t (now (list .entry)) r (now (list .exit)) ⌝ }
+// Sets the reading of a triangle of the desk's.
+pub fn set(
+    desk: u64,
+    degree: u64,
+    t: TriangleCode,
+    reading: i32,
+    list: &mut [i32],
+    owners: &mut [u8],
+) -> TableAnswer
+    ensures { λ r. ⌜
+        SetAnswer desk degree t reading (shared (now (list .entry)) (now (owners .entry))) r
+        (shared (now (list .exit)) (now (owners .exit)))
+        ⌝ }
 {
-    carry_out(Deed::Clearing, degree, t, list)
+    carry_out(Deed::Setting(reading), desk, degree, t, list, owners)
+}
+
+// Leaves a triangle of the desk's with no reading.
+pub fn clear(
+    desk: u64,
+    degree: u64,
+    t: TriangleCode,
+    list: &mut [i32],
+    owners: &mut [u8],
+) -> TableAnswer
+    ensures { λ r. ⌜
+        ClearAnswer desk degree t (shared (now (list .entry)) (now (owners .entry))) r
+        (shared (now (list .exit)) (now (owners .exit)))
+        ⌝ }
+{
+    carry_out(Deed::Clearing, desk, degree, t, list, owners)
+}
+
+// A triangle of the desk's becomes nobody's, with no reading.
+pub fn give(
+    desk: u64,
+    degree: u64,
+    t: TriangleCode,
+    list: &mut [i32],
+    owners: &mut [u8],
+) -> TableAnswer
+    ensures { λ r. ⌜
+        GiveAnswer desk degree t (shared (now (list .entry)) (now (owners .entry))) r
+        (shared (now (list .exit)) (now (owners .exit)))
+        ⌝ }
+{
+    carry_out(Deed::Giving, desk, degree, t, list, owners)
 }

@@ -1,9 +1,9 @@
 -- The numbers of a table, by the tests that a program makes. Assumes nothing.
 use mathlib.Core.Path.{_≡_, refl, sym, ap, _∙_}
 use mathlib.Core.Bool.{Bool, true, false, not, true≢false}
-use Prim.Native.Nat.{ℕ, zero, suc}
+use Prim.Native.Nat.{ℕ, zero, suc, _≤_}
 use native.Mathlib.Omega.{arith}
-use borrow.Author.Tests.{lt-ltb, le-ltb, ne-eqb, leb-true, leb-false, not-false}
+use borrow.Author.Tests.{lt-ltb, le-ltb, ne-eqb, ltb-false, leb-true, leb-false, not-false}
 use lib.Dec.{ltb, leb, eqb, eqb·suc-zero}
 use lib.IntN.{ℤ, pos, negsuc}
 use lib.Signed.{ltZ, leZ}
@@ -86,8 +86,11 @@ is-other (suc zero) = refl
 is-other (suc (suc zero)) = refl
 is-other (suc (suc (suc o))) =
     lt-ltb 2 (suc (suc (suc o))) (omega arith)
-    ∙ rw (ne-eqb (suc (suc (suc o))) 0 (omega arith), ne-eqb (suc (suc (suc o))) 1 (omega arith),
-    ne-eqb (suc (suc (suc o))) 2 (omega arith))
+    ∙ rw (
+      ne-eqb (suc (suc (suc o))) 0 (omega arith),
+      ne-eqb (suc (suc (suc o))) 1 (omega arith),
+      ne-eqb (suc (suc (suc o))) 2 (omega arith),
+    )
 
 pub desk-not-other : (d : ℕ) → isDesk d ≡ true → isOther d ≡ false
 desk-not-other d e = rw e (no-more (eqb d nobody))
@@ -95,6 +98,9 @@ desk-not-other d e = rw e (no-more (eqb d nobody))
     no-more : (b : Bool) → not (b either true) ≡ false
     no-more true = refl
     no-more false = refl
+
+pub desk-most : (d : ℕ) → isDesk d ≡ true → d ≤ 2
+desk-most d e = ltb-false 2 d (is-other d ∙ desk-not-other d e)
 
 pub desk-not-nobody : (d : ℕ) → isDesk d ≡ true → d ≡ nobody → ⊥
 desk-not-nobody d e z = true≢false (sym e ∙ ap isDesk z)

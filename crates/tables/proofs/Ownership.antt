@@ -42,9 +42,10 @@ by-owner e d n t s a =
     let small : n ≤ 6 = is .degree in
     let rows = 21 when outOfRange e ∷ tableRows n (s .readings) in
     let z : refuseCall (outOfRange e) n t (s .readings) ≡ 0 =
-    none-after tableOrder tableOrder (triangleRows n t) rows tt tt .1
-    (sym (in-table n t (omega (arith, small)) (a .code .passes) small (a .code .degreeIs)),
-    (a .inRange, (rw (eq-eqb (length (s .readings)) (places n) (is .long)) refl, (is .good, tt)))) in
+    none-after tableOrder tableOrder (triangleRows n t) rows tt tt .1 (
+      sym (in-table n t (omega (arith, small)) (a .code .passes) small (a .code .degreeIs)),
+      (a .inRange, (rw (eq-eqb (length (s .readings)) (places n) (is .long)) refl, (is .good, tt))),
+    ) in
     owners-then e d n t (s .owners) (a .desk) (a .table .long) (a .table .good) ∙ deed-then e d n t s z
 
 module _ (e : Deed) (d o : ℕ) where
@@ -105,15 +106,17 @@ owning = record {
   takingOwn = λ d n t s r new p q. either-way Taking d n t s r new p (λ x. x ≡ s) refl (λ z. took-own d t s q);
   taking = λ d n t s r new p z.
       let f = answered Taking d n t s r new p z in
-      rw (written Taking d n t s r new p f)
-      (getD-set-same (s .owners) (placeOf t) d nobody (deed-passed Taking d n t s f .inOwners),
-      same-readings t (s .readings));
+      rw (written Taking d n t s r new p f) (
+        getD-set-same (s .owners) (placeOf t) d nobody (deed-passed Taking d n t s f .inOwners),
+        same-readings t (s .readings),
+      );
   giving = λ d n t s r new p z.
       let f = answered Giving d n t s r new p z in
       let k = deed-passed Giving d n t s f in
-      rw (written Giving d n t s r new p f)
-      (getD-set-same (s .owners) (placeOf t) nobody nobody (k .inOwners),
-      getD-set-same (s .readings) (placeOf t) none none (k .passed .inList));
+      rw (written Giving d n t s r new p f) (
+        getD-set-same (s .owners) (placeOf t) nobody nobody (k .inOwners),
+        getD-set-same (s .readings) (placeOf t) none none (k .passed .inList),
+      );
   setting = λ d n t x s r new p.
       either-way (Setting x) d n t s r new p (λ y. y .owners ≡ s .owners) refl (λ z. same-owners t (s .owners));
   clearing = λ d n t s r new p.

@@ -78,11 +78,13 @@ module _ {n : ℕ} {s : Shared} (is : IsShared n s) where
     where
       o : ℕ
       o = ownerAt t (s .owners)
+
       go : (b : Bool) (k : ℕ)
           → cond (not b) 22 0 or 0 or alone (24 when not (isDesk d)) or cond (not b either false) 25 0 or k
           ≡ cond (not b) 22 0 or alone (24 when not (isDesk d)) or k
       go true k = refl
       go false k = refl
+
       rest : inTurn (tableRows m (s .readings) ++ sharedRows e d m t (s .owners))
           ≡ inTurn (otherDegreeRows n m ++ deskRows d ++ ownedRows e d o)
       rest = rw (is .table .long, same-places m n, is .table .good, is .long, same-places m n, is .good)
@@ -220,8 +222,7 @@ turns : {n : ℕ} (c : Call) (s : Shared) (map : Map) → Agree n s map
     → (onTable c s .0 ≡ onMap n c map .0) × Agree n (onTable c s .1) (onMap n c map .1)
 turns {n} c s map a =
     let h = map (triangleOf c) in
-    let k = turned (a .is) c h (a .same (triangleOf c)) in
-    (
+    let k = turned (a .is) c h (a .same (triangleOf c)) in (
       k .answer,
       record {
         is = k .is;
@@ -238,11 +239,11 @@ as-map {n} {s} {map} a cs = alike onTable (onMap n) (Agree n) turns cs s map a
 is-shared : (n : ℕ) (s : Shared) → n ≤ 6
     → IsShared n s ↔ (firstOf deskOrder (tableRows n (s .readings) ++ ownersRows n (s .owners)) ≡ 0)
 is-shared n s l =
-    let rows = tableRows n (s .readings) ++ ownersRows n (s .owners) in
-    (
-      λ is. none-so deskOrder rows tt .1
-          (rw (eq-eqb (length (s .readings)) (places n) (is .table .long)) refl,
-          (is .table .good, (rw (eq-eqb (length (s .owners)) (places n) (is .long), is .good) refl, tt))),
+    let rows = tableRows n (s .readings) ++ ownersRows n (s .owners) in (
+      λ is. none-so deskOrder rows tt .1 (
+        rw (eq-eqb (length (s .readings)) (places n) (is .table .long)) refl,
+        (is .table .good, (rw (eq-eqb (length (s .owners)) (places n) (is .long), is .good) refl, tt)),
+      ),
       λ e. let z = none-so deskOrder rows tt .0 e in
           let k = either-false (not (eqb (length (s .owners)) (places n))) (anyOther (s .owners)) .0 (z .1 .1 .0) in
           record {

@@ -133,6 +133,7 @@ module _ (n d : ℕ) (t : TriangleCode) (c : IsCode n t) (k : isDesk d ≡ true)
     where
       about : deskOf x ≡ d → triangleOf x .0 ≡ t .0 → isAbout d t x ≡ true
       about r q = rw (eq-eqb (deskOf x) d r, eq-eqb (triangleOf x .0) (t .0) q)
+
       go : (g : Bool) → eqb (t .0) (triangleOf x .0) ≡ g
           → cond g (onHeld n x (heldAt (triangleOf x) s) .1) (heldAt t s) ≡ h
       go true g =

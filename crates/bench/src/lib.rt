@@ -25,7 +25,8 @@ ghost use Rattle.corners.specs.declared.CountAnswer.{CountAnswer};
 ghost use Rattle.directions.specs.Answers.{FileAnswer, ListAnswer};
 ghost use Rattle.sweeps.specs.Answers.{SweepResult};
 ghost use Rattle.sweeps.specs.declared.SweepAnswer.{SweepAnswer};
-ghost use Rattle.tables.specs.Answers.{SetAnswer, ClearAnswer};
+ghost use Rattle.tables.specs.Owners.{shared};
+ghost use Rattle.tables.specs.Answers.{TakeAnswer, SetAnswer, ClearAnswer, GiveAnswer};
 ghost use Rattle.tables.specs.declared.TableAnswer.{TableAnswer};
 
 // ---- words
@@ -211,23 +212,78 @@ pub extern "C" fn bench_get(degree: u64, code: u64, list: &[i32]) -> i32 {
 }
 
 #[no_mangle]
-pub extern "C" fn bench_set(degree: u64, code: u64, reading: i32, list: &mut [i32]) -> u64
+pub extern "C" fn bench_take(
+    desk: u64,
+    degree: u64,
+    code: u64,
+    list: &mut [i32],
+    owners: &mut [u8],
+) -> u64
     ensures { λ r. ⌜
-        ((a : TableAnswer) × SetAnswer degree (codeOf code) reading (now (list .entry)) a (now (list .exit))
+        ((a : TableAnswer)
+        × TakeAnswer desk degree (codeOf code) (shared (now (list .entry)) (now (owners .entry))) a
+        (shared (now (list .exit)) (now (owners .exit)))
         × (r ≡ bitXor (a .refusal) (a .place)))
         ⌝ }
 {
-    let r = soundings::set(degree, TriangleCode(code), reading, list);
+    let r = soundings::take(desk, degree, TriangleCode(code), list, owners);
     r.refusal ^ r.place
 }
 
 #[no_mangle]
-pub extern "C" fn bench_clear(degree: u64, code: u64, list: &mut [i32]) -> u64
+pub extern "C" fn bench_set(
+    desk: u64,
+    degree: u64,
+    code: u64,
+    reading: i32,
+    list: &mut [i32],
+    owners: &mut [u8],
+) -> u64
     ensures { λ r. ⌜
-        ((a : TableAnswer) × ClearAnswer degree (codeOf code) (now (list .entry)) a (now (list .exit))
+        ((a : TableAnswer)
+        × SetAnswer desk degree (codeOf code) reading (shared (now (list .entry)) (now (owners .entry))) a
+        (shared (now (list .exit)) (now (owners .exit)))
         × (r ≡ bitXor (a .refusal) (a .place)))
         ⌝ }
 {
-    let r = soundings::clear(degree, TriangleCode(code), list);
+    let r = soundings::set(desk, degree, TriangleCode(code), reading, list, owners);
+    r.refusal ^ r.place
+}
+
+#[no_mangle]
+pub extern "C" fn bench_clear(
+    desk: u64,
+    degree: u64,
+    code: u64,
+    list: &mut [i32],
+    owners: &mut [u8],
+) -> u64
+    ensures { λ r. ⌜
+        ((a : TableAnswer)
+        × ClearAnswer desk degree (codeOf code) (shared (now (list .entry)) (now (owners .entry))) a
+        (shared (now (list .exit)) (now (owners .exit)))
+        × (r ≡ bitXor (a .refusal) (a .place)))
+        ⌝ }
+{
+    let r = soundings::clear(desk, degree, TriangleCode(code), list, owners);
+    r.refusal ^ r.place
+}
+
+#[no_mangle]
+pub extern "C" fn bench_give(
+    desk: u64,
+    degree: u64,
+    code: u64,
+    list: &mut [i32],
+    owners: &mut [u8],
+) -> u64
+    ensures { λ r. ⌜
+        ((a : TableAnswer)
+        × GiveAnswer desk degree (codeOf code) (shared (now (list .entry)) (now (owners .entry))) a
+        (shared (now (list .exit)) (now (owners .exit)))
+        × (r ≡ bitXor (a .refusal) (a .place)))
+        ⌝ }
+{
+    let r = soundings::give(desk, degree, TriangleCode(code), list, owners);
     r.refusal ^ r.place
 }

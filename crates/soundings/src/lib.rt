@@ -7,6 +7,7 @@ use tables::is_bad;
 use tables::is_other;
 use words::TriangleCode;
 ghost use mathlib.Core.Path.{_≡_};
+ghost use mathlib.Core.Bool.{cond};
 ghost use Prim.Native.Nat.{_≤_};
 ghost use Rattle.frame.specs.Refusals.{firstOf};
 ghost use Rattle.words.specs.Refusals.{IsCode};
@@ -42,14 +43,14 @@ fn any_bad(list: &[i32]) -> bool
 fn least_bad(list: &[i32]) -> usize
     ensures { λ r. ⌜ r ≡ leastBad (now (list .entry)) ⌝ }
 {
-    let mut place = 0;
-    while place < list.len() {
-        if is_bad(list[place]) {
-            return place;
+    let mut least = 0;
+    while least < list.len() {
+        if is_bad(list[least]) {
+            return least;
         }
-        place += 1;
+        least += 1;
     }
-    place
+    least
 }
 
 // Whether the list of owners holds another number than an owner. It looks at every place too.
@@ -57,12 +58,12 @@ fn any_other(owners: &[u8]) -> bool
     ensures { λ r. ⌜ r ≡ anyOther (now (owners .entry)) ⌝ }
 {
     let mut found = false;
-    let mut i = 0;
-    while i < owners.len() {
-        if is_other(owners[i]) {
+    let mut place = 0;
+    while place < owners.len() {
+        if is_other(owners[place]) {
             found = true;
         }
-        i += 1;
+        place += 1;
     }
     found
 }
@@ -167,17 +168,6 @@ pub fn get(degree: u64, t: TriangleCode, list: &[i32]) -> SoundingAnswer
 
 // ---- what a desk does with a triangle
 
-fn is_taking(deed: Deed) -> bool
-    ensures { λ r. ⌜ r ≡ isTaking deed ⌝ }
-{
-    match deed {
-        Deed::Taking => true,
-        Deed::Setting(_) => false,
-        Deed::Clearing => false,
-        Deed::Giving => false,
-    }
-}
-
 // 21: of the reading that is to be set.
 fn is_out_of_range(deed: Deed) -> bool
     ensures { λ r. ⌜ r ≡ outOfRange deed ⌝ }
@@ -216,15 +206,24 @@ fn owner_after(deed: Deed, desk: u8, before: u8) -> u8
 
 // ---- its refusals
 
+// 27: on a free triangle.
+fn refuse_free(deed: Deed) -> u64
+    ensures { λ r. ⌜ r ≡ cond (isTaking deed) 0 27 ⌝ }
+{
+    match deed {
+        Deed::Taking => 0,
+        Deed::Setting(_) => 27,
+        Deed::Clearing => 27,
+        Deed::Giving => 27,
+    }
+}
+
 // 26 and 27: of the triangle's owner.
 fn refuse_owner(deed: Deed, desk: u64, owner: u64) -> u64
     ensures { λ r. ⌜ r ≡ firstOf deskOrder (ownedRows deed desk owner) ⌝ }
 {
     if owner == 0 {
-        if is_taking(deed) {
-            return 0;
-        }
-        return 27;
+        return refuse_free(deed);
     }
     if owner != desk {
         return 26;

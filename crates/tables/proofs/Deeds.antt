@@ -1,6 +1,6 @@
 -- The refusals of the calls that write, test by test, and what an answered one knows. Assumes nothing.
 use mathlib.Core.Path.{_≡_, _∙_, refl, sym}
-use mathlib.Core.Bool.{Bool, true, false, not, _&&_}
+use mathlib.Core.Bool.{Bool, true, false, not, cond, _&&_}
 use mathlib.Core.List.{List, _++_}
 use Prim.Native.Nat.{ℕ, _<_}
 use borrow.Author.Tests.{eq-eqb, ne-eqb, eqb-true, not-false}
@@ -29,6 +29,13 @@ module _ (e : Deed) (d o : ℕ) where
   pub free-not-taken : o ≡ nobody → isTaking e ≡ false → 27 ≡ firstOf deskOrder (ownedRows e d o)
   free-not-taken z k =
       refuse-first deskOrder (ownedRows e d o) tt (next (rw (eq-eqb o nobody z)) (here (rw (eq-eqb o nobody z, k))))
+
+  pub free-refused : o ≡ nobody → cond (isTaking e) 0 27 ≡ firstOf deskOrder (ownedRows e d o)
+  free-refused z = go (isTaking e) refl
+    where
+      go : (b : Bool) → isTaking e ≡ b → cond b 0 27 ≡ firstOf deskOrder (ownedRows e d o)
+      go true k = free-taken z k
+      go false k = free-not-taken z k
 
   module _ (some : o ≡ nobody → ⊥) where
     pub other's : (o ≡ d → ⊥) → 26 ≡ firstOf deskOrder (ownedRows e d o)

@@ -13,10 +13,10 @@ use Rattle.soundings.proofs.any_other.Statement.{statement}
 use Rattle.soundings.proofs.any_other.Tie as tie
 
 abbrev Inv-loop : tie.InvT-loop
-Inv-loop owners found₀ i₀ found i = (i ≤ length owners) × (anyOther owners ≡ found either anyOther (drop i owners))
+Inv-loop owners found₀ place₀ found place = (place ≤ length owners) × (anyOther owners ≡ found either anyOther (drop place owners))
 
 abbrev μ-loop : tie.MeasureT-loop
-μ-loop owners found₀ i₀ found i = length owners - i
+μ-loop owners found₀ place₀ found place = length owners - place
 
 loop-holds : tie.Need-loop-holds Inv-loop μ-loop
 loop-holds c = (omega arith, refl)
@@ -27,8 +27,8 @@ shared-slice-read-is-other c = search needs
 is-other-requires : tie.Need-is-other-requires Inv-loop μ-loop
 is-other-requires c κs = search needs
 
-add-i : tie.Need-add-i Inv-loop μ-loop
-add-i c = search needs
+add-place : tie.Need-add-place Inv-loop μ-loop
+add-place c = search needs
 
 loop-less : tie.Need-loop-less Inv-loop μ-loop
 loop-less c = omega arith
@@ -37,7 +37,7 @@ loop-again : tie.Need-loop-again Inv-loop μ-loop
 loop-again c =
     let s = c .before .before .before .before in
     let owners = s .before .before .args .owners .now in
-    let i = s .loop .i in
+    let i = s .loop .place in
     let l : i < length owners = omega arith in
     let k = s .loop .found in
     let q = c .before .is-other .ensures in (
@@ -52,7 +52,7 @@ loop-again c =
 returns : tie.Need-returns Inv-loop μ-loop
 returns c =
     let s = c .before in
-    sym (ends isOther (s .before .before .args .owners .now) (s .loop .i) (s .loop .found) (omega arith) (s .loop .inv .1))
+    sym (ends isOther (s .before .before .args .owners .now) (s .loop .place) (s .loop .found) (omega arith) (s .loop .inv .1))
 
 pub any-other-spec : {M : Type 1} → statement M
 any-other-spec =
@@ -63,7 +63,7 @@ any-other-spec =
     loop-holds
     shared-slice-read-is-other
     is-other-requires
-    add-i
+    add-place
     loop-less
     loop-again
     returns)

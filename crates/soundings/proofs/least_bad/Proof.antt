@@ -14,10 +14,10 @@ use Rattle.soundings.proofs.least_bad.Statement.{statement}
 use Rattle.soundings.proofs.least_bad.Tie as tie
 
 abbrev Inv-loop : tie.InvT-loop
-Inv-loop list place₀ place = (place ≤ length list) × (leastBad list ≡ place + leastBad (drop place list))
+Inv-loop list least₀ least = (least ≤ length list) × (leastBad list ≡ least + leastBad (drop least list))
 
 abbrev μ-loop : tie.MeasureT-loop
-μ-loop list place₀ place = length list - place
+μ-loop list least₀ least = length list - least
 
 loop-holds : tie.Need-loop-holds Inv-loop μ-loop
 loop-holds c = (omega arith, omega arith)
@@ -34,15 +34,15 @@ is-bad-requires c κs = search needs
 returns : tie.Need-returns Inv-loop μ-loop
 returns c =
     let s = c .before .before .before .before in
-    let l : s .loop .place < length (s .before .args .list .now) = omega arith in
-    let x = getD (s .before .args .list .now) (s .loop .place) (pos 0) in
+    let l : s .loop .least < length (s .before .args .list .now) = omega arith in
+    let x = getD (s .before .args .list .now) (s .loop .least) (pos 0) in
     let q : c .before .is-bad .result ≡ isBad x =
     rw (toZ-ofZ w32 x (record { sfits = c .before .before .is-bad-arg .given })) at (c .before .is-bad .ensures) in
-    let h = stops isBad (s .before .args .list .now) (s .loop .place) (pos 0) l (sym q ∙ c .if1 .taken) in
+    let h = stops isBad (s .before .args .list .now) (s .loop .least) (pos 0) l (sym q ∙ c .if1 .taken) in
     omega (arith, h, s .loop .inv .1)
 
-add-place : tie.Need-add-place Inv-loop μ-loop
-add-place c = search needs
+add-least : tie.Need-add-least Inv-loop μ-loop
+add-least c = search needs
 
 loop-less : tie.Need-loop-less Inv-loop μ-loop
 loop-less c = omega arith
@@ -50,17 +50,17 @@ loop-less c = omega arith
 loop-again : tie.Need-loop-again Inv-loop μ-loop
 loop-again c =
     let s = c .before .before .before .before in
-    let l : s .loop .place < length (s .before .args .list .now) = omega arith in
-    let x = getD (s .before .args .list .now) (s .loop .place) (pos 0) in
+    let l : s .loop .least < length (s .before .args .list .now) = omega arith in
+    let x = getD (s .before .args .list .now) (s .loop .least) (pos 0) in
     let q : c .before .is-bad .result ≡ isBad x =
     rw (toZ-ofZ w32 x (record { sfits = c .before .before .is-bad-arg .given })) at (c .before .is-bad .ensures) in
-    let h = passes isBad (s .before .args .list .now) (s .loop .place) (pos 0) l (sym q ∙ c .if1 .left) in
+    let h = passes isBad (s .before .args .list .now) (s .loop .least) (pos 0) l (sym q ∙ c .if1 .left) in
     (omega arith, simp add-one (omega (arith, h, s .loop .inv .1)))
 
 returns-2 : tie.Need-returns-2 Inv-loop μ-loop
 returns-2 c =
     let s = c .before in
-    let h = none-left isBad (s .before .args .list .now) (s .loop .place) (omega arith) in
+    let h = none-left isBad (s .before .args .list .now) (s .loop .least) (omega arith) in
     omega (arith, h, s .loop .inv .1)
 
 pub least-bad-spec : {M : Type 1} → statement M
@@ -74,7 +74,7 @@ least-bad-spec =
     shared-slice-copy-out-is-bad
     is-bad-requires
     returns
-    add-place
+    add-least
     loop-less
     loop-again
     returns-2)

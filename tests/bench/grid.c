@@ -12,7 +12,7 @@ uint64_t bench_file(uint64_t degree, int32_t x, int32_t y, int32_t z);
 uint64_t bench_weights(uint64_t code, uint64_t corner, uint64_t *out, size_t places);
 any_function bench_parent, bench_child, bench_cross, bench_back, bench_name_weights,
     bench_ring, bench_exact, bench_name_exact, bench_t, bench_name_t, bench_drawn, bench_name_drawn,
-    bench_list, bench_sweep, bench_get, bench_set, bench_clear;
+    bench_list, bench_sweep, bench_get, bench_take, bench_set, bench_clear, bench_give;
 
 /* ---- words */
 
@@ -128,10 +128,11 @@ static int give_direction_and_bytes(struct input *in, const char *kind, uint64_t
     return give_direction(in, kind, degree);
 }
 
-/* ---- a table of soundings: a list of numbers, each a reading or -1 */
+/* ---- a table of soundings: a list of numbers, each a reading or -1, and one of owners */
 
 #define PLACES_OF_DEGREE_6 81920
 static int32_t readings[PLACES_OF_DEGREE_6];
+static uint8_t owners[PLACES_OF_DEGREE_6];
 
 static int32_t random_reading(void) {
     return (int32_t)below(100001);
@@ -155,11 +156,31 @@ static int give_table(struct input *in, const char *kind, uint64_t degree) {
     return degree <= 6 && is_random(kind);
 }
 
-static int give_table_and_reading(struct input *in, const char *kind, uint64_t degree) {
-    in->argument[0] = degree;
-    in->argument[1] = random_code(degree);
-    in->argument[2] = (uint64_t)random_reading();
-    give_readings(in, 3, degree);
+/* Both lists. Every triangle is the ice desk's, which makes the calls, so that each is answered. (Of a hundred that are
+ * given back at degree 6 hardly one is given back twice.) */
+static void give_lists(struct input *in, int first, uint64_t degree) {
+    give_readings(in, first, degree);
+    if (owners[0] == 0) {
+        memset(owners, 1, sizeof owners);
+    }
+    in->argument[first + 2] = (uint64_t)owners;
+    in->argument[first + 3] = in->argument[first + 1];
+}
+
+static int give_desk(struct input *in, const char *kind, uint64_t degree) {
+    in->argument[0] = 1;
+    in->argument[1] = degree;
+    in->argument[2] = random_code(degree);
+    give_lists(in, 3, degree);
+    return degree <= 6 && is_random(kind);
+}
+
+static int give_desk_and_reading(struct input *in, const char *kind, uint64_t degree) {
+    in->argument[0] = 1;
+    in->argument[1] = degree;
+    in->argument[2] = random_code(degree);
+    in->argument[3] = (uint64_t)random_reading();
+    give_lists(in, 4, degree);
     return degree <= 6 && is_random(kind);
 }
 
@@ -168,12 +189,29 @@ static int give_readings_alone(struct input *in, const char *kind, uint64_t degr
     return degree <= 6 && is_random(kind);
 }
 
-/* What a call on a table is measured by: a plain loop that adds up the same list, which the compiler may make as fast
- * as it can. */
+static int give_lists_alone(struct input *in, const char *kind, uint64_t degree) {
+    give_lists(in, 0, degree);
+    return degree <= 6 && is_random(kind);
+}
+
+/* What a call on a table is measured by: plain loops that add up the same memory, which the compiler may make as fast
+ * as it can: the readings for get, both lists for the others. */
 __attribute__((noinline, optimize("O3"))) static int64_t add_up(const int32_t *list, size_t places) {
     int64_t sum = 0;
     for (size_t k = 0; k < places; k++) {
         sum += list[k];
+    }
+    return sum;
+}
+
+__attribute__((noinline, optimize("O3"))) static int64_t
+add_up_both(const int32_t *list, size_t places, const uint8_t *bytes, size_t count) {
+    int64_t sum = 0;
+    for (size_t k = 0; k < places; k++) {
+        sum += list[k];
+    }
+    for (size_t k = 0; k < count; k++) {
+        sum += bytes[k];
     }
     return sum;
 }
@@ -284,9 +322,12 @@ const struct call calls[] = {
     {"sweep", bench_sweep, WORD, give_sweep},
     {"singles", (any_function *)singles, WORD, give_sweep},
     {"table-get", bench_get, WORD, give_table},
-    {"table-set", bench_set, WORD, give_table_and_reading},
-    {"table-clear", bench_clear, WORD, give_table},
+    {"table-take", bench_take, WORD, give_desk},
+    {"table-set", bench_set, WORD, give_desk_and_reading},
+    {"table-clear", bench_clear, WORD, give_desk},
+    {"table-give", bench_give, WORD, give_desk},
     {"add-up", (any_function *)add_up, WORD, give_readings_alone},
+    {"add-up-both", (any_function *)add_up_both, WORD, give_lists_alone},
     {"host-cross", (any_function *)grid_cross, WEIGHTS, give_code_number_and_bytes},
     {"host-file", (any_function *)grid_file, WEIGHTS, give_direction_and_bytes},
     {"host-sweep", (any_function *)host_sweep, WORD, give_sweep_in_bytes},

@@ -269,9 +269,9 @@ fn refuse_deed(
         (refuseDeed deed desk degree t (shared (now (list .entry)) (now (owners .entry))))
         ⌝ }
 {
-    let checked = refuse_call(is_out_of_range(deed), degree, t, list);
-    if checked.refusal != 0 {
-        return checked;
+    let first = refuse_call(is_out_of_range(deed), degree, t, list);
+    if first.refusal != 0 {
+        return first;
     }
     refuse(refuse_shared(deed, desk, degree, t, owners))
 }

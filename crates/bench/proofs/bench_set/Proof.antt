@@ -12,11 +12,14 @@ set-requires c κs = search needs
 same-length : tie.Need-same-length
 same-length c = search needs
 
+same-length-2 : tie.Need-same-length-2
+same-length-2 c = search needs
+
 returns : tie.Need-returns
 returns c =
-    let s = c .before .before .before .before in
-    let k = c .before .before .set in
-    (k .result, rw (toZ-ofZ w32 (s .args .reading) (s .fits .reading)) at (k .ensures), refl)
+    let k = c .before .before .before .before in
+    let s = k .before .before .before .before in
+    (k .set .result, rw (toZ-ofZ w32 (s .args .reading) (s .fits .reading)) at (k .set .ensures), refl)
 
 pub bench-set-spec : {M : Type 1} → statement M
-bench-set-spec = tie.close (tie.spec set-requires same-length returns)
+bench-set-spec = tie.close (tie.spec set-requires same-length same-length-2 returns)

@@ -13,10 +13,11 @@ weights, exact, t, drawn and bits with each number; file and list for a directio
 edge and each corner that has a whole direction at all. Likewise every call on a name for every corner to degree 5. The
 calls below that, and those to be refused, are a choice.
 
-For the table of soundings of request 2026-03 the console has a state: the one open table, which is a list. A code's
-place is its place among all codes of the degree in rising order. It calls for every place of the tables of degree 0 to
-4, and for some at 5 and 6; for long histories; for every refusal, alone and with each other one; and for bad lists. All
-answers are then compared with those of "a simple map from code to reading or nothing".
+For the table of soundings of requests 2026-03 and 2026-07 the console has a state: the one open table, which is two
+lists, of readings and of owners. A code's place is its place among all codes of the degree in rising order. It calls
+for every place of the tables of degree 0 to 4, and for some at 5 and 6; for long histories of both desks; for every
+refusal, alone and with each other one; and for bad lists. All answers are then compared with those of "a simple map
+from code to reading or nothing", and a map from code to the desk that has taken it.
 
 For the plotter host in C of request 2026-01 it writes the lines of the host's test bench, and answers them with the
 same searches: every triangle to degree 4 is checked, and crossed over each edge; cross, file and list are lent slices
@@ -528,10 +529,18 @@ REFUSAL_TABLE += """
 | 22 | the list's length isn't 20*4^degree |
 | 23 | the list holds a number that is neither a reading nor -1 |
 """
+# 2026-07: "New refusals after 23".
+REFUSAL_TABLE += """
+| 24 | not a desk |
+| 25 | owner list malformed (wrong length or another number) |
+| 26 | owned by the other desk |
+| 27 | not owned |
+"""
 REFUSALS = {int(n): text for n, text in re.findall(r"\| (\d+) \| (.*) \|", REFUSAL_TABLE)}
 
-# "Where several hold, the order is", and then of document 02: "They are checked in number order".
-REFUSAL_ORDER = [1, 2, 3, 4, 10, 5, 6, 8, 7, 9, 11, 20, 21, 22, 23]
+# "Where several hold, the order is", and then of document 02: "They are checked in number order", "The new refusals are
+# checked in number order after 23."
+REFUSAL_ORDER = [1, 2, 3, 4, 10, 5, 6, 8, 7, 9, 11, 20, 21, 22, 23, 24, 25, 26, 27]
 
 
 def first(refusals):
@@ -601,12 +610,14 @@ def back_refusals(n, weights):
     return r
 
 
-# ==== Document 02, 2026-03, "A table of soundings"
+# ==== Document 02, 2026-03, "A table of soundings", and 2026-07, "Second desk on the same table"
 
-# "It holds one reading for each triangle of one degree from 0 to 6, in a lent list of signed numbers"
-Table = namedtuple("Table", "degree places")
+# "It holds one reading for each triangle of one degree from 0 to 6, in a lent list of signed numbers". "Each triangle
+# gets an owner: 0 nobody, 1 ice, 2 pilotage, in a lent list of the same length."
+Table = namedtuple("Table", "degree places owners")
 TABLE_DEEPEST = 6
 NOTHING = -1  # "-1 means no reading"
+NOBODY, DESKS = 0, (1, 2)
 
 
 @lru_cache(maxsize=None)
@@ -633,7 +644,9 @@ def is_reading(number):
 
 
 def bad_places(places):
-    """Those with "a number that is neither a reading nor -1"."""
+    """Those with "a number that is neither a reading nor -1". There is none where all lie from -1 to 100,000."""
+    if places and min(places) >= NOTHING and max(places) <= 100_000:
+        return []
     return [place for place, x in enumerate(places) if not (0 <= x <= 100_000 or x == NOTHING)]
 
 
@@ -642,20 +655,41 @@ def table_degree_refusals(n):
     return degree_refusals(n) | when(20, TABLE_DEEPEST < n <= DEEPEST)
 
 
+def has_length(n, places):
+    """20·4^degree. Above degree 24 no list is that long, and the power is not worked out."""
+    return n <= DEEPEST and len(places) == 20 * 4**n
+
+
 def length_refusals(n, places):
-    # "22 the list's length isn't 20·4^degree". Above degree 24 no list is that long, and the power is not worked out.
-    return when(22, n > DEEPEST or len(places) != 20 * 4**n)
+    # "22 the list's length isn't 20·4^degree"
+    return when(22, not has_length(n, places))
 
 
 def sounding_refusals(table, code):
     # "Set, clear and get take a code of just that degree."
-    n, places = table
+    n, places, _ = table
     own = table_degree_refusals(n) | length_refusals(n, places) | when(23, bad_places(places))
     return own | code_refusals(code) | when(20, degree_of(code) != n)
 
 
-def set_refusals(table, code, mm):
-    return sounding_refusals(table, code) | when(21, not is_reading(mm))
+def owner_list_refusals(table):
+    # "25 owner list malformed (wrong length or another number)"
+    malformed = not has_length(table.degree, table.owners) or not set(table.owners) <= {NOBODY, *DESKS}
+    return when(25, malformed)
+
+
+def desk_refusals(table, desk, code, to_take=False):
+    # "get stays as it was, with no desk or owner list"; all other calls are refused by these.
+    refusals = sounding_refusals(table, code) | when(24, desk not in DESKS) | owner_list_refusals(table)
+    if refusals:
+        return refusals
+    # "On another's triangle every call but get is 26; on a free one all but get and take are 27."
+    owner = table.owners[place_of(code)]
+    return when(26, owner not in (NOBODY, desk)) | when(27, owner == NOBODY and not to_take)
+
+
+def set_refusals(table, desk, code, mm):
+    return desk_refusals(table, desk, code) | when(21, not is_reading(mm))
 
 
 # ==== Document 02, 2026-04, "Many directions at once"
@@ -857,8 +891,9 @@ def call_sweep(n, places, numbers):
 
 # ==== The console's table: docs/CONSOLE.md, "A table of soundings"
 
-# "The console holds one table (document 02, 2026-03), from the line that opens it to the next one that does, or the end
-# of the input". This is all that is carried from line to line.
+# "The console holds one table (document 02, 2026-03 and 2026-07), from the line that opens it to the next one that
+# does, or the end of the input". "It has two lists, of readings and of owners." This is all that is carried from line
+# to line.
 CONSOLE = SimpleNamespace(table=None)
 NO_TABLE = "error: no table is open; table DEGREE opens one"
 
@@ -867,11 +902,14 @@ def call_table(n, places=None):
     """A fresh table, or one with the list that is given."""
 
     def say():
-        CONSOLE.table = Table(n, [NOTHING] * (20 * 4**n) if places is None else places)
-        return f"degree {n}, {len(CONSOLE.table.places)} places"
+        numbers = [NOTHING] * (20 * 4**n) if places is None else places
+        # "Both lay a list of owners of the same length, in which all is nobody's."
+        CONSOLE.table = Table(n, numbers, [NOBODY] * len(numbers))
+        return f"degree {n}, {len(numbers)} places"
 
     # "The degree may be any number, and nothing is refused", if a list is given. Of a fresh table: "A degree of 7 to 24
-    # is refused with 20, one above 24 with 1." "A table line that is refused .. leaves the open table as it is."
+    # is refused with 20, one above 24 with 1." "A table line that is refused .. leaves the open table as it is, owners
+    # too."
     return either(table_degree_refusals(n) if places is None else set(), say)
 
 
@@ -885,21 +923,34 @@ def refused_with_place(table, no):
     return refused(no) + (f"; place {bad_places(table.places)[0]}" if no == 23 else "")
 
 
-def write_place(table, refusals, code, number):
+def write_place(table, refusals, code, number=None, owner=None):
     # "None changes the list."
     no = first(refusals)
     if no:
         return refused_with_place(table, no)
-    table.places[place_of(code)] = number
+    if number is not None:
+        table.places[place_of(code)] = number
+    if owner is not None:
+        table.owners[place_of(code)] = owner
     return "ok"
 
 
-def call_set(table, code, mm):
-    return write_place(table, set_refusals(table, code, mm), code, mm)
+def call_take(table, desk, code):
+    # "Taking one's own changes nothing, taking a free one keeps its reading"
+    return write_place(table, desk_refusals(table, desk, code, to_take=True), code, owner=desk)
 
 
-def call_clear(table, code):
-    return write_place(table, sounding_refusals(table, code), code, NOTHING)
+def call_set(table, desk, code, mm):
+    return write_place(table, set_refusals(table, desk, code, mm), code, mm)
+
+
+def call_clear(table, desk, code):
+    return write_place(table, desk_refusals(table, desk, code), code, NOTHING)
+
+
+def call_give(table, desk, code):
+    # "giving back clears it"
+    return write_place(table, desk_refusals(table, desk, code), code, NOTHING, NOBODY)
 
 
 def call_get(table, code):
@@ -921,7 +972,7 @@ def readings_text(count, shown):
 
 
 def call_readings(table):
-    n, places = table
+    n, places, _ = table
 
     def say():
         shown = [place_text(code, x) for code, x in zip(codes_of(n), places) if x != NOTHING]
@@ -929,6 +980,32 @@ def call_readings(table):
 
     # "it is refused, in this order: 1 for a degree above 24, 20 for one of 7 to 24, 22 for the length"
     return either(table_degree_refusals(n) | length_refusals(n, places), say)
+
+
+def owner_text(code, owner):
+    # "as its triangle and the desk, `CODE desk DESK`. A number other than 0, 1 and 2 is shown as `CODE holds OWNER`"
+    return f"{triangle_text(code)} {'desk' if owner in DESKS else 'holds'} {owner}"
+
+
+def owners_text(count, shown):
+    return f"{count} owned" + (": " + ", ".join(shown) if shown else "")
+
+
+def call_owners(table, owners=None):
+    """The owners, or a list of them for the open table."""
+    # "The readings stay, and nothing is refused", if a list is given.
+    if owners is not None:
+        CONSOLE.table = table._replace(owners=owners)
+        return f"{len(owners)} places"
+    n = table.degree
+
+    def say():
+        shown = [owner_text(code, x) for code, x in zip(codes_of(n), table.owners) if x != NOBODY]
+        return owners_text(sum(x in DESKS for x in table.owners), shown)
+
+    # "It is refused with 1 and 20 as `readings` is, and then with 25 where the list of owners has not 20*4^DEGREE
+    # places."
+    return either(table_degree_refusals(n) | when(25, not has_length(n, table.owners)), say)
 
 
 # ==== The console's lines
@@ -975,6 +1052,11 @@ def read_places(text):
     return within(read_number(text), 0, MOST_PLACES)
 
 
+def read_owner(text):
+    # "an N of at most 255. So is FILL in an owners line"
+    return within(read_number(text), 0, 255)
+
+
 SIGNED = dict.fromkeys("XYZ", read_signed)
 READERS = {"CODE": read_code, "NAME": read_hex, **SIGNED, "MM": read_signed}
 READERS.update({"PLACES": read_places, "[PLACES]": read_places})
@@ -1004,10 +1086,13 @@ ANSWERS = {
 }
 TABLE_ANSWERS = {
     "table DEGREE [LENGTH FILL [PLACE VALUE]..]": call_table,
-    "set CODE MM": on_table(call_set),
-    "clear CODE": on_table(call_clear),
+    "take DESK CODE": on_table(call_take),
+    "set DESK CODE MM": on_table(call_set),
+    "clear DESK CODE": on_table(call_clear),
+    "give DESK CODE": on_table(call_give),
     "get CODE": on_table(call_get),
     "readings": on_table(call_readings),
+    "owners [LENGTH FILL [PLACE OWNER]..]": on_table(call_owners),
 }
 
 
@@ -1020,18 +1105,27 @@ FORMS = {**GRID_FORMS, **TABLE_FORMS}
 LONGEST_TABLE = 81921
 
 
-def read_table(given):
-    """The degree, and the list if one is given."""
-    if len(given) == 1:
-        return [read_number(given[0])]
-    within(len(given) % 2, 1, 1)
+def read_list(given, read):
+    """The list that is laid by LENGTH, FILL, and each PLACE with its number."""
+    within(len(given), 2, len(given) - len(given) % 2)
     # "LENGTH places (0 to 81921, ..) that all hold FILL, but at each PLACE, which is below LENGTH, its VALUE; of two
     # for one PLACE the later holds"
-    length = within(read_number(given[1]), 0, LONGEST_TABLE)
-    places = [read_signed(given[2])] * length
-    for place, value in zip(given[3::2], given[4::2]):
-        places[within(read_number(place), 0, length - 1)] = read_signed(value)
-    return [read_number(given[0]), places]
+    length = within(read_number(given[0]), 0, LONGEST_TABLE)
+    places = [read(given[1])] * length
+    for place, number in zip(given[2::2], given[3::2]):
+        places[within(read_number(place), 0, length - 1)] = read(number)
+    return places
+
+
+def read_table(given):
+    """The degree, and the list if one is given."""
+    within(len(given), 1, len(given))
+    return [read_number(given[0])] + ([read_list(given[1:], read_signed)] if len(given) > 1 else [])
+
+
+def read_owners(given):
+    """The list, if one is given."""
+    return [read_list(given, read_owner)] if given else []
 
 
 def read_arguments(kinds, given):
@@ -1041,6 +1135,8 @@ def read_arguments(kinds, given):
         return [read_number(given[0]), [read_number(x) for x in given[1:]]]
     if last == "VALUE]..]":
         return read_table(given)
+    if last == "OWNER]..]":
+        return read_owners(given)
     if last == "[NUMBER]..":  # "(0 to 48 numbers)"
         within(len(given), 2, 2 + MOST_NUMBERS)
         return [read_number(given[0]), read_places(given[1]), [read_signed(x) for x in given[2:]]]
@@ -1053,7 +1149,7 @@ def parts_of(line):
 
 
 def answer(line):
-    """The answer to one line, a character for each byte, and what it does to the open table."""
+    """The answer to one line, a character for each byte, and what it does to the open table and its owners."""
     if len(line) > 1000:
         return "error: a line has at most 1000 bytes"
     parts = parts_of(line)
@@ -1243,9 +1339,10 @@ def check_table_lines():
     must(CONSOLE.table is None, "no table")
 
 
-def check_ice_desk():
-    for (line, text), found in zip(ICE_DESK, answers_to(line for line, _ in ICE_DESK)):
-        must(found == text, "by hand", line, text, found)
+def check_by_hand():
+    for some in (ICE_DESK, BOTH_DESKS):
+        for (line, text), found in zip(some, answers_to(line for line, _ in some)):
+            must(found == text, "by hand", line, text, found)
     must(answers_to(["table 0", "get 0x2050000000000001"])[1] == refused(4), "4 before 20")
 
 
@@ -1262,7 +1359,8 @@ def internal_checks():
     check_examples()
     check_places()
     check_table_lines()
-    check_ice_desk()
+    check_by_hand()
+    check_between()
     check_sweep_lines()
 
 
@@ -2091,84 +2189,232 @@ def close_calls():
 ICE_DESK_TEXT = """
     table 1 -> degree 1, 80 places
     readings -> 0 readings
+    owners -> 0 owned
     get 1001 -> no reading
-    clear 1001 -> ok
-    set 1001 1250 -> ok
+    clear 1 1001 -> refused 27: not owned
+    set 1 1001 1250 -> refused 27: not owned
+    take 1 1001 -> ok
+    get 1001 -> no reading
+    clear 1 1001 -> ok
+    set 1 1001 1250 -> ok
     get 1001 -> 1250 mm
     readings -> 1 reading: 1001 1250 mm
-    set 1002 0 -> ok
+    take 1 1002 -> ok
+    set 1 1002 0 -> ok
     get 1002 -> 0 mm
     readings -> 2 readings: 1001 1250 mm, 1002 0 mm
-    set 1001 0 -> ok
+    owners -> 2 owned: 1001 desk 1, 1002 desk 1
+    set 1 1001 0 -> ok
     get 0x2050000000000000 -> 0 mm
-    set 0x2050000000000000 100000 -> ok
+    set 1 0x2050000000000000 100000 -> ok
     get 1001 -> 100000 mm
-    set 1001 100001 -> refused 21: reading out of range
-    set 1001 -1 -> refused 21: reading out of range
+    set 1 1001 100001 -> refused 21: reading out of range
+    set 1 1001 -1 -> refused 21: reading out of range
     get 1001 -> 100000 mm
-    clear 1001 -> ok
+    clear 1 1001 -> ok
     get 1001 -> no reading
-    clear 1001 -> ok
+    clear 1 1001 -> ok
     get 1001 -> no reading
     readings -> 1 reading: 1002 0 mm
+    owners -> 2 owned: 1001 desk 1, 1002 desk 1
     get 100 -> refused 20: wrong degree
-    set 10003 5 -> refused 20: wrong degree
-    clear 10003 -> refused 20: wrong degree
+    set 1 10003 5 -> refused 20: wrong degree
+    clear 1 10003 -> refused 20: wrong degree
+    take 1 10003 -> refused 20: wrong degree
+    give 1 10003 -> refused 20: wrong degree
     get 6001 -> refused 2: a is 0, 6 or 7
     get 600 -> refused 2: a is 0, 6 or 7
-    set 10003 -1 -> refused 20: wrong degree
-    set 600 -1 -> refused 2: a is 0, 6 or 7
+    set 1 10003 -1 -> refused 20: wrong degree
+    set 1 600 -1 -> refused 2: a is 0, 6 or 7
+    take 3 600 -> refused 2: a is 0, 6 or 7
     file 1 0 0 1 -> 1000 0x2040000000000000
-    set 1000 15 -> ok
+    take 1 1000 -> ok
+    set 1 1000 15 -> ok
     cross 1001 2 -> 2001 0x4050000000000000 edge 3 corners 1 2
-    set 2001 16 -> ok
-    set 5113 7 -> ok
+    take 2 2001 -> ok
+    set 2 2001 16 -> ok
+    take 2 5113 -> ok
+    set 2 5113 7 -> ok
     readings -> 4 readings: 1000 15 mm, 1002 0 mm, 2001 16 mm, 5113 7 mm
+    owners -> 5 owned: 1000 desk 1, 1001 desk 1, 1002 desk 1, 2001 desk 2, 5113 desk 2
     table 7 -> refused 20: wrong degree
     table 24 -> refused 20: wrong degree
     table 25 -> refused 1: a degree, as field or argument, is above 24
     readings -> 4 readings: 1000 15 mm, 1002 0 mm, 2001 16 mm, 5113 7 mm
+    owners -> 5 owned: 1000 desk 1, 1001 desk 1, 1002 desk 1, 2001 desk 2, 5113 desk 2
     table 2 -> degree 2, 320 places
     readings -> 0 readings
+    owners -> 0 owned
     get 1000 -> refused 20: wrong degree
-    set 10003 2500 -> ok
+    take 2 10003 -> ok
+    set 2 10003 2500 -> ok
     readings -> 1 reading: 10003 2500 mm
+    owners -> 1 owned: 10003 desk 2
     table 2 320 -1 3 2500 319 0 -> degree 2, 320 places
+    owners -> 0 owned
     get 10003 -> 2500 mm
     get 51133 -> 0 mm
     table 0 20 -1 0 5 3 -2 -> degree 0, 20 places
     readings -> 1 reading: 100 5 mm, 111 holds -2
     get 100 -> refused 23: the list holds a number that is neither a reading nor -1; place 3
-    set 111 5 -> refused 23: the list holds a number that is neither a reading nor -1; place 3
-    clear 111 -> refused 23: the list holds a number that is neither a reading nor -1; place 3
-    set 111 100001 -> refused 21: reading out of range
+    set 1 111 5 -> refused 23: the list holds a number that is neither a reading nor -1; place 3
+    clear 1 111 -> refused 23: the list holds a number that is neither a reading nor -1; place 3
+    take 3 100 -> refused 23: the list holds a number that is neither a reading nor -1; place 3
+    give 0 100 -> refused 23: the list holds a number that is neither a reading nor -1; place 3
+    set 1 111 100001 -> refused 21: reading out of range
     readings -> 1 reading: 100 5 mm, 111 holds -2
     table 0 20 -1 3 -2 -> degree 0, 20 places
     readings -> 0 readings: 111 holds -2
     table 0 20 100001 1 0 -> degree 0, 20 places
-    clear 511 -> refused 23: the list holds a number that is neither a reading nor -1; place 0
+    clear 1 511 -> refused 23: the list holds a number that is neither a reading nor -1; place 0
     table 0 19 -2 -> degree 0, 19 places
     get 100 -> refused 22: the list's length isn't 20*4^degree
+    take 3 100 -> refused 22: the list's length isn't 20*4^degree
     readings -> refused 22: the list's length isn't 20*4^degree
-    set 100 100001 -> refused 21: reading out of range
-    set 1001 100001 -> refused 20: wrong degree
-    set 0x2050000000000041 -1 -> refused 3: a digit beyond the degree is not 0
-    set 0xC050000000000041 -1 -> refused 2: a is 0, 6 or 7
-    set 0xC650000000000041 -1 -> refused 1: a degree, as field or argument, is above 24
+    owners -> refused 25: owner list malformed (wrong length or another number)
+    set 1 100 100001 -> refused 21: reading out of range
+    set 1 1001 100001 -> refused 20: wrong degree
+    set 1 0x2050000000000041 -1 -> refused 3: a digit beyond the degree is not 0
+    set 1 0xC050000000000041 -1 -> refused 2: a is 0, 6 or 7
+    set 1 0xC650000000000041 -1 -> refused 1: a degree, as field or argument, is above 24
+    owners 20 2 -> 20 places
+    take 1 100 -> refused 22: the list's length isn't 20*4^degree
     table 7 3 -1 2 500 -> degree 7, 3 places
     get 1000000000 -> refused 20: wrong degree
+    give 1 1000000000 -> refused 20: wrong degree
     readings -> refused 20: wrong degree
+    owners -> refused 20: wrong degree
+    owners 2 255 -> 2 places
+    owners -> refused 20: wrong degree
     table 25 0 0 -> degree 25, 0 places
     get 100 -> refused 1: a degree, as field or argument, is above 24
+    take 1 100 -> refused 1: a degree, as field or argument, is above 24
     readings -> refused 1: a degree, as field or argument, is above 24
+    owners -> refused 1: a degree, as field or argument, is above 24
+    table 0 -> degree 0, 20 places
+    take 1 100 -> ok
+    set 1 100 9 -> ok
+    owners 20 0 0 2 19 1 -> 20 places
+    readings -> 1 reading: 100 9 mm
+    owners -> 2 owned: 100 desk 2, 511 desk 1
+    set 1 100 8 -> refused 26: owned by the other desk
+    set 2 100 8 -> ok
+    get 100 -> 8 mm
+    set 1 101 8 -> refused 27: not owned
+    take 4294967297 101 -> refused 24: not a desk
+    take 18446744073709551615 100 -> refused 24: not a desk
+    give 0 101 -> refused 24: not a desk
+    give 2 100 -> ok
+    owners -> 1 owned: 511 desk 1
+    readings -> 0 readings
+    owners 20 255 1 1 1 2 -> 20 places
+    take 255 100 -> refused 24: not a desk
+    take 2 101 -> refused 25: owner list malformed (wrong length or another number)
+    get 101 -> no reading
+    owners 21 0 -> 21 places
+    give 1 100 -> refused 25: owner list malformed (wrong length or another number)
+    owners 0 0 -> 0 places
+    clear 2 511 -> refused 25: owner list malformed (wrong length or another number)
+    set 2 511 100001 -> refused 21: reading out of range
+    set 3 511 100000 -> refused 24: not a desk
 """
-ICE_DESK = [tuple(line.strip().split(" -> ")) for line in ICE_DESK_TEXT.strip().split("\n")]
+
+# docs/CONSOLE.md: "A day at the ice desk, each call with its answer."
+DAY_TEXT = """
+    table 1 -> degree 1, 80 places
+    get 1001 -> no reading
+    take 1 1001 -> ok
+    get 1001 -> no reading
+    set 1 1001 1250 -> ok
+    get 1001 -> 1250 mm
+    set 1 1001 0 -> ok
+    get 1001 -> 0 mm
+    set 1 1001 100001 -> refused 21: reading out of range
+    set 1 1001 -1 -> refused 21: reading out of range
+    get 1001 -> 0 mm
+    get 10003 -> refused 20: wrong degree
+    take 1 5113 -> ok
+    set 1 5113 100000 -> ok
+    readings -> 2 readings: 1001 0 mm, 5113 100000 mm
+    clear 1 1001 -> ok
+    get 1001 -> no reading
+    clear 1 1001 -> ok
+    readings -> 1 reading: 5113 100000 mm
+    table 1 80 -1 79 100000 3 -2 -> degree 1, 80 places
+    get 5113 -> refused 23: the list holds a number that is neither a reading nor -1; place 3
+    set 1 1003 0 -> refused 23: the list holds a number that is neither a reading nor -1; place 3
+    readings -> 1 reading: 1003 holds -2, 5113 100000 mm
+    table 1 79 -1 -> degree 1, 79 places
+    get 1001 -> refused 22: the list's length isn't 20*4^degree
+    table 1 -> degree 1, 80 places
+    owners 80 0 1 1 4 2 -> 80 places
+    owners -> 2 owned: 1001 desk 1, 1010 desk 2
+"""
+
+# docs/DESKS.md: "This is one morning, call by call".
+MORNING_TEXT = """
+    table 1 -> degree 1, 80 places
+    owners -> 0 owned
+    take 1 1001 -> ok
+    take 1 1002 -> ok
+    set 1 1001 1250 -> ok
+    get 1001 -> 1250 mm
+    take 2 1001 -> refused 26: owned by the other desk
+    set 2 1001 900 -> refused 26: owned by the other desk
+    clear 2 1001 -> refused 26: owned by the other desk
+    give 2 1001 -> refused 26: owned by the other desk
+    get 1001 -> 1250 mm
+    set 2 1003 400 -> refused 27: not owned
+    clear 2 1003 -> refused 27: not owned
+    give 2 1003 -> refused 27: not owned
+    take 2 1003 -> ok
+    set 2 1003 400 -> ok
+    take 2 1003 -> ok
+    get 1003 -> 400 mm
+    owners -> 3 owned: 1001 desk 1, 1002 desk 1, 1003 desk 2
+    readings -> 2 readings: 1001 1250 mm, 1003 400 mm
+    give 1 1001 -> ok
+    get 1001 -> no reading
+    give 1 1001 -> refused 27: not owned
+    take 2 1001 -> ok
+    get 1001 -> no reading
+    set 1 1001 1300 -> refused 26: owned by the other desk
+    take 0 1010 -> refused 24: not a desk
+    take 3 1010 -> refused 24: not a desk
+    set 3 1001 100001 -> refused 21: reading out of range
+    set 1 1001 100001 -> refused 21: reading out of range
+    table 1 80 -1 1 700 2 800 -> degree 1, 80 places
+    take 2 1001 -> ok
+    give 2 1001 -> ok
+    take 1 1001 -> ok
+    get 1001 -> no reading
+    take 1 1002 -> ok
+    get 1002 -> 800 mm
+    owners 80 0 5 3 -> 80 places
+    take 1 1001 -> refused 25: owner list malformed (wrong length or another number)
+    owners -> 0 owned: 1011 holds 3
+    owners 79 0 -> 79 places
+    give 1 1002 -> refused 25: owner list malformed (wrong length or another number)
+    owners -> refused 25: owner list malformed (wrong length or another number)
+    get 1002 -> 800 mm
+"""
+
+
+def by_hand(text):
+    """Lines with the answers to them."""
+    return [tuple(line.strip().split(" -> ")) for line in text.strip().split("\n")]
+
+
+ICE_DESK = by_hand(ICE_DESK_TEXT) + by_hand(DAY_TEXT)
+BOTH_DESKS = by_hand(MORNING_TEXT)
 
 # Readable lines, with no table to be called on.
 WITHOUT_TABLE = """
-    readings; get 1001; set 1001 1250; clear 1001; get 100; set 100 0; clear 51133; get 0x2050000000000000; get 600
-    get 0x0; set 0xFFFFFFFFFFFFFFFF 2147483647; set 600 -1; set 1001 100001; set 1001 -2147483648; clear 7013; clear 0x1
-    get 100000000; get 100000000000000000000000000
+    readings; get 1001; set 1 1001 1250; clear 1 1001; get 100; set 2 100 0; clear 2 51133; get 0x2050000000000000
+    get 600; get 0x0; set 1 0xFFFFFFFFFFFFFFFF 2147483647; set 1 600 -1; set 1 1001 100001; set 1 1001 -2147483648
+    clear 1 7013; clear 2 0x1; get 100000000; get 100000000000000000000000000; owners; owners 80 0; owners 0 255
+    owners 20 3 19 1; owners 81921 0 81920 2; take 1 1001; take 2 100; take 0 1001; take 3 600; take 4294967297 100
+    give 1 1001; give 2 0x1; give 18446744073709551615 7013; set 0 600 -1; set 0xFFFFFFFFFFFFFFFF 0x0 -2; clear 256 100
 """
 UNREADABLE_ON_TABLE = """
     table; table 0 20; table 0 20 -1 3; table 0 20 -1 3 5 4; table 0 20 -1 3 5 4 6 19; table x; table 7 3; table 25 x
@@ -2176,35 +2422,68 @@ UNREADABLE_ON_TABLE = """
     table -1; table 0 -1 0; table 0 81922 0; table 7 81922 0; table 25 81922 0; table 0 20 -1 -1 5; table 0 20 x
     table 6 81921 -1 81921 5; table 6 81920 -1 81920 5; table 0 20 -1 # note; table 0 #; table # 0; table 0 20 -1 3 5 #
     table DEGREE; table 0 LENGTH; table 0 [20 -1]; table 0, 20 -1; table degree 0; table 0 20 no reading; table 0 20 0 x
-    set; set 100; set 100 5 6; set 100 5 mm; set 100 5mm; set 100 1250 mm; set 5 100; set 100 0x5; set 100 5 # note
-    set 600 x; set 600 2147483648; set 600 -2147483649; set 100 no reading; set 100 nothing; set 100=5; set 100, 5
-    set 20 5; set 0x2000000000000000; set CODE MM; set 100 -; set 100 5 100 6; set 100 1e3; set 100 1250.0; set 100 +0
+    set; set 1; set 100; set 100 5; set 1001 1250; set 1 100; set 1 100 5 6; set 1 100 5 mm; set 1 100 5mm; set 100 1 5
+    set 1 5 100; set 1 100 0x5; set 1 100 5 # note; set 1 600 x; set 3 600 x; set 1 600 2147483648; set 1 600
+    set 0 100 -2147483649
+    set 1 100 no reading; set 1 100 nothing; set 1 100=5; set 1 100, 5; set 1, 100 5; set 1:100 5; set ice 100 5
+    set desk 1 100 5; set 1 20 5; set 1 0x2000000000000000; set 0x2000000000000000 5; set DESK CODE MM; set CODE MM
+    set 1 100 -; set 1 100 5 101 6; set 1 100 1e3; set 1 100 1250.0; set 1 100 +0; set -1 100 5; set +1 100 5
+    set -0 100 5; set 1.0 100 5; set 18446744073709551616 100 5; set 0x10000000000000000 100 5; set 100 5 1
+    set 1 2 100 5
     get; get 100 101; get 100 5; get all; get 3; get 0; get 100 # note; get 600 1; get CODE; get 1001 x; get 100 0
-    clear; clear 100 101; clear 100 5; clear all; clear 3; clear 0; clear 100 # note; clear 600 1; clear CODE
+    get 1 100; get 2 1001; get 1 100 5; get DESK CODE
+    clear; clear 1; clear 100; clear 1001; clear 600; clear 1 100 101; clear 1 100 5; clear all; clear 1 all; clear 1 3
+    clear 1 0; clear 100 1; clear 1 100 # note; clear 1 600 1; clear DESK CODE; clear CODE; clear ice 100; clear -1 100
+    clear 1, 100; clear 18446744073709551616 100; clear 0x2000000000000000; clear 100 2; clear 1 2 100
+    take; take 1; take 100; take 1001; take 1 all; take all; take 1 1; take 100 1; take 1 100 5; take 1 100 101
+    take 1 100 # note; take 1 600 1; take DESK CODE; take CODE; take pilotage 100; take -1 100; take -0 100; take 1, 100
+    take 18446744073709551616 100; take 0x 100; take 0x2000000000000000; take 3 x; take 0 600 600; take 2 1.0; take 1 2
+    give; give 1; give 100; give 1001; give 1 all; give back; give back 1 100; give 1 back 100; give 100 1; give 1 100 0
+    give 1 100 2; give 1 100 # note; give 1 600 1; give DESK CODE; give CODE; give ice 100; give -1 100; give +2 100
+    give 18446744073709551616 100; give 3 x; give 0 600 600; give 1 1004; give 1, 100; give 0x2000000000000000
     readings 1; readings 100; readings x; readings all; readings # note; readings #; readings 0 0; readings readings
+    owners 20; owners 0; owners x; owners 20 x; owners x 0; owners 20 0 3; owners 20 0 3 1 4; owners 20 0 3 1 4 2 5
+    owners 20 256; owners 20 257; owners 20 -1; owners 20 -0; owners 20 +1; owners 20 0 3 256; owners 20 0 3 -1
+    owners 20 0 20 1; owners 20 0 3 1 20 1; owners 0 0 0 1; owners 1 0 1 1; owners 19 0 19 1; owners 20 0 -1 1
+    owners 81922 0; owners 81921 0 81921 1; owners 81920 0 81920 1; owners -1 0; owners -0 0; owners 20 0 3 4294967297
+    owners 20 4294967296; owners 20 18446744073709551615; owners 18446744073709551616 0; owners 20 0x100
+    owners 0x14002 0
+    owners all; owners 1 x; owners # note; owners #; owners 20 0 #; owners 20 0 3 1 # note; owners LENGTH FILL
+    owners [20 0]; owners 20, 0; owners 20 0, 3 1; owners 20 0 100 1; owners 20 0 3 desk 1; owners 20 nobody
+    owners 20 0 3 ice; owners desk 1; owners owners; owners 20 1.0; owners 20 0 3 0x; owners 20 0 0x14 1
 """
 UNKNOWN_ON_TABLE = """
-    Table 0; TABLE 0; tables 0; tabl 0; table0; table:0; table, 0; Set 100 5; SET 100 5; sets 100 5; se 100 5; set100 5
-    set, 100 5; Get 100; GET 100; gets 100; got 100; ge 100; get100; Clear 100; CLEAR 100; clears 100; clear100; clea
-    clear-all; reading; Readings; READINGS; readings:; readings,; open 0; close; unset 100; put 100 5; fresh 0
-    table\u00a00; set\u00a0100 5; get\u00a0100; readings\u00a0; holds 100; take 100; 1001 1250 mm; degree 1, 80 places
+    Table 0; TABLE 0; tables 0; tabl 0; table0; table:0; table, 0; Set 1 100 5; SET 1 100 5; sets 1 100 5; se 1 100 5
+    set1 100 5; set, 1 100 5; Get 100; GET 100; gets 100; got 100; ge 100; get100; Clear 1 100; CLEAR 1 100
+    clears 1 100; clear1 100; clea; clear-all; reading; Readings; READINGS; readings:; readings,; open 0; close
+    unset 1 100; put 1 100 5; fresh 0; table\u00a00; set\u00a01 100 5; get\u00a0100; readings\u00a0; holds 100
+    1001 1250 mm; degree 1, 80 places; 1 take 100; 1 set 100 5; desk 1; desk 1 take 100; ice take 100; Take 1 100
+    TAKE 1 100; takes 1 100; took 1 100; tak 1 100; take1 100; take, 1 100; take:; Give 1 100; GIVE 1 100; gives 1 100
+    give-back 1 100; giveback 1 100; gave 1 100; giv 1 100; give1 100; return 1 100; free 1 100; own 1 100; owner; owned
+    owner 100; Owners; OWNERS; owners:; owners,; owners20 0; owners\u00a0; owner 20 0; take\u00a01 100; give\u00a01 100
 """
 BAD_LENGTHS = BAD_NUMBERS + "81922 163840 4294967296 4294967316 18446744073709551615 0x14002 000081922".split()
 BAD_PLACE_NUMBERS = BAD_NUMBERS + "20 21 0x14 00020 81920 4294967296 4294967299 18446744073709551615".split()
+BAD_OWNERS = BAD_NUMBERS + "256 257 258 511 65536 4294967296 4294967297 18446744073709551615 0x100 00256".split()
 BAD_TABLE_CODES = [word for word in BAD_CODES if not TRIANGLE.fullmatch(word)]
 # Good arguments, and for each of them bad ones in its place.
 TABLE_ARGUMENTS = [
     ("table", ["0"], [BAD_NUMBERS]),
     ("table", ["0", "20", "-1"], [BAD_NUMBERS, BAD_LENGTHS, BAD_SIGNED]),
     ("table", ["0", "20", "-1", "3", "5"], [BAD_NUMBERS, BAD_LENGTHS, BAD_SIGNED, BAD_PLACE_NUMBERS, BAD_SIGNED]),
-    ("set", ["100", "5"], [BAD_TABLE_CODES, BAD_SIGNED]),
+    ("set", ["1", "100", "5"], [BAD_NUMBERS, BAD_TABLE_CODES, BAD_SIGNED]),
     ("get", ["100"], [BAD_TABLE_CODES]),
-    ("clear", ["100"], [BAD_TABLE_CODES]),
+    ("clear", ["1", "100"], [BAD_NUMBERS, BAD_TABLE_CODES]),
+    ("take", ["1", "100"], [BAD_NUMBERS, BAD_TABLE_CODES]),
+    ("give", ["2", "111"], [BAD_NUMBERS, BAD_TABLE_CODES]),
+    ("owners", ["20", "0"], [BAD_LENGTHS, BAD_OWNERS]),
+    ("owners", ["20", "0", "3", "1"], [BAD_LENGTHS, BAD_OWNERS, BAD_PLACE_NUMBERS, BAD_OWNERS]),
 ]
+SHOWN = ["readings", "owners"]  # All that the table holds.
 
 
 def unreadable_table_lines():
-    """The five calls with arguments missing, too many, and each argument unreadable."""
+    """The calls on a table with arguments missing, too many, and each argument unreadable."""
     yield from written(UNREADABLE_ON_TABLE)
     for call, good, bad in TABLE_ARGUMENTS:
         for at, some in enumerate(bad):
@@ -2213,8 +2492,9 @@ def unreadable_table_lines():
 
 def unknown_table_lines():
     yield from written(UNKNOWN_ON_TABLE)
-    yield from ["readings\x0b", "\x0breadings", "table\x0b0", "set\x0b100 5", "get\x0c100", "clear\x00100"]
-    yield from ["readings\x00", "", " \t", "# table 0", "#readings", " # set 100 5"]
+    yield from ["readings\x0b", "\x0breadings", "table\x0b0", "set\x0b1 100 5", "get\x0c100", "clear\x001 100"]
+    yield from ["readings\x00", "", " \t", "# table 0", "#readings", " # set 1 100 5"]
+    yield from ["take\x0b1 100", "give\x0c1 100", "owners\x00", "owners\x0b20 0", "#owners", "# take 1 100"]
 
 
 def before_any_table():
@@ -2223,20 +2503,21 @@ def before_any_table():
     yield from written(WITHOUT_TABLE)
     for line in [*unreadable_table_lines(), *unknown_table_lines()]:
         yield line
-        if line.startswith("table "):
+        if line.startswith(("table ", "owners ")):
             yield "readings"
     for n in (7, 8, 23, 24, 25, 26, 31, 32, 255, 256, 2**32, 2**32 + 1, 2**63, MOST - 1, MOST):
         yield f"table {n}"
-        yield from ["readings", "get 1001", "set 1001 5", "clear 1001", "get 1001 5"]
+        yield from ["readings", "get 1001", "set 1 1001 5", "clear 2 1001", "get 1001 5"]
+        yield from ["owners", "take 1 1001", "give 2 1001", "owners 80 0", "set 1001 5", "clear 1001", "take 1001"]
     yield from written(WITHOUT_TABLE)
 
 
 def unreadable_on_table():
     """The same lines while a table is open, and what the table holds after each."""
-    yield "table 0 20 -1 3 1250 19 0"
+    yield from ["table 0 20 -1 3 1250 19 0", "owners 20 0 0 1 3 2 19 1"]
     for line in [*unreadable_table_lines(), *unknown_table_lines()]:
-        yield from [line, "readings"]
-    yield from ["get 111", "get 511", "get 100"]
+        yield from [line, *SHOWN]
+    yield from ["get 111", "get 511", "get 100", "set 1 100 1", "clear 2 111", "give 1 511", *SHOWN]
 
 
 READABLE_ON_TABLE = """
@@ -2245,33 +2526,62 @@ READABLE_ON_TABLE = """
     table 0 20 -0000000002147483648 3 00000000002147483647; table 0 20 -2147483648 0 2147483647 1 100001 2 100000 3 -2
     table 18446744073709551615 0 0; table 0xffffffffffffffff 1 2147483647 0 -2147483648; table 0xFFFFFFFFFFFFFFFF 20 -1
     table 0x19 0x0 -0; table 0x18 1 1; table 7 0 -1; table 7 1 -1; table 0 0 0; table 0 1 0; table 0 2 0 1 7
-    table 0 20 -1; set 100 -0; set 101 00005; set 0x3000000000000000 100000; set 0x2000000000000000 -0001
-    set 111 0000000000000000000000100000; set 111 -00000; set 111 0100001; set 511 2147483647; set 511 -2147483648
-    get 0x2000000000000000; get 0xb800000000000000; get 0xB800000000000000; clear 0x2000000000000000; get 100; clear 100
-    set 600 5; get 000; clear 711; set 0x0 0; get 0x1; clear 0xaBcDeF0123456789; get 1001; set 0x2000000000000001 5
+    table 0 20 -1; owners 20 0 0 1 1 1 3 1 19 2; set 1 100 -0; set 1 101 00005; set 1 0x3000000000000000 100000
+    set 1 0x2000000000000000 -0001; set 1 111 0000000000000000000000100000; set 1 111 -00000; set 1 111 0100001
+    set 2 511 2147483647; set 2 511 -2147483648; get 0x2000000000000000; get 0xb800000000000000; get 0xB800000000000000
+    set 2 0xb800000000000000 8; clear 2 0xB800000000000000; clear 1 0x2000000000000000; get 100; clear 1 100
+    set 1 600 5; get 000; clear 1 711; set 2 0x0 0; get 0x1; clear 2 0xaBcDeF0123456789; get 1001
+    set 1 0x2000000000000001 5; take 1 000; give 2 0x1; take 0xaBcDeF0123456789 0xaBcDeF0123456789
+    set 0x1 100 6; set 01 100 7; set 0x0000000000000001 100 8; set 000000000000000000000000000000000001 100 9
+    set 0x2 511 6; set 002 511 7; set 0x0000000000000002 511 8; set 00000000000000000000000000000000002 511 9
+    take 0x01 200; take 0x02 201; take 0000000000000000000000000000000000000000002 210; take 0x0000000000000001 211
+    give 0x01 200; give 002 201; clear 0x2 210; clear 0001 211; give 0x2 210; give 0x1 211; take 00 200; take 0x0 200
+    take 0x3 200; take 03 200; take 0x100 200; take 0x101 200; take 257 200; take 258 200; take 65537 200
+    take 65538 200
+    take 0x100000001 200; take 4294967298 200; take 0xFFFFFFFFFFFFFFFF 200; take 0xffffffffffffffff 200
+    take 18446744073709551615 200; take 00018446744073709551615 200; give 100 100; set 100 100 5; clear 100 100
+    set 100 111 100; take 100 100; set 511 511 511; take 0x2000000000000000 0x2000000000000000; give 20 200
+    clear 18446744073709551615 511; set 9223372036854775809 100 1; give 0x8000000000000002 511
+    owners 0x14 0x0 0x13 0x2; owners 020 00 019 001; owners 20 00000000000000000000000000002 3 0000000000000000000001
+    owners 20 255; owners 20 0xff; owners 20 0xFF 3 0xFe 4 0x0; owners 20 0 3 255; owners 20 0 3 0x00000000000000FF
+    owners 20 0x0000000000000001; owners 0x0000000000000014 0x0000000000000002 0x0000000000000000 0x0000000000000000
+    owners 20 0 3 00255; owners 0 0; owners 0 255; owners 1 255 0 0; owners 1 0; owners 2 1 1 2; owners 19 0 18 1
+    owners 21 0 20 2; owners 80 1; owners 81920 0; owners 81921 0; owners 81921 0 81920 255; owners 0x14001 0 0x14000 1
+    owners 00081921 2; owners 20 3; owners 20 0 0 3 0 1; owners 20 1; owners 20 2 0 1; owners 20 0
 """
 
 
 def readable_on_table():
     """Leading zeros, either case, tabs and carriage returns, and lines of 1000 bytes and more."""
     lines = written(READABLE_ON_TABLE)
-    lines += ["\ttable\t0\r", "  set   100\t7  ", "get 100\r", "\rget\r\t100", "set\t101\r100000", "clear\t100\r"]
+    lines += ["\ttable\t0\r", " take 1\t100 ", "take\r1\r101", "\ttake\t2\t200\t", "take 2 201\r"]
+    lines += ["  set   1 100\t7  ", "get 100\r", "\rget\r\t100", "set\t1\t101\r100000", "clear\t1\t100\r"]
+    lines += ["give\t1\r100 ", "  give  1  101", "\rowners\t", "owners\r", "\towners 20\r0\t3 1  4\t2 "]
     lines += ["table 0\t20 -1\r3 \t7", "\treadings\t", "readings\r", "   readings   ", "\r \treadings"]
     for length in (999, 1000, 1001, 1002, 5000):
         lines += [filled("table 0 20 -1 4 44", length), "table 0 20 -1 5 " + "0" * (length - 18) + "55"]
-        lines += [" " * (length - len("set 200 9")) + "set 200 9", "set 201 " + "0" * (length - 9) + "8"]
-        lines += [filled("get 111", length), filled("clear 200", length, "\t"), filled("readings", length)]
+        lines += [filled("take 2 200", length), "take " + "0" * (length - 10) + "2 201"]
+        lines += [" " * (length - len("set 2 200 9")) + "set 2 200 9", "set 2 201 " + "0" * (length - 11) + "8"]
+        lines += ["set " + "0" * (length - 11) + "2 200 7", "clear " + "0" * (length - 11) + "2 201"]
+        lines += [filled("get 111", length), filled("clear 2 200", length, "\t"), filled("readings", length)]
+        lines += [filled("give 2 200", length, "\r"), "give " + "0" * (length - 10) + "2 201", filled("owners", length)]
+        lines += [filled("owners 20 0 4 1", length), "owners 20 0 5 " + "0" * (length - 15) + "2"]
+        lines += ["owners 20 " + "0" * (length - 15) + "1 6 2", " " * (length - len("owners")) + "owners"]
     for line in lines:
-        yield from [line, "readings"]
+        yield from [line, *SHOWN]
 
 
 def ice_desk_calls():
     yield from (line for line, _ in ICE_DESK)
 
 
+def both_desks_calls():
+    yield from (line for line, _ in BOTH_DESKS)
+
+
 def last_line():
     # "The last line may lack its line end."
-    yield from ["table 1", "set 1001 1250", "get 1001"]
+    yield from ["table 1", "take 1 1001", "set 1 1001 1250", "get 1001"]
 
 
 # ==== The calls: a table of soundings, every place
@@ -2282,32 +2592,60 @@ def mm_of(place):
     return (7919 * place + 13) % 100_001
 
 
-def set_line(code, at):
-    return f"set {some_form(code, at)} {mm_of(place_of(code))}"
+def desk_of(place):
+    """A desk for each place, now the one and now the other."""
+    return 1 + bin(place).count("1") % 2
+
+
+def sounding_line(call, desk, word, mm):
+    words = [call] + ([] if call == "get" else [desk]) + [word] + ([mm] if call == "set" else [])
+    return " ".join(map(str, words))
+
+
+def own_line(call, code, at):
+    """The call, by the place's desk and with the place's reading."""
+    place = place_of(code)
+    return sounding_line(call, desk_of(place), some_form(code, at), mm_of(place))
+
+
+def own_lines(calls, code, at):
+    return [own_line(call, code, at + k) for k, call in enumerate(calls.split())]
+
+
+def laid(length, fill, numbers=()):
+    """A list: its length, what fills it, and then each (place, number)."""
+    return f"{length} {fill}" + "".join(f" {place} {number}" for place, number in numbers)
 
 
 def opened(n, length, fill, numbers=()):
-    """A table with a list: its length, what fills it, and then each (place, number)."""
-    return f"table {n} {length} {fill}" + "".join(f" {place} {number}" for place, number in numbers)
+    """A table with a list."""
+    return f"table {n} {laid(length, fill, numbers)}"
+
+
+def owned(length, fill, numbers=()):
+    """A list of owners."""
+    return f"owners {laid(length, fill, numbers)}"
 
 
 def place_by_place(chance, n, order):
-    """Each place is set in this order, asked for, and cleared and asked for again in another order."""
+    """Each place is taken and set in this order, and asked for; cleared and asked for again in another order; and given
+    back in a third, some set once more before."""
     often = [1, 1, 16, 128][n]
     yield f"table {n}"
     for at, code in enumerate(order):
-        yield set_line(code, at)
+        yield from own_lines("take set", code, at)
         if at % often == 0:
-            yield "readings"
+            yield from SHOWN
     yield from (f"get {some_form(code, at)}" for at, code in enumerate(codes_of(n)))
-    yield "readings"
-    for at, code in enumerate(chance.sample(order, len(order))):
-        yield f"clear {some_form(code, at)}"
-        if n <= 2:
-            yield f"get {some_form(code, at + 1)}"
-        if at % often == 0:
-            yield "readings"
-    yield "readings"
+    yield from SHOWN
+    for call in ("clear", "give"):
+        for at, code in enumerate(chance.sample(order, len(order))):
+            yield from own_lines(f"set {call}" if call == "give" and at % 3 == 0 else call, code, at)
+            if n <= 2:
+                yield f"get {some_form(code, at + 1)}"
+            if at % often == 0:
+                yield from SHOWN
+        yield from SHOWN
 
 
 def every_place():
@@ -2319,23 +2657,30 @@ def every_place():
 
 
 def every_place_of_four():
-    """Set in any order, and some thousands of readings in one line."""
+    """Taken in any order and set in another, and some thousands of readings and of owners in one line each."""
     chance = random.Random(29)
     order = chance.sample(codes_of(4), len(codes_of(4)))
     yield "table 4"
-    yield from (set_line(code, at) for at, code in enumerate(order))
-    yield "readings"
+    yield from (own_line("take", code, at) for at, code in enumerate(order))
+    yield from (own_line("set", code, at) for at, code in enumerate(chance.sample(order, len(order))))
+    yield from SHOWN
     yield from (f"get {some_form(code, at)}" for at, code in enumerate(codes_of(4)[::8]))
-    yield from (f"clear {some_form(code, at)}" for at, code in enumerate(order[::30]))
-    yield "readings"
+    yield from (own_line("clear", code, at) for at, code in enumerate(order[::30]))
+    yield from (own_line("give", code, at) for at, code in enumerate(order[::40]))
+    yield from SHOWN
 
 
 def alone(n, place):
-    """A list with one reading, which is found again by its code, and the same by a call; the next code has none."""
-    code, beside = codes_of(n)[place], codes_of(n)[(place + 1) % len(codes_of(n))]
-    yield opened(n, len(codes_of(n)), NOTHING, [(place, mm_of(place))])
+    """A list with one reading, which is found again by its code, and the same by a call; the next code has none. And a
+    list with one owner, who may set this place and not the next one."""
+    length, desk = 20 * 4**n, desk_of(place)
+    code, beside = codes_of(n)[place], codes_of(n)[(place + 1) % length]
+    yield opened(n, length, NOTHING, [(place, mm_of(place))])
     yield from [f"get {some_form(code, place)}", f"get {some_form(beside, place)}", "readings"]
-    yield from [f"table {n}", set_line(code, place + 1), "readings"]
+    yield owned(length, NOBODY, [(place, desk)])
+    yield from (f"set {desk} {some_form(x, place)} 77" for x in (beside, code))
+    yield from SHOWN
+    yield from [f"table {n}", *own_lines("take set", code, place + 1), *SHOWN]
 
 
 def lone_places():
@@ -2358,13 +2703,13 @@ def some_places():
         places = chosen_places(chance, n, many)
         yield f"table {n}"
         for place in places:
-            yield set_line(codes_of(n)[place], place)
+            yield from own_lines("take set", codes_of(n)[place], place)
             for near in (place - 1, place, (place + 1) % (20 * 4**n)):
                 yield f"get {some_form(codes_of(n)[near], near)}"
-        yield "readings"
+        yield from SHOWN
         for at, place in enumerate(places):
-            yield f"clear {some_form(codes_of(n)[place], at)}"
-        yield "readings"
+            yield own_line("clear" if at % 2 else "give", codes_of(n)[place], at)
+        yield from SHOWN
         for place in places[: many // 4]:
             yield from alone(n, place)
 
@@ -2372,11 +2717,10 @@ def some_places():
 # ==== The calls: a table of soundings, histories
 
 READING_BOUNDS = [-(2**31), -2, -1, 0, 1, 99_999, 100_000, 100_001, 2**31 - 1]
-HISTORY_LENGTHS = [3000, 3000, 2500, 1800, 1300, 700, 220]
-
-
-def sounding_line(call, word, mm):
-    return f"{call} {word}" + (f" {mm}" if call == "set" else "")
+HISTORY_LENGTHS = [4000, 4000, 3000, 2000, 1300, 700, 220]
+OTHER_DESKS = [0, 3, 4, 127, 128, 255, 256, 257, 258, 2**16 + 1, 2**16 + 2, 2**31, 2**31 + 1, 2**32 - 1, 2**32]
+OTHER_DESKS += [2**32 + 1, 2**32 + 2, 2**63, 2**63 + 1, 2**63 + 2, MOST - 2, MOST - 1, MOST]
+CALLS = ["take", "set", "clear", "give", "get"]  # The calls for a place, all but get by a desk.
 
 
 def any_form(chance, word):
@@ -2403,31 +2747,59 @@ def history_reading(chance):
     return chance.choice(READING_BOUNDS) if chance.randrange(4) == 0 else chance.randint(0, 100_000)
 
 
+def history_desk(chance):
+    """One of the two, in one of the forms of a number; seldom another."""
+    desk = chance.choice(OTHER_DESKS) if chance.randrange(40) == 0 else chance.choice(DESKS)
+    return chance.choice([desk] * 8 + [f"0x{desk:X}", f"0x{desk:x}", f"0x{desk:016X}", f"00{desk}"])
+
+
 def other_line(chance, word):
     """A line that has nothing to do with the table."""
-    some = [f"check {word}", f"parent {word}", f"child {word} 2", "file 6 1 2 3", "list 1 0 0 1 8", "", "# set 100 5"]
+    some = [f"check {word}", f"parent {word}", f"child {word} 2", "file 6 1 2 3", "list 1 0 0 1 8", "", "# set 1 100 5"]
+    some += [f"take {word}", f"give {word}", "set 100 5", "clear 100", "owners 20", "owners 81922 0", "owners 20 256"]
     return chance.choice(some + ["set 100", "readings all", "table", "table 7", "table 25", "close"])
 
 
-def history(chance, n, many):
-    """Many calls on one table, most of them on a few codes, so that each is set, cleared and asked for many times."""
-    pool = [codes_of(n)[place] for place in chosen_places(chance, n, min(40, 20 * 4**n))]
-    yield f"table {n}"
-    for mm in READING_BOUNDS:
-        yield from [f"set {triangle_text(pool[0])} {mm}", f"get {triangle_text(pool[0])}"]
+def any_calls(chance, n, pool, many):
+    """Many calls on the codes of the pool, by both desks, and now and then what the table holds."""
     for _ in range(many):
-        call = chance.choice(["set"] * 9 + ["get"] * 7 + ["clear"] * 4)
+        call = chance.choice(["take"] * 5 + ["set"] * 8 + ["get"] * 6 + ["clear"] * 3 + ["give"] * 2)
         word = any_form(chance, history_word(chance, n, pool))
-        yield sounding_line(call, word, history_reading(chance))
+        yield sounding_line(call, history_desk(chance), word, history_reading(chance))
         if chance.randrange(25) == 0:
-            yield chance.choice(["readings", "readings", other_line(chance, word)])
-    yield "readings"
+            yield chance.choice([*SHOWN, *SHOWN, other_line(chance, word)])
+    yield from SHOWN
+
+
+def history(chance, n, many):
+    """Many calls on one table, most of them on a few codes, so that each is taken, set, cleared, given back and asked
+    for many times."""
+    pool = [codes_of(n)[place] for place in chosen_places(chance, n, min(40, 20 * 4**n))]
+    yield from [f"table {n}", f"take 1 {triangle_text(pool[0])}"]
+    for mm in READING_BOUNDS:
+        yield from [f"set 1 {triangle_text(pool[0])} {mm}", f"get {triangle_text(pool[0])}"]
+    yield from any_calls(chance, n, pool, many)
+
+
+def history_from_elsewhere(chance, n, many):
+    """Many calls on a few codes of a table that has readings and owners before them."""
+    length = 20 * 4**n
+    places = chosen_places(chance, n, min(12, length))
+    readings = [(place, chance.choice([NOTHING, 0, 100_000, chance.randint(1, 99_999)])) for place in places]
+    yield opened(n, length, chance.choice([NOTHING, 31]) if n <= 2 else NOTHING, readings)
+    fill = chance.choice([NOBODY, *DESKS]) if n <= 2 else NOBODY
+    yield owned(length, fill, [(place, chance.choice([NOBODY, *DESKS])) for place in places])
+    yield from SHOWN
+    yield from any_calls(chance, n, [codes_of(n)[place] for place in places], many)
 
 
 def history_calls():
     chance = random.Random(31)
     for n, many in enumerate(HISTORY_LENGTHS):
         yield from history(chance, n, many)
+    for n, many, again in ((0, 150, 12), (1, 150, 12), (2, 150, 8), (3, 120, 4), (4, 60, 2), (5, 50, 2), (6, 40, 2)):
+        for _ in range(again):
+            yield from history_from_elsewhere(chance, n, many)
 
 
 # ==== The calls: a table of soundings, refusals
@@ -2436,20 +2808,29 @@ OUTSIDE_READINGS = [x for x in READING_BOUNDS if not is_reading(x)]
 BAD_READINGS = [-2, 100_001, -(2**31), 2**31 - 1, -3, -100_000, 100_002, 2**16 + 100_000, -(2**16) + 1]
 
 # The rows of document 01's table and of 02's that each call can give. A degree, "as field or argument", and a word are
-# given to all three, with a table and its list; only set is given a reading.
+# given to all five, with a table and its list; only set is given a reading. All but get are given a desk and the list
+# of owners, and all but get and take are 27 on a free triangle.
 SOUNDING_NUMBERS = {
-    "set": [1, 2, 3, 4, 20, 21, 22, 23],
-    "clear": [1, 2, 3, 4, 20, 22, 23],
+    "take": [1, 2, 3, 4, 20, 22, 23, 24, 25, 26],
+    "set": [1, 2, 3, 4, 20, 21, 22, 23, 24, 25, 26, 27],
+    "clear": [1, 2, 3, 4, 20, 22, 23, 24, 25, 26, 27],
+    "give": [1, 2, 3, 4, 20, 22, 23, 24, 25, 26, 27],
     "get": [1, 2, 3, 4, 20, 22, 23],
 }
 
 
-def good_trial(chance, n):
-    """A table with some readings, a code and a reading: none of the three calls is refused."""
-    length = 20 * 4**n
+def good_trial(chance, n, call):
+    """A table with some readings and owners, a desk, a code and a reading: the call is not refused."""
+    length, desk = 20 * 4**n, chance.choice(DESKS)
     readings = {place: chance.randint(0, 100_000) for place in chance.sample(range(length), 3)}
-    word = codes_of(n)[chance.choice([*readings, chance.randrange(length)])]
-    return SimpleNamespace(n=n, length=length, numbers=readings, word=word, mm=chance.choice([0, 7, 100_000]))
+    own = chance.choice([*readings, chance.randrange(length)])
+    owners = {place: chance.choice([NOBODY, *DESKS]) for place in chance.sample(range(length), 3)}
+    owners[own] = chance.choice([NOBODY, desk]) if call == "take" else desk
+    trial = SimpleNamespace(n=n, length=length, numbers=readings, word=codes_of(n)[own], own=own, desk=desk)
+    trial.mm = chance.choice([0, 7, 100_000])
+    trial.owners, trial.owner_length = owners, length
+    trial.owner_fill = chance.choice([NOBODY, *DESKS]) if n <= 1 else NOBODY
+    return trial
 
 
 def on_word(break_one):
@@ -2500,8 +2881,58 @@ def spoil_numbers(trial, chance):
         trial.numbers[place] = chance.choice(BAD_READINGS)
 
 
-# The ways to make each refusal hold. 20 comes first since it takes another word, which 1 to 4 then spoil; 23 comes last
-# since its places are those of a list whose length is fixed.
+def spoil_desk(trial, chance):
+    trial.desk = chance.choice(OTHER_DESKS)
+
+
+def other_desk(trial, chance):
+    return chance.choice([desk for desk in DESKS if desk != trial.desk])
+
+
+def spoil_others(trial, chance):
+    """The place is another desk's."""
+    trial.owners[trial.own] = other_desk(trial, chance)
+
+
+def spoil_all_others(trial, chance):
+    """Every place is another desk's, so that it is whatever place the word might be taken for."""
+    trial.owners, trial.owner_fill = {}, other_desk(trial, chance)
+
+
+def spoil_free(trial, chance):
+    trial.owners[trial.own] = NOBODY
+
+
+def spoil_all_free(trial, chance):
+    trial.owners, trial.owner_fill = {}, NOBODY
+
+
+def set_owner_length(trial, length):
+    trial.owner_length = length
+    trial.owners = {place: owner for place, owner in trial.owners.items() if place < length}
+
+
+def spoil_owners_short(trial, chance):
+    set_owner_length(trial, trial.owner_length - 1)
+
+
+def spoil_owners_long(trial, chance):
+    set_owner_length(trial, trial.owner_length + 1)
+
+
+def spoil_owners_length(trial, chance):
+    set_owner_length(trial, chance.choice([20 * 4**m for m in range(5) if 20 * 4**m != trial.owner_length]))
+
+
+def spoil_owners(trial, chance):
+    """Another number or several, in other places than the code's."""
+    others = [place for place in range(trial.owner_length) if place != trial.own]
+    for place in chance.sample(others, chance.choice([1, 1, 2, 5])):
+        trial.owners[place] = chance.choice([3, 4, 255, chance.randrange(3, 256)])
+
+
+# The ways to make each refusal hold. 20 comes first since it takes another word, which 1 to 4 then spoil; 23 comes
+# after 22, and 25 last, since their places are those of a list whose length is fixed.
 SPOIL_WORD_DEGREE = on_word(break_degree)
 WAYS = {
     20: [spoil_code_degree, spoil_deep_table],
@@ -2512,38 +2943,57 @@ WAYS = {
     21: [spoil_reading],
     22: [spoil_short, spoil_long, spoil_length],
     23: [spoil_numbers],
+    24: [spoil_desk],
+    26: [spoil_others, spoil_all_others],
+    27: [spoil_free, spoil_all_free],
+    25: [spoil_owners_short, spoil_owners_long, spoil_owners_length, spoil_owners],
 }
+FOR_ONE_PLACE = {spoil_others, spoil_free}
+FOR_OWNERS_LENGTH = {spoil_owners_short, spoil_owners_long, spoil_owners_length}
 
 
-def ways_to(numbers):
-    """Every way to make all the numbers hold. In a word with a degree above 24 no digit is beyond it, for 3."""
-    ways = itertools.product(*(WAYS[no] for no in WAYS if no in numbers))
-    return [some for some in ways if not (3 in numbers and SPOIL_WORD_DEGREE in some)]
+def can_be(numbers, some):
+    """In a word with a degree above 24 no digit is beyond it, for 3. A word that is no code of the table's degree has
+    no place of its own, nor has any where the list of owners is too short."""
+    if 3 in numbers and SPOIL_WORD_DEGREE in some:
+        return False
+    return not (FOR_ONE_PLACE & set(some) and ({1, 2, 3, 4, 20} & set(numbers) or FOR_OWNERS_LENGTH & set(some)))
+
+
+def ways_to(chance, numbers):
+    """Every way to make all the numbers hold; for more than two of them, some."""
+    ways = [some for some in itertools.product(*(WAYS[no] for no in WAYS if no in numbers)) if can_be(numbers, some)]
+    return ways if len(numbers) <= 2 else chance.sample(ways, min(len(ways), 12))
 
 
 def trial_calls(call, numbers, trial):
-    """The call on its table, and what the table holds before and after it. The numbers hold, and the earliest of them
-    is answered."""
-    line = opened(trial.n, trial.length, NOTHING, trial.numbers.items())
-    table = Table(*read_table(parts_of(line)[1:]))
-    held = sounding_refusals(table, trial.word) | when(21, call == "set" and not is_reading(trial.mm))
+    """The call on its table, and what the table holds after it. The numbers hold, and the earliest of them is
+    answered."""
+    lines = [opened(trial.n, trial.length, NOTHING, trial.numbers.items())]
+    lines.append(owned(trial.owner_length, trial.owner_fill, trial.owners.items()))
+    table = Soundings(*read_table(parts_of(lines[0])[1:]))
+    table.lay(*read_owners(parts_of(lines[1])[1:]))
+    held = table.refusals(call, trial.desk, trial.word, trial.mm)
     must(set(numbers) <= held and first(held) == first(numbers), "meant to hold", call, numbers, held, trial)
-    yield from [line, "readings", sounding_line(call, word_text(trial.word), trial.mm), "readings"]
+    yield from [*lines, sounding_line(call, trial.desk, word_text(trial.word), trial.mm), *SHOWN]
 
 
 def number_sets(numbers):
-    """None, each alone, each two, all of them, and all from each one on."""
-    yield from alone_and_in_pairs(numbers)
-    yield from (tuple(numbers[k:]) for k in range(len(numbers) - 2))
+    """None, each alone, each two, all of them, and all from each one on; but a free triangle, for 27, is not another's,
+    for 26."""
+    yield from (some for some in alone_and_in_pairs(numbers) if not {26, 27} <= set(some))
+    for k in range(len(numbers) - 2):
+        for left_out in [26, 27] if 27 in numbers else [0]:
+            yield tuple(no for no in numbers[k:] if no != left_out)
 
 
 def table_refusal_calls():
     chance = random.Random(32)
     for call, can_hold in SOUNDING_NUMBERS.items():
         for numbers in number_sets(can_hold):
-            for ways in ways_to(numbers):
+            for ways in ways_to(chance, numbers):
                 for n in (0, chance.choice([1, 1, 1, 2, 2, 3])):
-                    trial = good_trial(chance, n)
+                    trial = good_trial(chance, n, call)
                     for spoil in ways:
                         spoil(trial, chance)
                     yield from trial_calls(call, numbers, trial)
@@ -2552,17 +3002,18 @@ def table_refusal_calls():
 # ==== The calls: a table of soundings, other lists
 
 
-def three_calls(chance, codes):
-    """Get, set and clear, for each code."""
+def all_calls(chance, codes):
+    """Every call for each code, by one of the desks: first get, and then in the order in which all are answered."""
     for code in codes:
-        for call in ("get", "set", "clear"):
-            yield sounding_line(call, any_form(chance, code), chance.choice([0, 1, 1250, 100_000]))
+        desk = chance.choice(DESKS)
+        for call in ("get", "take", "set", "get", "clear", "give"):
+            yield sounding_line(call, desk, any_form(chance, code), chance.choice([0, 1, 1250, 100_000]))
 
 
 def asked_for(chance, codes):
-    """The three calls for each code, and then the whole table."""
-    yield from three_calls(chance, codes)
-    yield "readings"
+    """The calls for each code, and then the whole table."""
+    yield from all_calls(chance, codes)
+    yield from SHOWN
 
 
 def bad_places_of(chance, n):
@@ -2609,7 +3060,8 @@ def bad_number_calls():
     for n in range(3):
         for place in range(20 * 4**n):
             yield opened(n, 20 * 4**n, chance.choice([NOTHING, 5]), [(place, chance.choice(BAD_READINGS))])
-            yield sounding_line(chance.choice(["get", "set", "clear"]), triangle_text(chance.choice(codes_of(n))), 5)
+            code = chance.choice(codes_of(n))
+            yield sounding_line(chance.choice(CALLS), chance.choice(DESKS), triangle_text(code), 5)
 
 
 def other_lengths():
@@ -2623,6 +3075,9 @@ def other_lengths():
             numbers = chance.choice([[], [(length - 1, 1250)], [(0, -2)], [(length // 2, 100_001)]]) if length else []
             yield opened(n, length, chance.choice([NOTHING, 0, 100_000, -2]), numbers)
             yield from asked_for(chance, [codes_of(n)[0], chance.choice(codes_of(n))][: 2 if n <= 4 else 1])
+            if n <= 4:
+                yield owned(right, chance.choice([NOBODY, 1, 2, 3]))
+                yield from asked_for(chance, [codes_of(n)[0]])
         yield opened(n, right, NOTHING, [(right - 1, 1250)])
         yield from asked_for(chance, [codes_of(n)[0], codes_of(n)[-1]])
 
@@ -2647,9 +3102,8 @@ def other_degrees():
             yield from asked_for(chance, [like, random_code(chance, chance.randrange(TABLE_DEEPEST + 1))])
 
 
-def filled_line(n, length, fill, numbers):
+def filled_line(line, numbers):
     """As many of the places and numbers as a line of 1000 bytes has room for."""
-    line = opened(n, length, fill)
     for place, number in numbers:
         longer = f"{line} {place} {number}"
         if len(longer) > 1000:
@@ -2668,79 +3122,237 @@ def many_places():
     for n in range(TABLE_DEEPEST + 1):
         length = 20 * 4**n
         for values in ([0, 7, 100_000, NOTHING], [0, NOTHING, 5, 6, 7, 8, -2], [-2, 100_001, 3]):
-            yield filled_line(n, length, NOTHING, many_numbers(chance, length, values))
+            yield filled_line(opened(n, length, NOTHING), many_numbers(chance, length, values))
             yield "readings"
+            yield from asked_for(chance, [codes_of(n)[chance.choice([0, 1, 2, 3, length - 1])]])
+        for values in ([0, 1, 2], [1, 2, 0, 1, 2, 3, 255], [3, 77, 255]):
+            yield f"table {n}"
+            yield from [filled_line(owned(length, NOBODY), many_numbers(chance, length, values)), "owners"]
             yield from asked_for(chance, [codes_of(n)[chance.choice([0, 1, 2, 3, length - 1])]])
     for fill, one, two in itertools.product((NOTHING, 4), (7, -2, NOTHING, 100_001), (7, -2, NOTHING, 100_001)):
         yield opened(0, 20, fill, [(5, one), (5, two)])
         yield from ["get 201", "readings"]
+    yield "table 0"
+    for fill, one, two in itertools.product((0, 1, 2, 7), (0, 1, 2, 3, 255), (0, 1, 2, 3, 255)):
+        yield owned(20, fill, [(5, one), (5, two)])
+        yield from ["owners", f"{chance.choice(CALLS[:4])} 1 201".replace("set 1 201", "set 1 201 9"), "owners"]
 
 
 def staying_calls():
-    """Tables that are refused or can not be read, while another one stays open as it is, good or bad; and a fresh table
-    in place of one with readings."""
+    """Tables that are refused or can not be read, and owners that can not be read, while another table stays open as it
+    is, good or bad; and a fresh table in place of one with readings and owners."""
     chance = random.Random(37)
     codes = [read_triangle("100"), read_triangle("1001")]
+    unreadable = [line for line in written(UNREADABLE_ON_TABLE) if line.startswith("owners ")]
     for line in ("table 1 80 -1 1 1250", "table 0 20 -1 3 -2", "table 0 19 5", "table 7 3 500", "table 25 20 -1"):
-        yield line
+        yield from [line, chance.choice(["owners 80 0 1 1 2 2", "owners 20 2 1 0", "owners 20 1 0 3"])]
         for n in ABOVE_TABLES + ABOVE_ALL:
-            yield from [f"table {n}", "readings", f"get {triangle_text(chance.choice(codes))}"]
+            yield from [f"table {n}", *SHOWN, f"get {triangle_text(chance.choice(codes))}"]
         for other in written(UNREADABLE_ON_TABLE)[:12] + [filled("table 0 20 -1", 1001)]:
-            yield from [other, "readings"]
+            yield from [other, *SHOWN]
+        for other in chance.sample(unreadable, 8) + [filled("owners 20 0", 1001)]:
+            yield from [other, "owners"]
         yield from asked_for(chance, codes)
     for n in range(TABLE_DEEPEST + 1):
-        yield from [f"table {n}", set_line(codes_of(n)[-1], n), f"get {triangle_text(codes_of(n)[-1])}"]
-        yield from [f"table {n}", "readings", f"get {triangle_text(codes_of(n)[-1])}"]
+        code = codes_of(n)[-1]
+        for line in (f"table {n}", opened(n, 20 * 4**n, NOTHING)):
+            yield from [f"table {n}", *own_lines("take set", code, n), f"get {triangle_text(code)}", "owners"]
+            yield from [line, *SHOWN, f"get {triangle_text(code)}", own_line("set", code, n), own_line("take", code, n)]
 
 
 def full_tables():
-    """A reading, or a bad number, in every place of a table of degree 5 or 6."""
+    """A reading, or a bad number, in every place of a table of degree 5 or 6; and an owner."""
     chance = random.Random(38)
-    yield from ["table 5 20480 1", "readings", "table 6 81920 0", "readings"]
+    yield from ["table 5 20480 1", "readings", "table 6 81920 0", "owners 81920 1", "readings"]
     for place in chosen_places(chance, 6, 30):
         code = codes_of(6)[place]
-        yield chance.choice([f"clear {any_form(chance, code)}", set_line(code, place)])
+        yield sounding_line(chance.choice(["clear", "set", "give"]), 1, any_form(chance, code), mm_of(place))
         yield from (f"get {any_form(chance, codes_of(6)[near])}" for near in (place - 1, place))
-    yield "readings"
+    yield from SHOWN
     yield from ["table 6 81920 -2", "readings"]
     lists = [(-2, []), (-2, [(81919, NOTHING)]), (-2, [(0, 0), (1, NOTHING), (2, 100_000)]), (0, [(81919, -2)])]
     lists += [(NOTHING, [(81919, 100_001)]), (100_000, [(40960, 2**31 - 1)])]
     for fill, numbers in lists:
         yield opened(6, 81920, fill, numbers)
-        yield from three_calls(chance, [codes_of(6)[0], codes_of(6)[40960], codes_of(6)[-1]])
+        yield from all_calls(chance, [codes_of(6)[0], codes_of(6)[40960], codes_of(6)[-1]])
+    for n, fill in ((5, 2), (5, 255), (6, 2)):
+        yield from [f"table {n}", filled_line(owned(20 * 4**n, fill), many_numbers(chance, 20 * 4**n, [0, 1, 2, 3]))]
+        yield from ["owners", *all_calls(chance, [codes_of(n)[0]]), "owners 0 1"]
+
+
+# ==== The calls: two desks at one table
+
+OTHER_OWNERS = list(range(3, 256))  # These a list can hold, and they are no owners.
+
+
+def desk_rights():
+    """Each call of each desk on a place that is nobody's, its own or the other's, with a reading and without; and what
+    the table holds after it."""
+    for n in range(TABLE_DEEPEST + 1):
+        length = 20 * 4**n
+        places = [0, 1, length // 2 - 1, length - 1]
+        readings = [NOTHING, 0, 1250, 100_000] if n <= 3 else [1250]
+        for at, (mm, owner, desk, call) in enumerate(itertools.product(readings, (NOBODY, *DESKS), DESKS, CALLS)):
+            place = places[at % len(places)]
+            word = some_form(codes_of(n)[place], at)
+            yield from [opened(n, length, NOTHING, [(place, mm)]), owned(length, NOBODY, [(place, owner)])]
+            yield from [sounding_line(call, desk, word, 700 + at), f"get {word}", *SHOWN[n // 5 :]]
+
+
+def turns():
+    """A place goes from desk to desk: what the one has given back the other may take, and finds no reading."""
+    chance = random.Random(50)
+    for n in range(TABLE_DEEPEST + 1):
+        for place in chosen_places(chance, n, 8 if n <= 3 else 2):
+            word = some_form(codes_of(n)[place], place)
+            yield opened(n, 20 * 4**n, NOTHING, [(place, 9)])
+            for desk, other in ((1, 2), (2, 1), (2, 1), (1, 2))[: 4 if n <= 4 else 2]:
+                yield from [f"take {desk} {word}", f"get {word}", f"take {other} {word}"]
+                yield from [f"set {desk} {word} {mm_of(place)}", f"set {other} {word} 5", f"take {desk} {word}"]
+                yield from [f"clear {other} {word}", f"give {other} {word}", f"get {word}", *SHOWN]
+                yield from [f"give {desk} {word}", f"get {word}"]
+                yield from [f"set {desk} {word} 6", f"give {other} {word}", *SHOWN]
+
+
+def no_desks():
+    """Numbers that are no desk's, for a place that is nobody's or a desk's, and for one that holds the same number."""
+    chance = random.Random(51)
+    for desk in OTHER_DESKS:
+        for n in (0, chance.choice([1, 2, 3])):
+            place = chance.randrange(20 * 4**n)
+            word = any_form(chance, codes_of(n)[place])
+            yield opened(n, 20 * 4**n, NOTHING, [(place, 1250)])
+            for owner in dict.fromkeys([NOBODY, *DESKS, desk & 255]):
+                yield owned(20 * 4**n, NOBODY, [(place, owner)])
+                yield from (sounding_line(call, desk, word, 5) for call in CALLS)
+                yield from SHOWN
+    for n in (4, 5, 6):
+        yield f"table {n}"
+        for desk in (0, 3, 2**32 + 1, MOST):
+            yield from (sounding_line(call, desk, triangle_text(codes_of(n)[desk % 20]), 5) for call in CALLS[:4])
+        yield "owners"
+
+
+def owner_lengths():
+    """Lists of owners of other lengths: one too short and one too long, none and one, another degree's, the longest.
+    Then the right one."""
+    chance = random.Random(52)
+    for n in range(TABLE_DEEPEST + 1):
+        right = 20 * 4**n
+        lengths = [0, 1, 2, 19, 20, 21, 79, 80, 81, 256, 81919, 81920, 81921]
+        lengths += [right - 1, right + 1, right // 4, right * 4]
+        for length in dict.fromkeys(x for x in lengths if x <= LONGEST_TABLE and x != right):
+            places = [0, min(length, right) - 1] if length and n <= 4 else [chance.randrange(right)]
+            for place in dict.fromkeys(places):
+                yield opened(n, right, NOTHING, [(place, 1250)])
+                fill, desk = chance.choice([NOBODY, NOBODY, 1, 2, 3]), chance.choice(DESKS)
+                here = [(place, chance.choice([NOBODY, desk, 3 - desk]))] if place < length else []
+                yield owned(length, fill, here)
+                yield from (sounding_line(call, desk, any_form(chance, codes_of(n)[place]), 9) for call in CALLS)
+                yield from SHOWN if length < 81919 or n == 6 else ["owners"]
+        yield owned(right, 2, [(0, 0)] if n <= 4 else [])
+        yield from all_calls(chance, [codes_of(n)[0], codes_of(n)[-1]])
+
+
+def one_other_owner(chance, n, values):
+    code, places = bad_places_of(chance, n)
+    for value in values:
+        for place in places:
+            desk = chance.choice(DESKS)
+            owners = [(place_of(code), chance.choice([NOBODY, desk, 3 - desk])), (place, value)]
+            yield owned(20 * 4**n, chance.choice([NOBODY, NOBODY, 1, 2]) if n <= 1 else NOBODY, owners)
+            yield from (sounding_line(call, desk, any_form(chance, code), 9) for call in CALLS)
+            yield from SHOWN
+
+
+def other_owners():
+    """Another number among the owners: in the code's place, beside it, in the first and in the last, in every place of
+    a table of degree 0 to 2; each other number; several of them, and all."""
+    chance = random.Random(53)
+    for n in range(TABLE_DEEPEST + 1):
+        values = [3, 4, 127, 128, 254, 255] if n <= 1 else [3, 255] if n <= 3 else [chance.choice(OTHER_OWNERS)]
+        yield opened(n, 20 * 4**n, NOTHING, [(0, 4), (20 * 4**n - 1, 5)])
+        yield from one_other_owner(chance, n, values)
+    for n in range(3):
+        yield f"table {n}"
+        for place in range(20 * 4**n):
+            yield owned(20 * 4**n, chance.choice([NOBODY, 1, 2]), [(place, chance.choice(OTHER_OWNERS))])
+            word = triangle_text(chance.choice(codes_of(n)))
+            yield from (sounding_line(call, chance.choice(DESKS), word, 5) for call in chance.sample(CALLS, 2))
+    yield "table 0 20 7"
+    for value in OTHER_OWNERS:
+        for own, place in ((value % 20, value % 20), (value % 20, (value + 7) % 20)):
+            yield owned(20, chance.choice([NOBODY, 1, 2]), [(place, value)])
+            word = some_form(codes_of(0)[own], value)
+            yield from [sounding_line(chance.choice(CALLS[:4]), chance.choice(DESKS), word, 5), "owners"]
+        yield from [owned(20, value), sounding_line(chance.choice(CALLS[:4]), 1, "100", 5)]
+        yield from [owned(20, value, [(0, 1)]), sounding_line(chance.choice(CALLS[:4]), 1, "100", 5), "owners"]
 
 
 # ==== Internal checks of what the calls on a table are answered
 
-TABLE_LINE = re.compile(r"[ \t\r]*(table|set|clear|get|readings)(?![^ \t\r])")
+TABLE_LINE = re.compile(r"[ \t\r]*(table|take|set|clear|give|get|readings|owners)(?![^ \t\r])")
 UNREAD = ("error: write it as ", "error: a line has ")
 
 
 class Soundings:
-    """An open table as "a simple map from code to reading or nothing". No call changes what is wrong with its list."""
+    """An open table as "a simple map from code to reading or nothing", and a map from code to the desk that has taken
+    it. No call changes what is wrong with its lists."""
 
     def __init__(self, n, numbers=None):
         self.n = n
         self.map = {}
         self.bad = [place for place, x in enumerate(numbers or []) if x < -1 or x > 100_000]
-        self.right_length = numbers is None or (n <= TABLE_DEEPEST and len(numbers) == len(codes_of(n)))
+        self.right_length = numbers is None or self.has_right_length(numbers)
         if numbers and self.right_length:
             self.map = {code: x for code, x in zip(codes_of(n), numbers) if x != -1}
+        self.lay([0] * (20 * 4**n if numbers is None else len(numbers)))
+
+    def has_right_length(self, numbers):
+        return self.n <= TABLE_DEEPEST and len(numbers) == len(codes_of(self.n))
+
+    def lay(self, owners):
+        """A list of owners; `desk` has those that are not 0, as far as there are codes for them."""
+        self.many_owners = len(owners)
+        self.right_owners = self.has_right_length(owners)
+        self.others = [place for place, x in enumerate(owners) if x > 2]
+        self.desk = {}
+        if self.n <= TABLE_DEEPEST and any(owners):
+            self.desk = {code: x for code, x in zip(codes_of(self.n), owners) if x}
+        kinds = {x for x in owners if x <= 2}
+        self.only_kind = kinds.pop() if len(kinds) == 1 else None
 
     def own_refusals(self):
-        return when(1, self.n > 24) | when(20, 7 <= self.n <= 24) | when(22, not self.right_length)
+        return when(1, self.n > 24) | when(20, 7 <= self.n <= 24)
 
-    def refusals(self, code, mm):
-        wrong = when(20, degree_of(code) != self.n) | when(21, mm not in range(100_001)) | when(23, self.bad)
-        return code_refusals(code) | self.own_refusals() | wrong
+    def owner_of(self, code):
+        """Whose the code is; if it has no place in the list of owners, whose all places are, if they are one's."""
+        if self.n <= TABLE_DEEPEST and place_of_each(self.n).get(code, self.many_owners) < self.many_owners:
+            return self.desk.get(code, 0)
+        return self.only_kind
 
-    def answer(self, call, code, mm):
+    def refusals(self, call, desk, code, mm):
+        wrong = code_refusals(code) | self.own_refusals() | when(20, degree_of(code) != self.n)
+        wrong |= when(22, not self.right_length) | when(23, self.bad)
+        if call == "get":
+            return wrong
+        owner = self.owner_of(code)
+        wrong |= when(21, call == "set" and mm not in range(100_001)) | when(24, desk != 1 and desk != 2)
+        wrong |= when(25, self.others or not self.right_owners) | when(26, owner not in (None, 0, desk))
+        return wrong | when(27, owner == 0 and call != "take")
+
+    def answer(self, call, desk, code, mm):
         if call == "get":
             return f"{self.map[code]} mm" if code in self.map else "no reading"
-        if call == "set":
+        if call == "take":
+            self.desk[code], self.only_kind = desk, None
+        elif call == "set":
             self.map[code] = mm
         else:
             self.map.pop(code, None)
+        if call == "give":
+            del self.desk[code]
+            self.only_kind = None
         return "ok"
 
     def readings(self):
@@ -2748,25 +3360,44 @@ class Soundings:
         shown = [place_text(code, x) for code, x in sorted(self.map.items())]
         return readings_text(count, shown)
 
+    def owners(self):
+        count = sum(x in (1, 2) for x in self.desk.values())
+        return owners_text(count, [owner_text(code, x) for code, x in sorted(self.desk.items())])
 
-Sounded = namedtuple("Sounded", "call n no held code mm bad")
+
+# What was asked, what holds, what the table had in the code's place before the call (a reading or nothing, and the
+# owner), the least bad place of the readings, and what is wrong with the owners: the first place with another number,
+# and how many there are.
+Sounded = namedtuple("Sounded", "call n no held desk code mm had owner bad other many_owners")
 
 
 def refused_text(no, bad):
     return f"refused {no}: {REFUSALS[no]}" + (f"; place {min(bad)}" if no == 23 else "")
 
 
+def read_sounding(call, words):
+    """The desk, the code and the reading, zeros where there are none."""
+    desk, *words = [0] + words if call == "get" else [read_number(words[0])] + words[1:]
+    return desk, read_code(words[0]), read_signed(words[1]) if call == "set" else 0
+
+
 def watched_call(table, call, words, text):
     """A call on the open table, compared with the map's answer."""
-    code, mm = (read_code(words[0]) if words else 0), (read_signed(words[1]) if call == "set" else 0)
-    held = table.own_refusals() if call == "readings" else table.refusals(code, mm)
-    no = first(held)
+    if call in SHOWN:
+        asked = (0, 0, 0)
+        held = table.own_refusals()
+        held |= when(22, not table.right_length) if call == "readings" else when(25, not table.right_owners)
+    else:
+        asked = read_sounding(call, words)
+        held = table.refusals(call, *asked)
+    no, code = first(held), asked[1]
+    before = table.map.get(code), table.owner_of(code), table.bad[:1], table.others[:1], table.many_owners
     if no:
         found = refused_text(no, table.bad)
     else:
-        found = table.readings() if call == "readings" else table.answer(call, code, mm)
+        found = getattr(table, call)() if call in SHOWN else table.answer(call, *asked)
     must(text == found, "as the map answers", call, words, text[:200], found[:200])
-    return Sounded(call, table.n, no, frozenset(held), code, mm, table.bad[:1])
+    return Sounded(call, table.n, no, frozenset(held), *asked, *before)
 
 
 def watched_calls(calls, answers):
@@ -2777,54 +3408,83 @@ def watched_calls(calls, answers):
             call, *words = parts_of(line)
             if call != "table":
                 must((text == NO_TABLE) == (table is None), "no table is open", line)
-                if table is not None:
-                    yield watched_call(table, call, words, text)
-            else:
+            if call == "table":
                 n, *numbers = read_table(words)
                 held = when(1, n > 24) | when(20, 7 <= n <= 24) if not numbers else set()
                 must(text.startswith(f"refused {first(held)}: " if held else f"degree {n}, "), "opened", line, text)
                 table = table if held else Soundings(n, *numbers)
-                yield Sounded(call, n, first(held), frozenset(held), 0, 0, [])
+                yield Sounded(call, n, first(held), frozenset(held), 0, 0, 0, None, None, [], [], 0)
+            elif table is not None and call == "owners" and words:
+                (owners,) = read_owners(words)
+                must(text == f"{len(owners)} places", "laid", line, text)
+                table.lay(owners)
+                yield Sounded("lay", table.n, 0, frozenset(), 0, 0, 0, None, None, [], table.others[:1], len(owners))
+            elif table is not None:
+                yield watched_call(table, call, words, text)
 
 
 def check_sounding_numbers(call, numbers, seen):
     """Each refusal that the call can give is given, and no other. Each is seen alone, and each two hold at once and the
-    earlier one is answered; all without a third, but for 1: where that holds the code's degree is not the table's, for
-    20, or the list is too short for the table's degree, for 22."""
+    earlier one is answered, but for 26 and 27, which can not. All without a third, but for 1: where that holds the
+    code's degree is not the table's, for 20, or the lists are too short for the table's degree, for 22 and 25; and for
+    24: what is no desk owns nothing, for 26 and 27."""
     must({x.no for x in seen} == {0, *numbers}, "just these refusals, and answers", call)
     held = {x.held for x in seen}
-    for some in [set(x) for x in alone_and_in_pairs(numbers) if x]:
+    for some in [set(x) for x in alone_and_in_pairs(numbers) if x and x != (26, 27)]:
         must(any(x.held >= some and x.no == first(some) for x in seen), "at once", call, some)
-        if 1 not in some:
-            must(some in held, "without a third", call, some)
-        elif some - {1}:
-            must(some in held or some | {20} in held or some | {20, 22} in held, "with these alone", call, some)
+        may = ({20, 22, 25} if 1 in some else set()) | ({26, 27} if 24 in some and call != "take" else set())
+        must(any(some <= x <= some | may for x in held), "without a third", call, some)
     must(all(x & {20, 22} for x in held if 1 in x), "1 is not alone", call)
+    must(not any({26, 27} <= x for x in held), "26 and 27 at once", call)
 
 
-def check_bad_places(call, seen):
-    """23 is answered at every degree, with the first place, the last, the code's own, and one on either side of it."""
+def beside(found, n, places, own):
+    """Notes where a bad place lies: the first, the last, before or after the code's own, or there."""
+    for bad in places:
+        found |= {(n, "first", bad == 0), (n, "last", bad == 20 * 4**n - 1)}
+        found.add((n, "beside", (bad > own) - (bad < own)))
+
+
+def check_bad_places(call, no, seen):
+    """23 is answered at every degree, with the first place, the last, the code's own, and one on either side of it; so
+    is 25, for the first place with another number."""
     found = set()
-    for x in (x for x in seen if x.no == 23):
-        (bad,), own = x.bad, place_of(x.code)
-        found |= {(x.n, "first", bad == 0), (x.n, "last", bad == 20 * 4**x.n - 1)}
-        found.add((x.n, "beside", (bad > own) - (bad < own)))
+    for x in (x for x in seen if x.no == no):
+        beside(found, x.n, x.bad if no == 23 else x.other, place_of(x.code))
     for n in range(TABLE_DEEPEST + 1):
-        must({(n, "first", True), (n, "last", True)} <= found, "the first and the last", call, n)
-        must({(n, "beside", side) for side in (-1, 0, 1)} <= found, "its own, before and after", call, n)
+        must({(n, "first", True), (n, "last", True)} <= found, "the first and the last", call, no, n)
+        must({(n, "beside", side) for side in (-1, 0, 1)} <= found, "its own, before and after", call, no, n)
 
 
 def check_sounded_codes(seen):
-    """Every place to degree 4 is set, and to degree 3 asked for and cleared; each call is answered at every degree; and
-    each bound of the readings is tried at every degree."""
+    """Every place to degree 4 is taken and set, and to degree 3 asked for, cleared and given back; each call is
+    answered at every degree; and each bound of the readings is tried at every degree."""
     answered = {(x.call, x.code) for x in seen if x.no == 0}
     for n in range(TABLE_DEEPEST + 1):
         for call in SOUNDING_NUMBERS:
-            if n <= (4 if call == "set" else 3):
+            if n <= (4 if call in ("take", "set") else 3):
                 must(all((call, code) in answered for code in codes_of(n)), "every place", call, n)
             must(any(x.call == call and x.n == n and x.no == 0 for x in seen), "answered", call, n)
         tried = {x.mm: x.no for x in seen if x.call == "set" and x.n == n and x.held <= {21}}
         must(all(tried.get(mm) == (0 if is_reading(mm) else 21) for mm in READING_BOUNDS), "the bounds", n)
+
+
+def check_desks(call, seen):
+    """At every degree each desk calls for what is nobody's, its own and the other's, with a reading and without, and at
+    the first and the last place. Each number that is no desk is refused, on a free place and on an owned one; and lists
+    of owners of every length about the right one."""
+    for n in range(TABLE_DEEPEST + 1):
+        here = [x for x in seen if x.n == n and x.held <= {26, 27}]
+        met = {(x.desk, x.owner, x.had is None) for x in here}
+        all_kinds = itertools.product(DESKS, (NOBODY, *DESKS), (False, True) if n <= 3 else (False,))
+        must(met >= set(all_kinds), "desks and owners", call, n)
+        must({place_of(x.code) for x in here} >= {0, 20 * 4**n - 1}, "the first and the last place", call, n)
+        lengths = {x.many_owners for x in seen if x.n == n and x.no == 25}
+        right = 20 * 4**n
+        must(lengths - {right} >= {0, 1, right - 1, right + 1} | {81920, LONGEST_TABLE} - {right}, "lengths", call, n)
+    for desk in OTHER_DESKS:
+        owners = {x.owner for x in seen if x.desk == desk and x.no == 24}
+        must(owners >= {NOBODY, *DESKS}, "no desk", call, desk)
 
 
 def check_soundings(calls, answers):
@@ -2833,10 +3493,41 @@ def check_soundings(calls, answers):
     for call, numbers in SOUNDING_NUMBERS.items():
         some = [x for x in seen if x.call == call]
         check_sounding_numbers(call, numbers, some)
-        check_bad_places(call, some)
+        check_bad_places(call, 23, some)
+        if call != "get":
+            check_bad_places(call, 25, some)
+            check_desks(call, some)
     check_sounded_codes(seen)
     must({x.no for x in seen if x.call == "table"} == {0, 1, 20}, "tables refused")
     must({x.no for x in seen if x.call == "readings"} == {0, 1, 20, 22}, "readings refused")
+    must({x.no for x in seen if x.call == "owners"} == {0, 1, 20, 25}, "owners refused")
+
+
+def kept_apart(chance, n):
+    """A history; and for each time that desk 1 has a triangle, the same without the calls that desk 2 makes meanwhile:
+    all that desk 1 is answered there, and that anyone is who asks for the triangle, stays the same."""
+    pool = chance.sample(codes_of(n), 3)
+    first_line = opened(n, 20 * 4**n, NOTHING, [(place_of(pool[0]), 5), (place_of(pool[1]), 6)])
+    asked = [(chance.choice(CALLS), chance.choice(DESKS), chance.choice(pool)) for _ in range(120)]
+    lines = [sounding_line(call, desk, triangle_text(code), at) for at, (call, desk, code) in enumerate(asked)]
+    answers = answers_to([first_line] + lines)[1:]
+    count = 0
+    for start, (call, desk, code) in enumerate(asked):
+        if (call, desk, answers[start]) == ("take", 1, "ok"):
+            gives = (at for at in range(start, len(asked)) if asked[at] == ("give", 1, code) and answers[at] == "ok")
+            end = next(gives, len(asked))
+            own = [at for at in range(start + 1, end) if asked[at][0] == "get" or asked[at][1] == 1]
+            found = answers_to([first_line] + lines[: start + 1] + [lines[at] for at in own])[start + 2 :]
+            for at, text in zip(own, found):
+                must(asked[at][2] != code or text == answers[at], "apart from desk 2", asked, start, at)
+            count += end - start - 1 - len(own)
+    return count
+
+
+def check_between():
+    # "What desk 1 sees of its own triangles doesn't depend on desk 2's calls between its taking one and giving it back"
+    chance = random.Random(54)
+    must(min(kept_apart(chance, n) for n in (0, 0, 0, 1, 1, 2) for _ in range(4)) > 0, "calls of desk 2 left out")
 
 
 # ==== The calls: sweeps, examples with the answers written out by hand
@@ -4418,6 +5109,7 @@ SECTIONS = {
     "unreadable lines on a table": unreadable_on_table,
     "readable lines on a table": readable_on_table,
     "a day at the ice desk": ice_desk_calls,
+    "a morning of both desks": both_desks_calls,
     "every place of the tables of degree 0 to 3": every_place,
     "every place of a table of degree 4": every_place_of_four,
     "one place alone": lone_places,
@@ -4429,6 +5121,11 @@ SECTIONS = {
     "other degrees": other_degrees,
     "many places in one line": many_places,
     "a table that stays open": staying_calls,
+    "what each desk may do": desk_rights,
+    "a place that goes from desk to desk": turns,
+    "numbers that are no desks": no_desks,
+    "other lengths of owners": owner_lengths,
+    "other numbers among the owners": other_owners,
     "sweeps while a table is open": sweeps_on_table,
     "full tables": full_tables,
     "the last line": last_line,

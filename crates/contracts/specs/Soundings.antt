@@ -1,5 +1,5 @@
--- Document 02, 2026-03 and 2026-07: what the functions of a table themselves say, as grid/specs/Contracts.antt has it of
--- document 01's. Assumes nothing.
+-- Document 02, 2026-03 and 2026-07: what the functions of a table themselves say, as grid/specs/Contracts.antt has it
+-- of document 01's. Assumes nothing.
 use mathlib.Core.List.{List}
 use Prim.Native.Nat.{ℕ}
 use lib.IntN.{ℤ}

@@ -1,7 +1,7 @@
 // The calls of a table of soundings (document 02, 2026-03 and 2026-07), which has one reading for each triangle of one
-// degree from 0 to 6, in a lent list ordered by code, and each triangle's owner in another: `get`, which reads the
-// readings alone, and `take`, `set`, `clear` and `give`, to which the desk that makes the call and both lists are handed
-// in. None has a `requires`; each states its complete answer, and the crate contracts holds it to that.
+// degree from 0 to 6, in a lent list ordered by code, and each triangle's owner in another: `get`, which is lent the
+// readings alone, and `take`, `set`, `clear` and `give`, which are lent both lists and told the desk that makes the
+// call. None has a `requires`; each states its complete answer, and the crate contracts holds it to that.
 use tables::Deed;
 use tables::is_bad;
 use tables::is_other;

@@ -1,6 +1,6 @@
 -- The refusals of the calls that write, test by test, and what an answered one knows. Assumes nothing.
-use mathlib.Core.Path.{_≡_, _∙_, refl, sym}
-use mathlib.Core.Bool.{Bool, true, false, not, cond, _&&_}
+use mathlib.Core.Path.{_≡_, refl}
+use mathlib.Core.Bool.{Bool, true, false, not, cond}
 use mathlib.Core.List.{List, _++_}
 use Prim.Native.Nat.{ℕ, _<_}
 use borrow.Author.Tests.{eq-eqb, ne-eqb, eqb-true, not-false}
@@ -24,7 +24,8 @@ use Rattle.tables.proofs.Refused.{Passed, call-passed}
 module _ (e : Deed) (d o : ℕ) where
   pub free-taken : o ≡ nobody → isTaking e ≡ true → 0 ≡ firstOf deskOrder (ownedRows e d o)
   free-taken z k =
-      refuse-first deskOrder (ownedRows e d o) tt (next (rw (eq-eqb o nobody z)) (next (rw (eq-eqb o nobody z, k)) nothing))
+      refuse-first deskOrder (ownedRows e d o) tt
+      (next (rw (eq-eqb o nobody z)) (next (rw (eq-eqb o nobody z, k)) nothing))
 
   pub free-not-taken : o ≡ nobody → isTaking e ≡ false → 27 ≡ firstOf deskOrder (ownedRows e d o)
   free-not-taken z k =
@@ -66,8 +67,8 @@ module _ (e : Deed) (d n : ℕ) (t : TriangleCode) (owners : List ℕ) where
     pub owners-then : length owners ≡ places n → anyOther owners ≡ false
         → firstOf deskOrder (ownedRows e d (ownerAt t owners)) ≡ firstOf deskOrder (sharedRows e d n t owners)
     owners-then l k =
-        refuse-rest deskOrder deskOrder deskOrder (deskRows d ++ ownersRows n owners) (ownedRows e d (ownerAt t owners)) tt
-        tt tt
+        refuse-rest deskOrder deskOrder deskOrder (deskRows d ++ ownersRows n owners)
+        (ownedRows e d (ownerAt t owners)) tt tt tt
         (none-so deskOrder (deskRows d ++ ownersRows n owners) tt .1
         (rw b, (rw (eq-eqb (length owners) (places n) l, k), tt)))
 
@@ -87,10 +88,12 @@ pub record Owned (e : Deed) (d n : ℕ) (t : TriangleCode) (s : Shared) : Type 0
   pub mine : NoneSo (ownedRows e d (ownerAt t (s .owners)))
 
 module _ (e : Deed) (d n : ℕ) (t : TriangleCode) (s : Shared) where
-  pub deed-first : {f : ℕ} → f ≡ refuseCall (outOfRange e) n t (s .readings) → (f ≡ 0 → ⊥) → f ≡ refuseDeed e d n t s
+  pub deed-first : {f : ℕ} → f ≡ refuseCall (outOfRange e) n t (s .readings) → (f ≡ 0 → ⊥)
+      → f ≡ refuseDeed e d n t s
   unfolding refuseCall refuseDeed
   deed-first =
-      refuse-before tableOrder deskOrder (callRows (outOfRange e) n t (s .readings)) (sharedRows e d n t (s .owners)) tt tt
+      refuse-before tableOrder deskOrder (callRows (outOfRange e) n t (s .readings))
+      (sharedRows e d n t (s .owners)) tt tt
 
   pub deed-then : refuseCall (outOfRange e) n t (s .readings) ≡ 0
       → firstOf deskOrder (sharedRows e d n t (s .owners)) ≡ refuseDeed e d n t s

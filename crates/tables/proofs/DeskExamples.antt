@@ -1,5 +1,5 @@
 -- The examples, bounds and mistakes of specs/DeskExamples.antt, computed. Assumes nothing.
-use mathlib.Core.Path.{_≡_, refl}
+use mathlib.Core.Path.{refl}
 use Prim.Native.Nat.{ℕ}
 use lib.ListN.{getD}
 use Rattle.frame.specs.Refusals.{firstOf}

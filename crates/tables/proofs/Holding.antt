@@ -11,7 +11,7 @@ use Rattle.frame.proofs.Scanning.{none-at, none-set, none-replicate}
 use Rattle.words.specs.Refusals.{IsCode}
 use Rattle.words.specs.Counting.{placeOf}
 use Rattle.words.specs.declared.TriangleCode.{TriangleCode}
-use Rattle.tables.specs.Tables.{places, none, isBad, IsTable, fresh, said, number, numberAt}
+use Rattle.tables.specs.Tables.{places, none, isBad, IsTable, said, number, numberAt}
 use Rattle.tables.specs.Owners.{nobody, isDesk, isOther, ownerAt, Shared, IsShared, freshShared}
 use Rattle.tables.specs.Owners.{Held, held, heldAt, ownerAfter, soundingAfter, heldAfter, hold, sharedAfter}
 use Rattle.tables.specs.Refusals.{outOfRange}
@@ -38,7 +38,8 @@ stored-said Clearing x b = refl
 stored-said Giving x b = refl
 
 -- a desk's deed stores nobody, the desk, or what was there
-stored-owner : (e : Deed) (d o : ℕ) → isDesk d ≡ true → isOther o ≡ false → isOther (ownerAfter e d o) ≡ false
+stored-owner : (e : Deed) (d o : ℕ) → isDesk d ≡ true → isOther o ≡ false
+    → isOther (ownerAfter e d o) ≡ false
 stored-owner Taking d o b g = desk-not-other d b
 stored-owner (Setting x) d o b g = g
 stored-owner Clearing d o b g = g
@@ -46,7 +47,8 @@ stored-owner Giving d o b g = refl
 
 -- ---- one place of each list written
 
-table-set : {n : ℕ} {list : List ℤ} (i : ℕ) (x : ℤ) → IsTable n list → isBad x ≡ false → IsTable n (set list i x)
+table-set : {n : ℕ} {list : List ℤ} (i : ℕ) (x : ℤ) → IsTable n list → isBad x ≡ false
+    → IsTable n (set list i x)
 table-set {list = list} i x is b = record {
   degree = is .degree;
   long = simp length-set (is .long);

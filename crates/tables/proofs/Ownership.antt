@@ -1,26 +1,25 @@
 -- Who may do what with a triangle, and what an answered call leaves. Assumes nothing.
 use mathlib.Core.Path.{_≡_, _∙_, refl, sym, ap}
-use mathlib.Core.Bool.{Bool, true, false, not, _&&_, true≢false}
+use mathlib.Core.Bool.{Bool, true, false, not, _&&_}
 use mathlib.Core.Logic.{_⊎_, inl, inr, ⊎-elim}
 use mathlib.Core.List.{List, _∷_}
 use Prim.Native.Nat.{ℕ, _≤_}
 use native.Mathlib.Omega.{arith}
-use borrow.Author.Tests.{eq-eqb, ne-eqb, eqb-true, eqb-false, not-false}
+use borrow.Author.Tests.{eq-eqb, ne-eqb, eqb-true, not-false}
 use lib.Dec.{eqb}
 use lib.IntN.{ℤ}
-use lib.ListN.{length, getD, set}
+use lib.ListN.{length, set}
 use lib.Seq.{getD-set-same, set-getD}
 use Rattle.frame.specs.Refusals.{_when_, firstOf}
 use Rattle.frame.proofs.Answering.{answers-or-not}
 use Rattle.frame.proofs.Refusing.{none-after}
-use Rattle.words.specs.Refusals.{IsCode}
 use Rattle.words.specs.Counting.{placeOf}
 use Rattle.words.specs.declared.TriangleCode.{TriangleCode}
 use Rattle.tables.specs.Tables.{places, none, said, number, numberAt}
-use Rattle.tables.specs.Owners.{nobody, isDesk, ownerAt, Shared, shared, heldAt, isTaking, sharedAfter}
+use Rattle.tables.specs.Owners.{nobody, ownerAt, Shared, shared, heldAt, isTaking, sharedAfter}
 use Rattle.tables.specs.Refusals.{tableOrder, triangleRows, outOfRange, tableRows, refuseCall}
 use Rattle.tables.specs.Refusals.{deskOrder, ownedRows, refuseDeed}
-use Rattle.tables.specs.Answers.{tableAnswer, DeedAnswer, TakeAnswer, GiveAnswer}
+use Rattle.tables.specs.Answers.{DeedAnswer}
 use Rattle.tables.specs.Promises.{Admitted, Owning}
 use Rattle.tables.specs.declared.Deed.{Deed}
 use Rattle.tables.specs.declared.Deed.the-variants.{Taking, Setting, Clearing, Giving}
@@ -28,7 +27,7 @@ use Rattle.tables.specs.declared.TableAnswer.{TableAnswer}
 use Rattle.tables.proofs.Numbers.{number-said, desk-not-nobody}
 use Rattle.tables.proofs.Refused.{in-table}
 use Rattle.tables.proofs.Deeds.{free-taken, free-not-taken, other's, one's-own, owners-then}
-use Rattle.tables.proofs.Deeds.{Owned, deed-then, deed-passed}
+use Rattle.tables.proofs.Deeds.{deed-then, deed-passed}
 use Rattle.tables.proofs.Holding.{after-at}
 
 -- ---- who may
@@ -54,8 +53,8 @@ module _ (e : Deed) (d o : ℕ) where
       → (o ≡ d) ⊎ ((isTaking e ≡ true) × (o ≡ nobody))
   own-or-free = go (eqb o nobody) refl
     where
-      go : (b : Bool) → eqb o nobody ≡ b → (not b && not (eqb o d)) ≡ false → (b && not (isTaking e)) ≡ false
-          → (o ≡ d) ⊎ ((isTaking e ≡ true) × (o ≡ nobody))
+      go : (b : Bool) → eqb o nobody ≡ b → (not b && not (eqb o d)) ≡ false
+          → (b && not (isTaking e)) ≡ false → (o ≡ d) ⊎ ((isTaking e ≡ true) × (o ≡ nobody))
       go true b p q = inr (not-false (isTaking e) q, eqb-true o nobody b)
       go false b p q = inl (eqb-true o d (not-false (eqb o d) p))
 
@@ -97,7 +96,8 @@ pub owning : Owning
 owning = record {
   takes = λ d n t s a z. sym (free-taken Taking d (ownerAt t (s .owners)) z refl ∙ by-owner Taking d n t s a);
   own = λ e d n t s a q.
-      sym (one's-own e d (ownerAt t (s .owners)) (λ z. desk-not-nobody d (a .desk) (sym q ∙ z)) q ∙ by-owner e d n t s a);
+      sym (one's-own e d (ownerAt t (s .owners)) (λ z. desk-not-nobody d (a .desk) (sym q ∙ z)) q
+      ∙ by-owner e d n t s a);
   onlyOwn = λ e d n t s z.
       let k = deed-passed e d n t s z .mine in own-or-free e d (ownerAt t (s .owners)) (k .0) (k .1 .0);
   another's = λ e d n t s a b q.

@@ -1,6 +1,6 @@
 -- What is promised of the calls of a table. Assumes nothing.
 use mathlib.Core.Path.{_≡_, _∙_, refl, sym, ap, subst}
-use mathlib.Core.Bool.{Bool, true, false}
+use mathlib.Core.Bool.{true, false}
 use mathlib.Core.Logic.{_↔_, ⊎-elim}
 use mathlib.Core.List.{List}
 use Prim.Native.Nat.{ℕ}
@@ -60,7 +60,8 @@ got : (n : ℕ) (t : TriangleCode) (list : List ℤ) (r : SoundingAnswer) → Ge
     → (r .refusal ≡ 23 → IsLeastBad list (r .place)) × ((r .refusal ≡ 23 → ⊥) → r .place ≡ 0)
 got n t list r p =
     let e = one-answer .get n t list .exactly r p in
-    beside list (r .refusal) (r .place) (λ z. call-bad n t list false (sym e ∙ z)) (place ∙ ap (placeFor list) (sym e))
+    beside list (r .refusal) (r .place) (λ z. call-bad n t list false (sym e ∙ z))
+    (place ∙ ap (placeFor list) (sym e))
   where
     place : r .place ≡ placeFor list (refuseGet n t list)
     place = ⊎-elim (λ z. ap (λ (x : SoundingAnswer). x .place) (p .answered z) ∙ ap (placeFor list) (sym z))

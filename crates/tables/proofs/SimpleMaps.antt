@@ -6,40 +6,40 @@ use mathlib.Core.List.{List, [], _∷_, _++_}
 use Prim.Native.Nat.{ℕ, zero, suc, _≤_}
 use borrow.Author.Tests.{eq-eqb, eqb-true, not-false}
 use lib.Dec.{eqb}
-use lib.IntN.{ℤ}
 use lib.ListN.{length, getD-replicate}
 use Rattle.frame.specs.Refusals.{_when_, _either_, firstOf}
 use Rattle.frame.specs.Answers.{settled}
 use Rattle.frame.proofs.Answering.{known-settled}
-use Rattle.frame.proofs.Refusing.{_or_, alone, inTurn, refusal-append, none-so, none-after, not-given, or-zero}
+use Rattle.frame.proofs.Refusing.{_or_, alone, inTurn, refusal-append, none-so, none-after, not-given}
 use Rattle.frame.proofs.Refusing.{either-false}
 use Rattle.words.specs.Refusals.{IsCode}
 use Rattle.words.specs.Counting.{placeOf}
 use Rattle.words.specs.declared.TriangleCode.{TriangleCode}
 use Rattle.words.proofs.CodeCount.{place-below}
-use Rattle.tables.specs.Tables.{places, none, said, numberAt}
-use Rattle.tables.specs.Owners.{nobody, isDesk, anyOther, ownerAt, Shared, IsShared, freshShared}
+use Rattle.tables.specs.Tables.{places, none, said}
+use Rattle.tables.specs.Owners.{nobody, isDesk, anyOther, ownerAt, Shared, IsShared}
 use Rattle.tables.specs.Owners.{Held, held, heldAt, heldAfter}
 use Rattle.tables.specs.Refusals.{tableOrder, triangleRows, outOfRange, tableRows, refuseCall, refuseGet}
 use Rattle.tables.specs.Refusals.{deskOrder, deskRows, ownersRows, ownedRows, sharedRows, refuseDeed}
-use Rattle.tables.specs.Answers.{tableAnswer, soundingAnswer, refusedGet, found, carriedOut, refusedDeed}
+use Rattle.tables.specs.Answers.{soundingAnswer, refusedGet, found, carriedOut, refusedDeed}
 use Rattle.tables.specs.Histories.{Call, asks, does, got, done, answers, doing, onTable}
-use Rattle.tables.specs.Histories.{Map, with, otherDegreeRows, mapRows, refuseGetOnMap, refuseDeedOnMap}
+use Rattle.tables.specs.Histories.{Map, otherDegreeRows, mapRows, refuseGetOnMap, refuseDeedOnMap}
 use Rattle.tables.specs.Histories.{onHeld, triangleOf, onMap}
 use Rattle.tables.specs.Promises.{SimpleMap}
-use Rattle.tables.specs.declared.Sounding.{Sounding}
 use Rattle.tables.specs.declared.Sounding.the-variants.{Nothing}
 use Rattle.tables.specs.declared.Deed.{Deed}
 use Rattle.tables.specs.declared.TableAnswer.{TableAnswer}
 use Rattle.tables.proofs.Places.{same-places}
-use Rattle.tables.proofs.Refused.{triangle-good, list-good}
+use Rattle.tables.proofs.Refused.{triangle-good}
 use Rattle.tables.proofs.Answering.{no-place}
 use Rattle.tables.proofs.Holding.{shared-after, after-at, begun}
 
 -- ---- two ways to answer the same calls, where what they work on stays related
 
-pub alike : {C A S S′ : Type 0} (turn : C → S → A × S) (turn′ : C → S′ → A × S′) (R : S → S′ → Type 0)
-    → ((c : C) (s : S) (s′ : S′) → R s s′ → (turn c s .0 ≡ turn′ c s′ .0) × R (turn c s .1) (turn′ c s′ .1))
+pub alike : {C A S S′ : Type 0} (turn : C → S → A × S) (turn′ : C → S′ → A × S′)
+    (R : S → S′ → Type 0)
+    → ((c : C) (s : S) (s′ : S′) → R s s′
+    → (turn c s .0 ≡ turn′ c s′ .0) × R (turn c s .1) (turn′ c s′ .1))
     → (cs : List C) (s : S) (s′ : S′) → R s s′ → answers turn cs s ≡ answers turn′ cs s′
 unfolding answers
 alike turn turn′ R step [] s s′ r = refl
@@ -97,7 +97,8 @@ get-not-23 : (n m : ℕ) (t : TriangleCode) → refuseGetOnMap n m t ≡ 23 → 
 unfolding refuseGetOnMap
 get-not-23 n m t = not-given tableOrder (mapRows n false m t) 22 tt
 
-deed-not-23 : (n : ℕ) (e : Deed) (d m : ℕ) (t : TriangleCode) (o : ℕ) → refuseDeedOnMap n e d m t o ≡ 23 → ⊥
+deed-not-23 : (n : ℕ) (e : Deed) (d m : ℕ) (t : TriangleCode) (o : ℕ)
+    → refuseDeedOnMap n e d m t o ≡ 23 → ⊥
 unfolding refuseDeedOnMap
 deed-not-23 n e d m t o =
     not-given deskOrder (mapRows n (outOfRange e) m t ++ deskRows d ++ ownedRows e d o) 22 tt
@@ -130,14 +131,17 @@ module _ (n : ℕ) (e : Deed) (d m : ℕ) (t : TriangleCode) where
   deed-good : (o : ℕ) → refuseDeedOnMap n e d m t o ≡ 0 → Good n e d t
   unfolding refuseDeedOnMap
   deed-good o q =
-      let z = none-after tableOrder deskOrder (mapRows n (outOfRange e) m t) (deskRows d ++ ownedRows e d o) tt tt .0 q in
+      let rows = mapRows n (outOfRange e) m t in
+      let z = none-after tableOrder deskOrder rows (deskRows d ++ ownedRows e d o) tt tt .0 q in
       let g = rows-good n (outOfRange e) m t (z .0) in
       record { code = g .0; inRange = g .1; desk = not-false _ (z .1 .0) }
 
   -- the owner counts only where the code is one of the table's
-  pub owner-counts : (o p : ℕ) → (IsCode n t → o ≡ p) → refuseDeedOnMap n e d m t o ≡ refuseDeedOnMap n e d m t p
+  pub owner-counts : (o p : ℕ) → (IsCode n t → o ≡ p)
+      → refuseDeedOnMap n e d m t o ≡ refuseDeedOnMap n e d m t p
   owner-counts o p q =
-      in-two o ∙ go (firstOf tableOrder (mapRows n (outOfRange e) m t)) (λ z. q (rows-good n (outOfRange e) m t z .0))
+      in-two o
+      ∙ go (firstOf tableOrder (mapRows n (outOfRange e) m t)) (λ z. q (rows-good n (outOfRange e) m t z .0))
       ∙ sym (in-two p)
     where
       go : (f : ℕ) → (f ≡ 0 → o ≡ p)
@@ -155,7 +159,8 @@ pub record Turned (n : ℕ) (c : Call) (s : Shared) (h : Held) : Type 0 where
   pub left : (u : TriangleCode) → IsCode n u
       → heldAt u (onTable c s .1) ≡ cond (eqb (u .0) (triangleOf c .0)) (onHeld n c h .1) (heldAt u s)
 
-module _ {n : ℕ} {s : Shared} (is : IsShared n s) (t : TriangleCode) (h : Held) (has : IsCode n t → heldAt t s ≡ h)
+module _ {n : ℕ} {s : Shared} (is : IsShared n s) (t : TriangleCode) (h : Held)
+    (has : IsCode n t → heldAt t s ≡ h)
   where
     -- where nothing is written
     kept : (u : TriangleCode) → IsCode n u → heldAt u s ≡ cond (eqb (u .0) (t .0)) h (heldAt u s)
@@ -180,17 +185,21 @@ module _ {n : ℕ} {s : Shared} (is : IsShared n s) (t : TriangleCode) (h : Held
             ≡ got (settled f (soundingAnswer 0 0 (h .sounding)) (λ k. soundingAnswer k 0 Nothing))
         go zero d c = ap (λ (x : Held). got (soundingAnswer 0 0 (x .sounding))) (has (c refl))
         go (suc f) d c =
-            ap (λ (r : TableAnswer). got (soundingAnswer (suc f) (r .place) Nothing)) (sym (no-place (s .readings) (suc f) d))
+            ap (λ (r : TableAnswer). got (soundingAnswer (suc f) (r .place) Nothing))
+            (sym (no-place (s .readings) (suc f) d))
 
     did : (e : Deed) (d m : ℕ) → Turned n (does e d m t) s h
-    did e d m =
-        go (refuseDeed e d m t s) (refuseDeedOnMap n e d m t (h .owner)) refl refl
-        (deed-by-map is e d m t ∙ owner-counts n e d m t (ownerAt t (s .owners)) (h .owner) (λ c. ap (λ (x : Held). x .owner) (has c)))
+    did e d m = go (refuseDeedOnMap n e d m t (h .owner)) refl
       where
-        go : (f g : ℕ) → refuseDeed e d m t s ≡ f → refuseDeedOnMap n e d m t (h .owner) ≡ g → refuseDeed e d m t s ≡ refuseDeedOnMap n e d m t (h .owner) → Turned n (does e d m t) s h
-        go f zero p q r =
+        same : refuseDeed e d m t s ≡ refuseDeedOnMap n e d m t (h .owner)
+        same =
+            deed-by-map is e d m t
+            ∙ owner-counts n e d m t (ownerAt t (s .owners)) (h .owner) (λ c. ap (λ (x : Held). x .owner) (has c))
+
+        go : (f : ℕ) → refuseDeedOnMap n e d m t (h .owner) ≡ f → Turned n (does e d m t) s h
+        go zero q =
             let k = deed-good n e d m t (h .owner) q in
-            let z : refuseDeed e d m t s ≡ 0 = r ∙ q in
+            let z : refuseDeed e d m t s ≡ 0 = same ∙ q in
             record {
               answer = rw (z, q) refl;
               is = rw z (shared-after is e d t (k .inRange) (k .desk));
@@ -198,11 +207,11 @@ module _ {n : ℕ} {s : Shared} (is : IsShared n s) (t : TriangleCode) (h : Held
                   (after-at is e d t (k .inRange) (k .desk) (k .code) u cu
                   ∙ ap (λ (x : Held). cond (eqb (u .0) (t .0)) (heldAfter e d x) (heldAt u s)) (has (k .code)));
             }
-        go f (suc g) p q r =
-            let z : refuseDeed e d m t s ≡ suc g = r ∙ q in
+        go (suc f) q =
+            let z : refuseDeed e d m t s ≡ suc f = same ∙ q in
             record {
               answer = rw (z, q)
-                  (ap done (sym (no-place (s .readings) (suc g) (λ w. deed-not-23 n e d m t (h .owner) (q ∙ w)))));
+                  (ap done (sym (no-place (s .readings) (suc f) (λ w. deed-not-23 n e d m t (h .owner) (q ∙ w)))));
               is = rw z is;
               left = λ u cu. rw (z, q) (kept u cu);
             }
@@ -226,7 +235,8 @@ turns {n} c s map a =
       k .answer,
       record {
         is = k .is;
-        same = λ u cu. k .left u cu ∙ ap (λ (x : Held). cond (eqb (u .0) (triangleOf c .0)) (onHeld n c h .1) x) (a .same u cu);
+        same = λ u cu. k .left u cu
+            ∙ ap (λ (x : Held). cond (eqb (u .0) (triangleOf c .0)) (onHeld n c h .1) x) (a .same u cu);
       },
     )
 

@@ -4,7 +4,7 @@ use mathlib.Core.Path.{_≡_, _∙_, refl, sym, ap}
 use mathlib.Core.Bool.{Bool, true, false, not, _&&_, cond, true≢false}
 use mathlib.Core.List.{List, [], _∷_, _++_}
 use Prim.Native.Nat.{ℕ, zero, suc}
-use borrow.Author.Tests.{eqb-true, eqb-false, eq-eqb, ne-eqb}
+use borrow.Author.Tests.{eqb-true, eq-eqb, ne-eqb}
 use lib.Dec.{eqb}
 use lib.Seq.{getD-set-same}
 use Rattle.frame.specs.Lists.{those}
@@ -17,7 +17,7 @@ use Rattle.words.specs.declared.TriangleCode.{TriangleCode}
 use Rattle.tables.specs.Owners.{nobody, isDesk, ownerAt, Shared, IsShared, Held, heldAt, heldAfter}
 use Rattle.tables.specs.Refusals.{tableOrder, deskOrder, outOfRange, deskRows, ownedRows, refuseDeed}
 use Rattle.tables.specs.Answers.{tableAnswer}
-use Rattle.tables.specs.Histories.{Call, asks, does, Answered, done, after, doing, onTable}
+use Rattle.tables.specs.Histories.{Call, asks, does, Answered, done, after, onTable}
 use Rattle.tables.specs.Histories.{mapRows, refuseDeedOnMap, onHeld, triangleOf}
 use Rattle.tables.specs.Histories.{deskOf, isAbout, callsAbout, without, isGivenBack, seen}
 use Rattle.tables.specs.Promises.{Apart}
@@ -34,15 +34,16 @@ both-true : (a b : Bool) → a && b ≡ true → (a ≡ true) × (b ≡ true)
 both-true true b e = (refl, e)
 both-true false b e = absurd (true≢false (sym e))
 
-pub about-is : (d : ℕ) (t : TriangleCode) (c : Call) → isAbout d t c ≡ true → (deskOf c ≡ d) × (triangleOf c ≡ t)
+pub about-is : (d : ℕ) (t : TriangleCode) (c : Call) → isAbout d t c ≡ true
+    → (deskOf c ≡ d) × (triangleOf c ≡ t)
 about-is d t c e =
     let b = both-true (eqb (deskOf c) d) (eqb (triangleOf c .0) (t .0)) e in
     let q : triangleOf c .0 ≡ t .0 = eqb-true (triangleOf c .0) (t .0) (b .1) in
     (eqb-true (deskOf c) d (b .0), λ i. record { 0 = q i })
 
 -- another desk's calls are not among them
-pub same-calls : (d b : ℕ) (t : TriangleCode) (xs ys : List Call) → (d ≡ b → ⊥) → without b xs ≡ without b ys
-    → callsAbout d t xs ≡ callsAbout d t ys
+pub same-calls : (d b : ℕ) (t : TriangleCode) (xs ys : List Call) → (d ≡ b → ⊥)
+    → without b xs ≡ without b ys → callsAbout d t xs ≡ callsAbout d t ys
 same-calls d b t xs ys q e = sym (within xs) ∙ ap (callsAbout d t) e ∙ within ys
   where
     within : (cs : List Call) → callsAbout d t (without b cs) ≡ callsAbout d t cs
@@ -71,7 +72,8 @@ owner-kept n d t (does e by m u) h b o g =
 module _ (d n : ℕ) (t : TriangleCode) {S : Type 0} (turn : Call → S → Answered × S) (Has : S → Held → Type 0)
     (own : (c : Call) (s : S) (h : Held) → isAbout d t c ≡ true → Has s h
     → (turn c s .0 ≡ onHeld n c h .0) × Has (turn c s .1) (onHeld n c h .1))
-    (other : (c : Call) (s : S) (h : Held) → isAbout d t c ≡ false → Has s h → h .owner ≡ d → Has (turn c s .1) h)
+    (other : (c : Call) (s : S) (h : Held) → isAbout d t c ≡ false → Has s h → h .owner ≡ d
+    → Has (turn c s .1) h)
   where
     -- it sees what it would see alone
     pub unwound : (cs : List Call) (s : S) (h : Held) → Has s h → h .owner ≡ d
@@ -95,8 +97,8 @@ module _ (d n : ℕ) (t : TriangleCode) {S : Type 0} (turn : Call → S → Answ
 -- ---- a table
 
 -- on a desk's triangle every call of another is refused
-others-refused : (n : ℕ) (e : Deed) (by m : ℕ) (u : TriangleCode) (o : ℕ) → isDesk o ≡ true → (by ≡ o → ⊥)
-    → refuseDeedOnMap n e by m u o ≡ 0 → ⊥
+others-refused : (n : ℕ) (e : Deed) (by m : ℕ) (u : TriangleCode) (o : ℕ) → isDesk o ≡ true
+    → (by ≡ o → ⊥) → refuseDeedOnMap n e by m u o ≡ 0 → ⊥
 unfolding refuseDeedOnMap
 others-refused n e by m u o b q z =
     let rows = deskRows by ++ ownedRows e by o in
@@ -113,7 +115,8 @@ module _ (n d : ℕ) (t : TriangleCode) (c : IsCode n t) (k : isDesk d ≡ true)
   own x s h b has =
       let q = about-is d t x b .1 in
       let w = turned (has .0) x h (λ _. ap (λ (u : TriangleCode). heldAt u s) q ∙ has .1) in
-      (w .answer, (w .is, w .left t c ∙ rw (eq-eqb (t .0) (triangleOf x .0) (sym (ap (λ (u : TriangleCode). u .0) q))) refl))
+      let p : t .0 ≡ triangleOf x .0 = sym (ap (λ (u : TriangleCode). u .0) q) in
+      (w .answer, (w .is, w .left t c ∙ rw (eq-eqb (t .0) (triangleOf x .0) p) refl))
 
   -- another's call on the triangle leaves what is held
   refused-there : (x : Call) (h : Held) → h .owner ≡ d → (deskOf x ≡ d → ⊥) → onHeld n x h .1 ≡ h
@@ -122,11 +125,13 @@ module _ (n d : ℕ) (t : TriangleCode) (c : IsCode n t) (k : isDesk d ≡ true)
       go (refuseDeedOnMap n e by m u (h .owner)) (others-refused n e by m u (h .owner) (rw o k) (λ w. q (w ∙ o)))
     where
       go : (f : ℕ) → (f ≡ 0 → ⊥)
-          → settled {A = TableAnswer × Held} f (tableAnswer 0 0, heldAfter e by h) (λ i. (tableAnswer i 0, h)) .1 ≡ h
+          → settled {A = TableAnswer × Held} f (tableAnswer 0 0, heldAfter e by h) (λ i. (tableAnswer i 0, h)) .1
+          ≡ h
       go zero w = absurd (w refl)
       go (suc f) w = refl
 
-  other : (x : Call) (s : Shared) (h : Held) → isAbout d t x ≡ false → Has s h → h .owner ≡ d → Has (onTable x s .1) h
+  other : (x : Call) (s : Shared) (h : Held) → isAbout d t x ≡ false → Has s h → h .owner ≡ d
+      → Has (onTable x s .1) h
   other x s h b has o =
       let w = turned (has .0) x (heldAt (triangleOf x) s) (λ _. refl) in
       (w .is, w .left t c ∙ go (eqb (t .0) (triangleOf x .0)) refl)

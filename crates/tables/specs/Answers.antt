@@ -61,7 +61,8 @@ abbrev pub TakeAnswer : (desk degree : ℕ) → TriangleCode → Shared → Tabl
 TakeAnswer = DeedAnswer Taking
 
 -- "Set and clear from 2026-03 now need ownership"
-abbrev pub SetAnswer : (desk degree : ℕ) → TriangleCode → (reading : ℤ) → Shared → TableAnswer → Shared → Type 0
+abbrev pub SetAnswer : (desk degree : ℕ) → TriangleCode → (reading : ℤ) → Shared → TableAnswer → Shared
+    → Type 0
 SetAnswer d n t x = DeedAnswer (Setting x) d n t
 
 abbrev pub ClearAnswer : (desk degree : ℕ) → TriangleCode → Shared → TableAnswer → Shared → Type 0

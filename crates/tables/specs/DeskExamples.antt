@@ -1,8 +1,8 @@
 -- Document 02, 2026-07: what two strangers would try, each refusal at its bound, and wrong answers. Assumes nothing.
 use mathlib.Core.Path.{_≡_}
-use mathlib.Core.List.{List, [], _∷_}
+use mathlib.Core.List.{[], _∷_}
 use Prim.Native.Nat.{ℕ}
-use lib.IntN.{pos, negsuc}
+use lib.IntN.{pos}
 use lib.ListN.{set, replicate}
 use Rattle.frame.specs.Promises.{_leaves_}
 use Rattle.grid.specs.Writing.{written}
@@ -27,26 +27,30 @@ abbrev pub three : Shared
 three = shared (pos 5 ∷ pos 6 ∷ pos 7 ∷ replicate 17 none) (1 ∷ 2 ∷ replicate 18 0)
 
 pub record Examples : Type 0 where
-  -- a free triangle is taken before it is set; the other desk can neither take, set, clear nor give it back, and sees it;
-  -- giving back clears; then the other may take it
+  -- a free triangle is taken before it is set; the other desk can neither take, set, clear nor give it back, and sees
+  -- it; giving back clears; then the other may take it
   pub day :
       answers onTable
-      (sets 1 0 100 5 ∷ takes 1 0 100 ∷ sets 1 0 100 5 ∷ takes 2 0 100 ∷ sets 2 0 100 9 ∷ clears 2 0 100 ∷ gives 2 0 100
-      ∷ gets 2 0 100 ∷ takes 1 0 100 ∷ gets 1 0 100 ∷ gives 1 0 100 ∷ gets 1 0 100 ∷ gives 1 0 100 ∷ takes 2 0 100
-      ∷ gets 2 0 100 ∷ sets 1 0 100 5 ∷ [])
+      (sets 1 0 100 5 ∷ takes 1 0 100 ∷ sets 1 0 100 5
+      ∷ takes 2 0 100 ∷ sets 2 0 100 9 ∷ clears 2 0 100 ∷ gives 2 0 100 ∷ gets 2 0 100
+      ∷ takes 1 0 100 ∷ gets 1 0 100 ∷ gives 1 0 100 ∷ gets 1 0 100 ∷ gives 1 0 100
+      ∷ takes 2 0 100 ∷ gets 2 0 100 ∷ sets 1 0 100 5 ∷ [])
       (freshShared 0)
-      ≡ no 27 ∷ ok ∷ ok ∷ no 26 ∷ no 26 ∷ no 26 ∷ no 26 ∷ millimetres 5 ∷ ok ∷ millimetres 5 ∷ ok ∷ nothing ∷ no 27 ∷ ok
-      ∷ nothing ∷ no 26 ∷ []
-  -- what the ice desk sees of 100 until it gives it back: whatever the pilotage desk tries meanwhile, whatever itself does
-  -- elsewhere, and not what comes later
+      ≡ no 27 ∷ ok ∷ ok
+      ∷ no 26 ∷ no 26 ∷ no 26 ∷ no 26 ∷ millimetres 5
+      ∷ ok ∷ millimetres 5 ∷ ok ∷ nothing ∷ no 27
+      ∷ ok ∷ nothing ∷ no 26 ∷ []
+  -- what the ice desk sees of 100 until it gives it back: whatever the pilotage desk tries meanwhile, whatever itself
+  -- does elsewhere, and not what comes later
   pub sees :
       seen onTable 1 (written 100)
-      (takes 2 0 100 ∷ sets 1 0 100 5 ∷ sets 2 0 100 9 ∷ gives 2 0 100 ∷ gets 2 0 100 ∷ gets 1 0 100 ∷ takes 1 0 101
-      ∷ sets 1 0 100 100001 ∷ gives 1 0 100 ∷ takes 2 0 100 ∷ sets 2 0 100 9 ∷ gets 1 0 100 ∷ [])
+      (takes 2 0 100 ∷ sets 1 0 100 5 ∷ sets 2 0 100 9 ∷ gives 2 0 100 ∷ gets 2 0 100 ∷ gets 1 0 100
+      ∷ takes 1 0 101 ∷ sets 1 0 100 100001 ∷ gives 1 0 100
+      ∷ takes 2 0 100 ∷ sets 2 0 100 9 ∷ gets 1 0 100 ∷ [])
       (after onTable (takes 1 0 100 ∷ []) (freshShared 0))
       ≡ ok ∷ millimetres 5 ∷ no 21 ∷ ok ∷ []
-  -- "what it finds on taking may" depend on the other desk: a reading that came with the table is gone when the pilotage
-  -- desk has taken the triangle and given it back
+  -- "what it finds on taking may" depend on the other desk: a reading that came with the table is gone when the
+  -- pilotage desk has taken the triangle and given it back
   pub finds : answers onTable (takes 1 0 110 ∷ gets 1 0 110 ∷ []) three ≡ ok ∷ millimetres 7 ∷ []
   pub finds-none :
       answers onTable (takes 1 0 110 ∷ gets 1 0 110 ∷ [])

@@ -1,5 +1,5 @@
--- Document 02, 2026-03: what a stranger would try, each refusal at its bound, and wrong answers; the ice desk owns every
--- triangle here, or takes it. Assumes nothing.
+-- Document 02, 2026-03: what a stranger would try, each refusal at its bound, and wrong answers; the ice desk owns
+-- every triangle here, or takes it. Assumes nothing.
 use mathlib.Core.Path.{_≡_}
 use mathlib.Core.List.{List, [], _∷_, _++_}
 use Prim.Native.Nat.{ℕ, _+_}
@@ -68,7 +68,8 @@ pub record Examples : Type 0 where
       (gets 1 1 1001 ∷ takes 1 1 1001 ∷ sets 1 1 1001 1250 ∷ gets 1 1 1001 ∷ sets 1 1 1001 0 ∷ gets 1 1 1001
       ∷ gets 1 1 1002 ∷ clears 1 1 1001 ∷ gets 1 1 1001 ∷ clears 1 1 1001 ∷ [])
       (freshShared 1)
-      ≡ nothing ∷ ok ∷ ok ∷ millimetres 1250 ∷ ok ∷ millimetres 0 ∷ nothing ∷ ok ∷ nothing ∷ ok ∷ []
+      ≡ nothing ∷ ok ∷ ok ∷ millimetres 1250 ∷ ok ∷ millimetres 0
+      ∷ nothing ∷ ok ∷ nothing ∷ ok ∷ []
   -- what is left: one place is written, and no other
   pub left : after onTable (sets 1 0 101 5 ∷ []) (ours (fresh 0)) ≡ ours (none ∷ pos 5 ∷ replicate 18 none)
   pub left-clear : after onTable (sets 1 0 101 5 ∷ clears 1 0 101 ∷ []) (ours (fresh 0)) ≡ ours (fresh 0)

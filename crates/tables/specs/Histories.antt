@@ -72,7 +72,8 @@ mapRows n out m t = triangleRows m t ++ (21 when out ∷ []) ++ otherDegreeRows 
 unfoldable pub refuseGetOnMap : (table degree : ℕ) → TriangleCode → ℕ
 refuseGetOnMap n m t = firstOf tableOrder (mapRows n false m t)
 
-unfoldable pub refuseDeedOnMap : (table : ℕ) → Deed → (desk degree : ℕ) → TriangleCode → (owner : ℕ) → ℕ
+unfoldable pub refuseDeedOnMap : (table : ℕ) → Deed → (desk degree : ℕ) → TriangleCode → (owner : ℕ)
+    → ℕ
 refuseDeedOnMap n e d m t o = firstOf deskOrder (mapRows n (outOfRange e) m t ++ deskRows d ++ ownedRows e d o)
 
 -- a call's answer by what the map has for its triangle, and what that is then
@@ -80,7 +81,8 @@ abbrev pub onHeld : (table : ℕ) → Call → Held → Answered × Held
 onHeld n (asks d m t) h =
     (got (settled (refuseGetOnMap n m t) (soundingAnswer 0 0 (h .sounding)) (λ f. soundingAnswer f 0 Nothing)), h)
 onHeld n (does e d m t) h =
-    doing (settled (refuseDeedOnMap n e d m t (h .owner)) (tableAnswer 0 0, heldAfter e d h) (λ f. (tableAnswer f 0, h)))
+    doing (settled (refuseDeedOnMap n e d m t (h .owner)) (tableAnswer 0 0, heldAfter e d h)
+    (λ f. (tableAnswer f 0, h)))
 
 abbrev pub triangleOf : Call → TriangleCode
 triangleOf (asks d n t) = t
@@ -112,8 +114,8 @@ isGivenBack (does e d n t) (got r) = false
 isGivenBack (asks d n t) r = false
 
 -- the answers to its calls about the triangle, up to the one with which it has given it back
-unfoldable pub seen : {S : Type 0} → (turn : Call → S → Answered × S) → (desk : ℕ) → TriangleCode → List Call → S
-    → List Answered
+unfoldable pub seen : {S : Type 0} → (turn : Call → S → Answered × S) → (desk : ℕ) → TriangleCode
+    → List Call → S → List Answered
 seen turn d t [] s = []
 seen turn d t (c ∷ cs) s =
     let r = turn c s .0 in

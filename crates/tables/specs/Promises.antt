@@ -110,7 +110,8 @@ pub record Owning : Type 0 where
       → (ownerAt t (s .owners) ≡ d) ⊎ ((isTaking e ≡ true) × (ownerAt t (s .owners) ≡ nobody))
   -- "On another's triangle every call but get is 26"
   pub another's : (e : Deed) (d n : ℕ) (t : TriangleCode) (s : Shared) → Admitted e d n t s
-      → isDesk (ownerAt t (s .owners)) ≡ true → (ownerAt t (s .owners) ≡ d → ⊥) → refuseDeed e d n t s ≡ 26
+      → isDesk (ownerAt t (s .owners)) ≡ true → (ownerAt t (s .owners) ≡ d → ⊥)
+      → refuseDeed e d n t s ≡ 26
   -- "on a free one all but get and take are 27."
   pub free : (e : Deed) (d n : ℕ) (t : TriangleCode) (s : Shared) → Admitted e d n t s
       → ownerAt t (s .owners) ≡ nobody → isTaking e ≡ false → refuseDeed e d n t s ≡ 27
@@ -132,13 +133,14 @@ pub record Owning : Type 0 where
       → ClearAnswer d n t s r new → new .owners ≡ s .owners
   -- and no call touches another triangle
   pub elsewhere : (e : Deed) (d n : ℕ) (t : TriangleCode) (s : Shared) (r : TableAnswer) (new : Shared)
-      → DeedAnswer e d n t s r new → (u : TriangleCode) → IsCode n u → (u ≡ t → ⊥) → heldAt u new ≡ heldAt u s
+      → DeedAnswer e d n t s r new → (u : TriangleCode) → IsCode n u → (u ≡ t → ⊥)
+      → heldAt u new ≡ heldAt u s
 
--- "What desk 1 sees of its own triangles doesn't depend on desk 2's calls between its taking one and giving it back, the
--- lists changing only through calls; what it finds on taking may."
+-- "What desk 1 sees of its own triangles doesn't depend on desk 2's calls between its taking one and giving it back,
+-- the lists changing only through calls; what it finds on taking may."
 pub record Apart : Type 0 where
-  -- The sentence as it stands, for any two desks d and b: after any calls, with the last of which d has taken t, two ways
-  -- to go on that differ in b's calls alone.
+  -- The sentence as it stands, for any two desks d and b: after any calls, with the last of which d has taken t, two
+  -- ways to go on that differ in b's calls alone.
   pub afterTaking : (d b n : ℕ) (t : TriangleCode) (s : Shared) (before xs ys : List Call)
       → IsShared n s → IsCode n t → (d ≡ b → ⊥) → refuseDeed Taking d n t (after onTable before s) ≡ 0
       → without b xs ≡ without b ys

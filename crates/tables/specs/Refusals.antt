@@ -1,5 +1,5 @@
--- Document 02, 2026-03: refusals 20 to 23, and 2026-07: 24 to 27. A call's refusal is the first of its rows, in document
--- 01's order and then in that of these. Assumes nothing.
+-- Document 02, 2026-03: refusals 20 to 23, and 2026-07: 24 to 27. A call's refusal is the first of its rows, in
+-- document 01's order and then in that of these. Assumes nothing.
 use Prim.Native.Nat.{ℕ}
 use mathlib.Core.Bool.{Bool, false, not, _&&_}
 use mathlib.Core.List.{List, [], _∷_, _++_}

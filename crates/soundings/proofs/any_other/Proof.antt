@@ -5,7 +5,7 @@ use Prim.Native.Nat.{_-_, _≤_, _<_}
 use native.Mathlib.Omega.{arith}
 use borrow.Author.Needs.{needs}
 use native.Mathlib.Numerals.{add-one}
-use lib.ListN.{length, getD, drop}
+use lib.ListN.{length, drop}
 use Rattle.frame.specs.Refusals.{_either_}
 use Rattle.tables.specs.Owners.{isOther, anyOther}
 use Rattle.frame.proofs.Scanning.{finds, goes-on, ends}
@@ -13,7 +13,8 @@ use Rattle.soundings.proofs.any_other.Statement.{statement}
 use Rattle.soundings.proofs.any_other.Tie as tie
 
 abbrev Inv-loop : tie.InvT-loop
-Inv-loop owners found₀ place₀ found place = (place ≤ length owners) × (anyOther owners ≡ found either anyOther (drop place owners))
+Inv-loop owners found₀ place₀ found place =
+    (place ≤ length owners) × (anyOther owners ≡ found either anyOther (drop place owners))
 
 abbrev μ-loop : tie.MeasureT-loop
 μ-loop owners found₀ place₀ found place = length owners - place
@@ -52,7 +53,8 @@ loop-again c =
 returns : tie.Need-returns Inv-loop μ-loop
 returns c =
     let s = c .before in
-    sym (ends isOther (s .before .before .args .owners .now) (s .loop .place) (s .loop .found) (omega arith) (s .loop .inv .1))
+    let owners = s .before .before .args .owners .now in
+    sym (ends isOther owners (s .loop .place) (s .loop .found) (omega arith) (s .loop .inv .1))
 
 pub any-other-spec : {M : Type 1} → statement M
 any-other-spec =

@@ -109,7 +109,8 @@ returns-2 c =
     rw (toZ-ofZ w32 x (record { sfits = m .before .number-after-arg .given })) at (m .number-after .ensures)
     ∙ ap (λ (z : ℤ). number (soundingAfter (a .deed) (said z))) y in
     let o : c .owner-after .result ≡ ownerAfter (a .deed) (a .desk) (ownerAt (a .t) owners) =
-    c .owner-after .ensures ∙ ap (λ (i : ℕ). ownerAfter (a .deed) (a .desk) (getD owners i nobody)) (p .place-of .ensures) in
+    c .owner-after .ensures
+    ∙ ap (λ (i : ℕ). ownerAfter (a .deed) (a .desk) (getD owners i nobody)) (p .place-of .ensures) in
     deed-done (a .deed) (a .desk) (a .degree) (a .t) (shared list owners) _ (k .refuse-deed .ensures) (e .if1 .left)
     (rw (toZ-ofZ w32 (m .number-after .result) (record { sfits = m .number-after .ok }))
     (λ i. shared (set list (p .place-of .ensures i) (n i)) (set owners (p .place-of .ensures i) (o i))))

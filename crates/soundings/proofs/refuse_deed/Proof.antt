@@ -4,7 +4,7 @@ use mathlib.Core.Bool.{Bool}
 use Rattle.tables.specs.Owners.{shared}
 use Rattle.tables.specs.Refusals.{outOfRange, refuseCall}
 use Rattle.tables.specs.Answers.{refused}
-use Rattle.tables.proofs.Refused.{Passed, call-passed}
+use Rattle.tables.proofs.Refused.{call-passed}
 use Rattle.tables.proofs.Deeds.{deed-first, deed-then, shared-not-23}
 use Rattle.tables.proofs.Answering.{answer-bare, answer-same, checked}
 use borrow.Author.Needs.{needs}
@@ -12,7 +12,8 @@ use Rattle.soundings.proofs.refuse_deed.Statement.{statement}
 use Rattle.soundings.proofs.refuse_deed.Tie as tie
 
 heard : (c : tie.After-refuse-call) → (let a = c .before .before .before .args in
-    c .refuse-call .result ≡ refused (a .list .now) (refuseCall (outOfRange (a .deed)) (a .degree) (a .t) (a .list .now)))
+    c .refuse-call .result
+    ≡ refused (a .list .now) (refuseCall (outOfRange (a .deed)) (a .degree) (a .t) (a .list .now)))
 heard c =
     let o = c .before in
     let a = o .before .before .args in

@@ -10,7 +10,7 @@
 extern "C" {
 #endif
 
-/* A call takes at most eight whole numbers or addresses. Each goes into a register of its own, on x86-64 the last two on
+/* A call takes at most eight whole numbers or addresses. On x86-64 the first six go into registers, the last two onto
  * the stack, and one that the function does not take does no harm: so one loop serves all calls. */
 struct input {
     uint64_t argument[8];

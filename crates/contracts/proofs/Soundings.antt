@@ -6,8 +6,8 @@ use Rattle.contracts.specs.Soundings.{Contracts}
 pub contracts : Contracts
 contracts = record {
   get = λ κs n t list new r. says-itself;
-  take = λ κs d n t list new os after r. says-itself;
-  set = λ κs d n t x list new os after r. says-itself;
-  clear = λ κs d n t list new os after r. says-itself;
-  give = λ κs d n t list new os after r. says-itself;
+  take = λ κs d n t list new os left r. says-itself;
+  set = λ κs d n t x list new os left r. says-itself;
+  clear = λ κs d n t list new os left r. says-itself;
+  give = λ κs d n t list new os left r. says-itself;
 }

@@ -25,28 +25,28 @@ abbrev pub Owners : Type 0
 Owners = RefT (List ℕ)
 
 -- both together
-abbrev pub held : Readings → Owners → Shared
-held list owners = shared (now list) (now owners)
+abbrev pub both : Readings → Owners → Shared
+both list owners = shared (now list) (now owners)
 
 -- For any arguments, any result, and lists left with any contents.
 pub record Contracts : Type 0 where
   pub get : (κs : Lfts 1) (n : ℕ) (t : TriangleCode) (list new : Readings) (r : SoundingAnswer)
       → Says (get.Asked κs (n, (t, (list, tt)))) (get.Learnt κs (n, (t, (list, tt))) r (n, (t, (new, tt))))
       (GetAnswer n t (now list) r)
-  pub take : (κs : Lfts 2) (d n : ℕ) (t : TriangleCode) (list new : Readings) (os after : Owners) (r : TableAnswer)
+  pub take : (κs : Lfts 2) (d n : ℕ) (t : TriangleCode) (list new : Readings) (os left : Owners) (r : TableAnswer)
       → Says (take.Asked κs (d, (n, (t, (list, (os, tt))))))
-      (take.Learnt κs (d, (n, (t, (list, (os, tt))))) r (d, (n, (t, (new, (after, tt))))))
-      (TakeAnswer d n t (held list os) r (held new after))
-  pub set : (κs : Lfts 2) (d n : ℕ) (t : TriangleCode) (x : ℤ) (list new : Readings) (os after : Owners)
+      (take.Learnt κs (d, (n, (t, (list, (os, tt))))) r (d, (n, (t, (new, (left, tt))))))
+      (TakeAnswer d n t (both list os) r (both new left))
+  pub set : (κs : Lfts 2) (d n : ℕ) (t : TriangleCode) (x : ℤ) (list new : Readings) (os left : Owners)
       (r : TableAnswer)
       → Says (set.Asked κs (d, (n, (t, (x, (list, (os, tt)))))))
-      (set.Learnt κs (d, (n, (t, (x, (list, (os, tt)))))) r (d, (n, (t, (x, (new, (after, tt)))))))
-      (SetAnswer d n t x (held list os) r (held new after))
-  pub clear : (κs : Lfts 2) (d n : ℕ) (t : TriangleCode) (list new : Readings) (os after : Owners) (r : TableAnswer)
+      (set.Learnt κs (d, (n, (t, (x, (list, (os, tt)))))) r (d, (n, (t, (x, (new, (left, tt)))))))
+      (SetAnswer d n t x (both list os) r (both new left))
+  pub clear : (κs : Lfts 2) (d n : ℕ) (t : TriangleCode) (list new : Readings) (os left : Owners) (r : TableAnswer)
       → Says (clear.Asked κs (d, (n, (t, (list, (os, tt))))))
-      (clear.Learnt κs (d, (n, (t, (list, (os, tt))))) r (d, (n, (t, (new, (after, tt))))))
-      (ClearAnswer d n t (held list os) r (held new after))
-  pub give : (κs : Lfts 2) (d n : ℕ) (t : TriangleCode) (list new : Readings) (os after : Owners) (r : TableAnswer)
+      (clear.Learnt κs (d, (n, (t, (list, (os, tt))))) r (d, (n, (t, (new, (left, tt))))))
+      (ClearAnswer d n t (both list os) r (both new left))
+  pub give : (κs : Lfts 2) (d n : ℕ) (t : TriangleCode) (list new : Readings) (os left : Owners) (r : TableAnswer)
       → Says (give.Asked κs (d, (n, (t, (list, (os, tt))))))
-      (give.Learnt κs (d, (n, (t, (list, (os, tt))))) r (d, (n, (t, (new, (after, tt))))))
-      (GiveAnswer d n t (held list os) r (held new after))
+      (give.Learnt κs (d, (n, (t, (list, (os, tt))))) r (d, (n, (t, (new, (left, tt))))))
+      (GiveAnswer d n t (both list os) r (both new left))

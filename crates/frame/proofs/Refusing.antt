@@ -264,6 +264,10 @@ pub either-right : (a b : Bool) → b ≡ true → a either b ≡ true
 either-right true b e = refl
 either-right false b e = e
 
+pub either-none : (b : Bool) → b either false ≡ b
+either-none true = refl
+either-none false = refl
+
 pub either-false : (a b : Bool) → (a either b ≡ false) ↔ ((a ≡ false) × (b ≡ false))
 either-false true b = (λ e. absurd (true≢false e), λ e. e .0)
 either-false false b = (λ e. (refl, e), λ e. e .1)

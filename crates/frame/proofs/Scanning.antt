@@ -8,12 +8,8 @@ use native.Mathlib.Omega.{arith}
 use lib.ListN.{length, getD, drop, set, replicate, drop-of-length-le}
 use lib.Seq.{drop-cons}
 use Rattle.frame.specs.Refusals.{_either_}
-use Rattle.frame.proofs.Refusing.{either-right, either-false}
+use Rattle.frame.proofs.Refusing.{either-none, either-right, either-false}
 use Rattle.frame.specs.Lists.{some, firstPlace, those}
-
-either-none : (b : Bool) → b either false ≡ b
-either-none true = refl
-either-none false = refl
 
 module _ {A : Type 0} (f : A → Bool) where
   -- ---- at a place of the list

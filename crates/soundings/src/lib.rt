@@ -14,7 +14,7 @@ ghost use Rattle.words.specs.Refusals.{IsCode};
 ghost use Rattle.tables.specs.Tables.{anyBad, leastBad, said, number};
 ghost use Rattle.tables.specs.Owners.{anyOther, shared, isTaking, ownerAfter, soundingAfter};
 ghost use Rattle.tables.specs.Refusals.{tableOrder, triangleRows, outOfRange, tableRows, refuseCall};
-ghost use Rattle.tables.specs.Refusals.{deskOrder, ownedRows, sharedRows, refuseDeed};
+ghost use Rattle.tables.specs.Refusals.{deskOrder, ownerRows, sharedRows, refuseDeed};
 ghost use Rattle.tables.specs.Answers.{tableAnswer, refused, GetAnswer};
 ghost use Rattle.tables.specs.Answers.{DeedAnswer, TakeAnswer, SetAnswer, ClearAnswer, GiveAnswer};
 pub use tables::Sounding;
@@ -120,7 +120,8 @@ fn refuse_list(degree: u64, list: &[i32]) -> TableAnswer
     refuse(0)
 }
 
-// All refusals of a call; `out` says whether it is handed a reading out of range.
+// 1 to 23: all refusals of get, and the first of a call that writes; `out` says whether it is handed a reading out of
+// range.
 fn refuse_call(out: bool, degree: u64, t: TriangleCode, list: &[i32]) -> TableAnswer
     ensures { λ r. ⌜ r ≡ refused (now (list .entry)) (refuseCall out degree t (now (list .entry))) ⌝ }
 {
@@ -220,7 +221,7 @@ fn refuse_free(deed: Deed) -> u64
 
 // 26 and 27: of the triangle's owner.
 fn refuse_owner(deed: Deed, desk: u64, owner: u64) -> u64
-    ensures { λ r. ⌜ r ≡ firstOf deskOrder (ownedRows deed desk owner) ⌝ }
+    ensures { λ r. ⌜ r ≡ firstOf deskOrder (ownerRows deed desk owner) ⌝ }
 {
     if owner == 0 {
         return refuse_free(deed);
@@ -229,12 +230,6 @@ fn refuse_owner(deed: Deed, desk: u64, owner: u64) -> u64
         return 26;
     }
     0
-}
-
-fn wide(owner: u8) -> u64
-    ensures { λ r. ⌜ r ≡ owner ⌝ }
-{
-    owner as u64
 }
 
 // 24 to 27: of the desk and the owners.
@@ -252,7 +247,7 @@ fn refuse_shared(deed: Deed, desk: u64, degree: u64, t: TriangleCode, owners: &[
         return 25;
     }
     let i = words::place_of(t) as usize;
-    refuse_owner(deed, desk, wide(owners[i]))
+    refuse_owner(deed, desk, owners[i] as u64)
 }
 
 // All refusals of a call that writes.
@@ -298,6 +293,7 @@ fn carry_out(
     }
     let i = words::place_of(t) as usize;
     list[i] = number_after(deed, list[i]);
+    // A desk is 1 or 2 here.
     owners[i] = owner_after(deed, desk as u8, owners[i]);
     checked
 }

@@ -3,7 +3,7 @@ use mathlib.Core.Path.{refl}
 use Prim.Native.Nat.{ℕ}
 use lib.ListN.{getD}
 use Rattle.frame.specs.Refusals.{firstOf}
-use Rattle.frame.specs.Lists.{some, firstPlace}
+use Rattle.frame.specs.Lists.{some, firstPlace, those}
 use Rattle.frame.proofs.Answering.{known-gives}
 use Rattle.words.specs.Words.{digits, path, wordOf}
 use Rattle.words.specs.Counting.{placeOf}
@@ -16,10 +16,13 @@ use Rattle.tables.specs.declared.TableAnswer.{TableAnswer}
 use Rattle.tables.proofs.Examples.{wrong, at, refusal}
 
 pub examples : Examples
-unfolding placeOf some firstPlace firstOf refuseCall refuseDeed answers after seen decimals written path wordOf digits
+unfolding placeOf some firstPlace those firstOf refuseCall refuseDeed answers after seen decimals written path wordOf
+    digits
 examples = record {
   day = refl;
   sees = refl;
+  others-left-out = refl;
+  about-100 = refl;
   finds = refl;
   finds-none = refl;
   take-free = known-gives refl;

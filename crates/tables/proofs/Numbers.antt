@@ -104,9 +104,3 @@ desk-most d e = ltb-false 2 d (is-other d ∙ desk-not-other d e)
 
 pub desk-not-nobody : (d : ℕ) → isDesk d ≡ true → d ≡ nobody → ⊥
 desk-not-nobody d e z = true≢false (sym e ∙ ap isDesk z)
-
--- one that is neither is a desk
-pub owner-desk : (o : ℕ) → isOther o ≡ false → (o ≡ nobody → ⊥) → isDesk o ≡ true
-owner-desk o e z =
-    let k : eqb o nobody either isDesk o ≡ true = not-false (eqb o nobody either isDesk o) e in
-    rw (ne-eqb o nobody z) at k

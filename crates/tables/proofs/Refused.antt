@@ -1,5 +1,6 @@
 -- The refusals of a table's calls, test by test, and what an answered call knows. Assumes nothing.
 use mathlib.Core.Path.{_≡_, _∙_, refl, sym, ap}
+use mathlib.Core.Logic.{_↔_}
 use mathlib.Core.Bool.{Bool, true, false, not}
 use mathlib.Core.List.{List, [], _∷_}
 use Prim.Native.Nat.{ℕ, _≤_, _<_}
@@ -11,7 +12,7 @@ use lib.ListN.{length}
 use Rattle.frame.specs.Refusals.{_either_, _when_, firstOf, order}
 use Rattle.frame.proofs.Refusing.{_or_, alone, in-turn, turn-append, given-so, not-given, or-first, or-next, or-zero}
 use Rattle.frame.proofs.Refusing.{here, next, nothing, refuse-first, refuse-before, refuse-after, refuse-rest}
-use Rattle.frame.proofs.Refusing.{NoneSo, none-so, none-after, either-false}
+use Rattle.frame.proofs.Refusing.{NoneSo, none-so, none-after, either-none, either-false}
 use Rattle.words.specs.Words.{degreeOf}
 use Rattle.words.specs.Refusals.{codeRows, checkCode, IsCode}
 use Rattle.words.specs.Counting.{placeOf}
@@ -91,9 +92,11 @@ module _ (n : ℕ) (list : List ℤ) where
     good-list b = refuse-first tableOrder (tableRows n list) tt (next long (next b nothing))
 
   -- where there is none, the list is as long as it must be and has no bad number
-  pub list-good : NoneSo (tableRows n list)
-      → (length list ≡ places n) × (anyBad list ≡ false)
-  list-good z = (eqb-true _ _ (not-false _ (z .0)), z .1 .0)
+  pub list-good : NoneSo (tableRows n list) ↔ ((length list ≡ places n) × (anyBad list ≡ false))
+  list-good = (
+    λ z. (eqb-true _ _ (not-false _ (z .0)), z .1 .0),
+    λ g. (rw (eq-eqb (length list) (places n) (g .0)) refl, (g .1, tt)),
+  )
 
 -- ---- a call's
 
@@ -139,13 +142,9 @@ module _ (n : ℕ) (t : TriangleCode) (list : List ℤ) where
     unfolding refuseCall
     call-passed q =
         let z = none-after tableOrder tableOrder (triangleRows n t) (21 when out ∷ tableRows n list) tt tt .0 q in
-        (passes (z .0) (list-good n list (z .1 .1)), z .1 .0)
+        (passes (z .0) (list-good n list .0 (z .1 .1)), z .1 .0)
 
     -- 23 is given where the list holds a bad number
     pub call-bad : refuseCall out n t list ≡ 23 → anyBad list ≡ true
     unfolding refuseCall
-    call-bad e = is-so (anyBad list) (given-so tableOrder (callRows out n t list) 22 e)
-      where
-        is-so : (b : Bool) → b either false ≡ true → b ≡ true
-        is-so true q = refl
-        is-so false q = q
+    call-bad e = sym (either-none (anyBad list)) ∙ given-so tableOrder (callRows out n t list) 22 e

@@ -4,23 +4,23 @@ use mathlib.Core.Bool.{Bool, true, false, not, cond}
 use mathlib.Core.Logic.{_↔_}
 use mathlib.Core.List.{List, [], _∷_, _++_}
 use Prim.Native.Nat.{ℕ, zero, suc, _≤_}
-use borrow.Author.Tests.{eq-eqb, eqb-true, not-false}
+use borrow.Author.Tests.{eqb-true, not-false}
 use lib.Dec.{eqb}
-use lib.ListN.{length, getD-replicate}
+use lib.IntN.{ℤ}
+use lib.ListN.{getD-replicate}
 use Rattle.frame.specs.Refusals.{_when_, _either_, firstOf}
 use Rattle.frame.specs.Answers.{settled}
 use Rattle.frame.proofs.Answering.{known-settled}
 use Rattle.frame.proofs.Refusing.{_or_, alone, inTurn, refusal-append, none-so, none-after, not-given}
-use Rattle.frame.proofs.Refusing.{either-false}
 use Rattle.words.specs.Refusals.{IsCode}
 use Rattle.words.specs.Counting.{placeOf}
 use Rattle.words.specs.declared.TriangleCode.{TriangleCode}
 use Rattle.words.proofs.CodeCount.{place-below}
-use Rattle.tables.specs.Tables.{places, none, said}
-use Rattle.tables.specs.Owners.{nobody, isDesk, anyOther, ownerAt, Shared, IsShared}
+use Rattle.tables.specs.Tables.{places, none, IsTable, said}
+use Rattle.tables.specs.Owners.{nobody, isDesk, ownerAt, Shared, IsShared}
 use Rattle.tables.specs.Owners.{Held, held, heldAt, heldAfter}
 use Rattle.tables.specs.Refusals.{tableOrder, triangleRows, outOfRange, tableRows, refuseCall, refuseGet}
-use Rattle.tables.specs.Refusals.{deskOrder, deskRows, ownersRows, ownedRows, sharedRows, refuseDeed}
+use Rattle.tables.specs.Refusals.{deskOrder, deskRows, ownerListRows, ownerRows, sharedRows, refuseDeed}
 use Rattle.tables.specs.Answers.{soundingAnswer, refusedGet, found, carriedOut, refusedDeed}
 use Rattle.tables.specs.Histories.{Call, asks, does, got, done, answers, doing, onTable}
 use Rattle.tables.specs.Histories.{Map, otherDegreeRows, mapRows, refuseGetOnMap, refuseDeedOnMap}
@@ -30,7 +30,8 @@ use Rattle.tables.specs.declared.Sounding.the-variants.{Nothing}
 use Rattle.tables.specs.declared.Deed.{Deed}
 use Rattle.tables.specs.declared.TableAnswer.{TableAnswer}
 use Rattle.tables.proofs.Places.{same-places}
-use Rattle.tables.proofs.Refused.{triangle-good}
+use Rattle.tables.proofs.Refused.{triangle-good, list-good}
+use Rattle.tables.proofs.Deeds.{owners-good}
 use Rattle.tables.proofs.Answering.{no-place}
 use Rattle.tables.proofs.Holding.{shared-after, after-at, begun}
 
@@ -74,7 +75,7 @@ module _ {n : ℕ} {s : Shared} (is : IsShared n s) where
       (21 when outOfRange e ∷ (tableRows m (s .readings) ++ sharedRows e d m t (s .owners))) tt tt
       ∙ ap (λ (k : ℕ). firstOf tableOrder (triangleRows m t) or cond (outOfRange e) 21 0 or k) rest
       ∙ sym (refusal-append tableOrder deskOrder (triangleRows m t)
-      (21 when outOfRange e ∷ (otherDegreeRows n m ++ deskRows d ++ ownedRows e d o)) tt tt)
+      (21 when outOfRange e ∷ (otherDegreeRows n m ++ deskRows d ++ ownerRows e d o)) tt tt)
     where
       o : ℕ
       o = ownerAt t (s .owners)
@@ -86,9 +87,9 @@ module _ {n : ℕ} {s : Shared} (is : IsShared n s) where
       go false k = refl
 
       rest : inTurn (tableRows m (s .readings) ++ sharedRows e d m t (s .owners))
-          ≡ inTurn (otherDegreeRows n m ++ deskRows d ++ ownedRows e d o)
+          ≡ inTurn (otherDegreeRows n m ++ deskRows d ++ ownerRows e d o)
       rest = rw (is .table .long, same-places m n, is .table .good, is .long, same-places m n, is .good)
-          (go (eqb m n) (inTurn (ownedRows e d o)))
+          (go (eqb m n) (inTurn (ownerRows e d o)))
 
 -- ---- what the map does not refuse
 
@@ -101,7 +102,7 @@ deed-not-23 : (n : ℕ) (e : Deed) (d m : ℕ) (t : TriangleCode) (o : ℕ)
     → refuseDeedOnMap n e d m t o ≡ 23 → ⊥
 unfolding refuseDeedOnMap
 deed-not-23 n e d m t o =
-    not-given deskOrder (mapRows n (outOfRange e) m t ++ deskRows d ++ ownedRows e d o) 22 tt
+    not-given deskOrder (mapRows n (outOfRange e) m t ++ deskRows d ++ ownerRows e d o) 22 tt
 
 -- a code that it does not refuse is one of the table's
 rows-good : (n : ℕ) (out : Bool) (m : ℕ) (t : TriangleCode) → firstOf tableOrder (mapRows n out m t) ≡ 0
@@ -123,16 +124,16 @@ record Good (n : ℕ) (e : Deed) (d : ℕ) (t : TriangleCode) : Type 0 where
 
 module _ (n : ℕ) (e : Deed) (d m : ℕ) (t : TriangleCode) where
   in-two : (o : ℕ) → refuseDeedOnMap n e d m t o
-      ≡ firstOf tableOrder (mapRows n (outOfRange e) m t) or inTurn (deskRows d ++ ownedRows e d o)
+      ≡ firstOf tableOrder (mapRows n (outOfRange e) m t) or inTurn (deskRows d ++ ownerRows e d o)
   unfolding refuseDeedOnMap
   in-two o =
-      refusal-append tableOrder deskOrder (mapRows n (outOfRange e) m t) (deskRows d ++ ownedRows e d o) tt tt
+      refusal-append tableOrder deskOrder (mapRows n (outOfRange e) m t) (deskRows d ++ ownerRows e d o) tt tt
 
   deed-good : (o : ℕ) → refuseDeedOnMap n e d m t o ≡ 0 → Good n e d t
   unfolding refuseDeedOnMap
   deed-good o q =
       let rows = mapRows n (outOfRange e) m t in
-      let z = none-after tableOrder deskOrder rows (deskRows d ++ ownedRows e d o) tt tt .0 q in
+      let z = none-after tableOrder deskOrder rows (deskRows d ++ ownerRows e d o) tt tt .0 q in
       let g = rows-good n (outOfRange e) m t (z .0) in
       record { code = g .0; inRange = g .1; desk = not-false _ (z .1 .0) }
 
@@ -145,8 +146,8 @@ module _ (n : ℕ) (e : Deed) (d m : ℕ) (t : TriangleCode) where
       ∙ sym (in-two p)
     where
       go : (f : ℕ) → (f ≡ 0 → o ≡ p)
-          → f or inTurn (deskRows d ++ ownedRows e d o) ≡ f or inTurn (deskRows d ++ ownedRows e d p)
-      go zero h = ap (λ (x : ℕ). inTurn (deskRows d ++ ownedRows e d x)) (h refl)
+          → f or inTurn (deskRows d ++ ownerRows e d o) ≡ f or inTurn (deskRows d ++ ownerRows e d p)
+      go zero h = ap (λ (x : ℕ). inTurn (deskRows d ++ ownerRows e d x)) (h refl)
       go (suc f) h = refl
 
 -- ---- one call, on a table and on what it has for the call's triangle
@@ -246,21 +247,22 @@ as-map {n} {s} {map} a cs = alike onTable (onMap n) (Agree n) turns cs s map a
 
 -- ---- a table, by its rows
 
+is-table : (n : ℕ) (list : List ℤ) → n ≤ 6 → IsTable n list ↔ (firstOf tableOrder (tableRows n list) ≡ 0)
+is-table n list l = (
+  λ is. none-so tableOrder (tableRows n list) tt .1 (list-good n list .1 (is .long, is .good)),
+  λ e. let g = list-good n list .0 (none-so tableOrder (tableRows n list) tt .0 e) in
+      record { degree = l; long = g .0; good = g .1 },
+)
+
 is-shared : (n : ℕ) (s : Shared) → n ≤ 6
-    → IsShared n s ↔ (firstOf deskOrder (tableRows n (s .readings) ++ ownersRows n (s .owners)) ≡ 0)
+    → IsShared n s ↔ (firstOf deskOrder (tableRows n (s .readings) ++ ownerListRows n (s .owners)) ≡ 0)
 is-shared n s l =
-    let rows = tableRows n (s .readings) ++ ownersRows n (s .owners) in (
-      λ is. none-so deskOrder rows tt .1 (
-        rw (eq-eqb (length (s .readings)) (places n) (is .table .long)) refl,
-        (is .table .good, (rw (eq-eqb (length (s .owners)) (places n) (is .long), is .good) refl, tt)),
-      ),
-      λ e. let z = none-so deskOrder rows tt .0 e in
-          let k = either-false (not (eqb (length (s .owners)) (places n))) (anyOther (s .owners)) .0 (z .1 .1 .0) in
-          record {
-            table = record { degree = l; long = eqb-true _ _ (not-false _ (z .0)); good = z .1 .0 };
-            long = eqb-true _ _ (not-false _ (k .0));
-            good = k .1;
-          },
+    let rows = tableRows n (s .readings) in
+    let both = none-after tableOrder deskOrder rows (ownerListRows n (s .owners)) tt tt in (
+      λ is. both .1 (is-table n (s .readings) l .0 (is .table), owners-good n (s .owners) .1 (is .long, is .good)),
+      λ e. let z = both .0 e in
+          let g = owners-good n (s .owners) .0 (z .1) in
+          record { table = is-table n (s .readings) l .1 (z .0); long = g .0; good = g .1 },
     )
 
 pub simple-map : SimpleMap
@@ -270,6 +272,7 @@ simple-map = record {
       (sym (known-settled (refuseGet n t (s .readings)) (found t (s .readings)) (refusedGet (s .readings)) r p));
   deed = λ e d n t s r new p.
       ap doing (sym (known-settled (refuseDeed e d n t s) (carriedOut e d t s) (refusedDeed s) (r, new) p));
+  isTable = is-table;
   isShared = is-shared;
   opened = λ n s is cs. as-map (record { is = is; same = λ u c. refl }) cs;
   begun = begun;

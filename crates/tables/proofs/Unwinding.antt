@@ -6,16 +6,14 @@ use mathlib.Core.List.{List, [], _∷_, _++_}
 use Prim.Native.Nat.{ℕ, zero, suc}
 use borrow.Author.Tests.{eqb-true, eq-eqb, ne-eqb}
 use lib.Dec.{eqb}
-use lib.Seq.{getD-set-same}
 use Rattle.frame.specs.Lists.{those}
 use Rattle.frame.specs.Answers.{settled}
 use Rattle.frame.proofs.Scanning.{those-within}
 use Rattle.frame.proofs.Refusing.{none-after}
 use Rattle.words.specs.Refusals.{IsCode}
-use Rattle.words.specs.Counting.{placeOf}
 use Rattle.words.specs.declared.TriangleCode.{TriangleCode}
 use Rattle.tables.specs.Owners.{nobody, isDesk, ownerAt, Shared, IsShared, Held, heldAt, heldAfter}
-use Rattle.tables.specs.Refusals.{tableOrder, deskOrder, outOfRange, deskRows, ownedRows, refuseDeed}
+use Rattle.tables.specs.Refusals.{tableOrder, deskOrder, outOfRange, deskRows, ownerRows, refuseDeed}
 use Rattle.tables.specs.Answers.{tableAnswer}
 use Rattle.tables.specs.Histories.{Call, asks, does, Answered, done, after, onTable}
 use Rattle.tables.specs.Histories.{mapRows, refuseDeedOnMap, onHeld, triangleOf}
@@ -27,6 +25,7 @@ use Rattle.tables.specs.declared.TableAnswer.{TableAnswer}
 use Rattle.tables.proofs.Numbers.{desk-not-nobody}
 use Rattle.tables.proofs.Deeds.{deed-passed}
 use Rattle.tables.proofs.SimpleMaps.{turned}
+use Rattle.tables.proofs.Ownership.{owner-there}
 
 -- ---- calls about a triangle
 
@@ -101,7 +100,7 @@ others-refused : (n : ℕ) (e : Deed) (by m : ℕ) (u : TriangleCode) (o : ℕ) 
     → (by ≡ o → ⊥) → refuseDeedOnMap n e by m u o ≡ 0 → ⊥
 unfolding refuseDeedOnMap
 others-refused n e by m u o b q z =
-    let rows = deskRows by ++ ownedRows e by o in
+    let rows = deskRows by ++ ownerRows e by o in
     let k : (not (eqb o nobody) && not (eqb o by)) ≡ false =
     none-after tableOrder deskOrder (mapRows n (outOfRange e) m u) rows tt tt .0 z .1 .1 .0 in
     true≢false (rw (ne-eqb o nobody (desk-not-nobody o b), ne-eqb o by (λ w. q (sym w))) at k)
@@ -176,8 +175,7 @@ after-shared (c ∷ cs) s is =
 
 taken : (d n : ℕ) (t : TriangleCode) (s : Shared) → IsShared n s → IsCode n t → refuseDeed Taking d n t s ≡ 0
     → ownerAt t (onTable (does Taking d n t) s .1 .owners) ≡ d
-taken d n t s is c z =
-    rw z (getD-set-same (s .owners) (placeOf t) d nobody (deed-passed Taking d n t s z .inOwners))
+taken d n t s is c z = rw z (owner-there Taking d n t s z)
 
 pub apart : Apart
 apart = record {

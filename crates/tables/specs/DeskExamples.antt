@@ -1,6 +1,6 @@
 -- Document 02, 2026-07: what two strangers would try, each refusal at its bound, and wrong answers. Assumes nothing.
 use mathlib.Core.Path.{_≡_}
-use mathlib.Core.List.{[], _∷_}
+use mathlib.Core.List.{List, [], _∷_}
 use Prim.Native.Nat.{ℕ}
 use lib.IntN.{pos}
 use lib.ListN.{set, replicate}
@@ -10,17 +10,22 @@ use Rattle.tables.specs.Tables.{none, fresh}
 use Rattle.tables.specs.Owners.{Shared, shared, freshShared}
 use Rattle.tables.specs.Refusals.{refuseGet, refuseDeed}
 use Rattle.tables.specs.Answers.{tableAnswer, TakeAnswer, SetAnswer, ClearAnswer, GiveAnswer}
-use Rattle.tables.specs.Histories.{Call, does, Answered, done, answers, after, onTable, seen}
+use Rattle.tables.specs.Histories.{Call, does, Answered, done, answers, after, onTable}
+use Rattle.tables.specs.Histories.{callsAbout, without, seen}
 use Rattle.tables.specs.Examples.{takes, sets, clears, gets, ok, nothing, millimetres, bad}
 use Rattle.tables.specs.declared.Deed.the-variants.{Taking, Setting, Clearing, Giving}
 
 -- ---- how examples are written
 
-abbrev pub gives : (desk degree code : ℕ) → Call
-gives d n s = does Giving d n (written s)
+abbrev pub givesBack : (desk degree code : ℕ) → Call
+givesBack d n s = does Giving d n (written s)
 
 abbrev pub no : (refusal : ℕ) → Answered
 no f = done (tableAnswer f 0)
+
+-- calls of both desks about 100 and 101
+abbrev pub morning : List Call
+morning = takes 1 0 100 ∷ takes 2 0 100 ∷ takes 1 0 101 ∷ gets 2 0 101 ∷ gets 1 0 100 ∷ []
 
 -- a table of degree 0: 100 is the ice desk's with the reading 5, 101 the pilotage desk's with 6, 110 nobody's with 7
 abbrev pub three : Shared
@@ -32,8 +37,8 @@ pub record Examples : Type 0 where
   pub day :
       answers onTable
       (sets 1 0 100 5 ∷ takes 1 0 100 ∷ sets 1 0 100 5
-      ∷ takes 2 0 100 ∷ sets 2 0 100 9 ∷ clears 2 0 100 ∷ gives 2 0 100 ∷ gets 2 0 100
-      ∷ takes 1 0 100 ∷ gets 1 0 100 ∷ gives 1 0 100 ∷ gets 1 0 100 ∷ gives 1 0 100
+      ∷ takes 2 0 100 ∷ sets 2 0 100 9 ∷ clears 2 0 100 ∷ givesBack 2 0 100 ∷ gets 2 0 100
+      ∷ takes 1 0 100 ∷ gets 1 0 100 ∷ givesBack 1 0 100 ∷ gets 1 0 100 ∷ givesBack 1 0 100
       ∷ takes 2 0 100 ∷ gets 2 0 100 ∷ sets 1 0 100 5 ∷ [])
       (freshShared 0)
       ≡ no 27 ∷ ok ∷ ok
@@ -44,17 +49,20 @@ pub record Examples : Type 0 where
   -- does elsewhere, and not what comes later
   pub sees :
       seen onTable 1 (written 100)
-      (takes 2 0 100 ∷ sets 1 0 100 5 ∷ sets 2 0 100 9 ∷ gives 2 0 100 ∷ gets 2 0 100 ∷ gets 1 0 100
-      ∷ takes 1 0 101 ∷ sets 1 0 100 100001 ∷ gives 1 0 100
+      (takes 2 0 100 ∷ sets 1 0 100 5 ∷ sets 2 0 100 9 ∷ givesBack 2 0 100 ∷ gets 2 0 100 ∷ gets 1 0 100
+      ∷ takes 1 0 101 ∷ sets 1 0 100 100001 ∷ givesBack 1 1 100 ∷ givesBack 1 0 100
       ∷ takes 2 0 100 ∷ sets 2 0 100 9 ∷ gets 1 0 100 ∷ [])
       (after onTable (takes 1 0 100 ∷ []) (freshShared 0))
-      ≡ ok ∷ millimetres 5 ∷ no 21 ∷ ok ∷ []
+      ≡ ok ∷ millimetres 5 ∷ no 21 ∷ no 20 ∷ ok ∷ []
+  -- the calls that are left without the pilotage desk's, and those of the ice desk about 100
+  pub others-left-out : without 2 morning ≡ takes 1 0 100 ∷ takes 1 0 101 ∷ gets 1 0 100 ∷ []
+  pub about-100 : callsAbout 1 (written 100) morning ≡ takes 1 0 100 ∷ gets 1 0 100 ∷ []
   -- "what it finds on taking may" depend on the other desk: a reading that came with the table is gone when the
   -- pilotage desk has taken the triangle and given it back
   pub finds : answers onTable (takes 1 0 110 ∷ gets 1 0 110 ∷ []) three ≡ ok ∷ millimetres 7 ∷ []
   pub finds-none :
       answers onTable (takes 1 0 110 ∷ gets 1 0 110 ∷ [])
-      (after onTable (takes 2 0 110 ∷ gives 2 0 110 ∷ []) three) ≡ ok ∷ nothing ∷ []
+      (after onTable (takes 2 0 110 ∷ givesBack 2 0 110 ∷ []) three) ≡ ok ∷ nothing ∷ []
   -- each call on its own, and what it leaves
   pub take-free : TakeAnswer 1 0 (written 110) three
       leaves (tableAnswer 0 0, shared (three .readings) (1 ∷ 2 ∷ 1 ∷ replicate 17 0))

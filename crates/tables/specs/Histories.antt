@@ -11,7 +11,7 @@ use Rattle.frame.specs.Lists.{those}
 use Rattle.words.specs.declared.TriangleCode.{TriangleCode}
 use Rattle.tables.specs.Owners.{nobody, Shared, Held, held, heldAt, heldAfter, isGiving}
 use Rattle.tables.specs.Refusals.{tableOrder, triangleRows, outOfRange, refuseGet}
-use Rattle.tables.specs.Refusals.{deskOrder, deskRows, ownedRows, refuseDeed}
+use Rattle.tables.specs.Refusals.{deskOrder, deskRows, ownerRows, refuseDeed}
 use Rattle.tables.specs.Answers.{tableAnswer, soundingAnswer, refusedGet, found, carriedOut, refusedDeed}
 use Rattle.tables.specs.declared.Sounding.the-variants.{Nothing}
 use Rattle.tables.specs.declared.Deed.{Deed}
@@ -74,7 +74,7 @@ refuseGetOnMap n m t = firstOf tableOrder (mapRows n false m t)
 
 unfoldable pub refuseDeedOnMap : (table : ℕ) → Deed → (desk degree : ℕ) → TriangleCode → (owner : ℕ)
     → ℕ
-refuseDeedOnMap n e d m t o = firstOf deskOrder (mapRows n (outOfRange e) m t ++ deskRows d ++ ownedRows e d o)
+refuseDeedOnMap n e d m t o = firstOf deskOrder (mapRows n (outOfRange e) m t ++ deskRows d ++ ownerRows e d o)
 
 -- a call's answer by what the map has for its triangle, and what that is then
 abbrev pub onHeld : (table : ℕ) → Call → Held → Answered × Held

@@ -11,9 +11,10 @@ use Rattle.frame.specs.Promises.{Keeps, KeepsLent}
 use Rattle.words.specs.Refusals.{IsCode}
 use Rattle.words.specs.Counting.{codeAt, placeOf}
 use Rattle.words.specs.declared.TriangleCode.{TriangleCode}
-use Rattle.tables.specs.Tables.{places, isReading, none, isBad, number, numberAt}
+use Rattle.tables.specs.Tables.{places, isReading, none, isBad, IsTable, number, numberAt}
 use Rattle.tables.specs.Owners.{nobody, isDesk, ownerAt, Shared, IsShared, freshShared, heldAt, isTaking}
-use Rattle.tables.specs.Refusals.{deskOrder, outOfRange, tableRows, ownersRows, refuseGet, refuseDeed}
+use Rattle.tables.specs.Refusals.{tableOrder, deskOrder, outOfRange, tableRows, ownerListRows}
+use Rattle.tables.specs.Refusals.{refuseGet, refuseDeed}
 use Rattle.tables.specs.Answers.{refused, refusedGet, GetAnswer}
 use Rattle.tables.specs.Answers.{DeedAnswer, TakeAnswer, SetAnswer, ClearAnswer, GiveAnswer}
 use Rattle.tables.specs.Histories.{Call, asks, does, got, done, answers, after, onTable, mapOf, empty, onMap}
@@ -82,8 +83,10 @@ pub record SimpleMap : Type 0 where
   pub deed : (e : Deed) (d n : ℕ) (t : TriangleCode) (s : Shared) (r : TableAnswer) (new : Shared)
       → DeedAnswer e d n t s r new → onTable (does e d n t) s ≡ (done r, new)
   -- from any table, as the map that it holds
+  pub isTable : (n : ℕ) (list : List ℤ) → n ≤ 6
+      → IsTable n list ↔ (firstOf tableOrder (tableRows n list) ≡ 0)
   pub isShared : (n : ℕ) (s : Shared) → n ≤ 6
-      → IsShared n s ↔ (firstOf deskOrder (tableRows n (s .readings) ++ ownersRows n (s .owners)) ≡ 0)
+      → IsShared n s ↔ (firstOf deskOrder (tableRows n (s .readings) ++ ownerListRows n (s .owners)) ≡ 0)
   pub opened : (n : ℕ) (s : Shared) → IsShared n s → (cs : List Call)
       → answers onTable cs s ≡ answers (onMap n) cs (mapOf s)
   -- from a fresh one, as the empty map
@@ -93,16 +96,16 @@ pub record SimpleMap : Type 0 where
 
 -- ---- 2026-07
 
--- A call that can be refused for the triangle's owner alone.
+-- A call that nothing but the triangle's owner can refuse.
 pub record Admitted (e : Deed) (d n : ℕ) (t : TriangleCode) (s : Shared) : Type 0 where
-  pub table : IsShared n s
+  pub lists : IsShared n s
   pub code : IsCode n t
   pub desk : isDesk d ≡ true
   pub inRange : outOfRange e ≡ false
 
 -- "A desk takes a free triangle, sets or clears only its own, and gives it back."
 pub record Owning : Type 0 where
-  pub takes : (d n : ℕ) (t : TriangleCode) (s : Shared) → Admitted Taking d n t s
+  pub takesFree : (d n : ℕ) (t : TriangleCode) (s : Shared) → Admitted Taking d n t s
       → ownerAt t (s .owners) ≡ nobody → refuseDeed Taking d n t s ≡ 0
   pub own : (e : Deed) (d n : ℕ) (t : TriangleCode) (s : Shared) → Admitted e d n t s
       → ownerAt t (s .owners) ≡ d → refuseDeed e d n t s ≡ 0
@@ -119,18 +122,20 @@ pub record Owning : Type 0 where
   pub takingOwn : (d n : ℕ) (t : TriangleCode) (s : Shared) (r : TableAnswer) (new : Shared)
       → TakeAnswer d n t s r new → ownerAt t (s .owners) ≡ d → new ≡ s
   -- "taking a free one keeps its reading"
-  pub taking : (d n : ℕ) (t : TriangleCode) (s : Shared) (r : TableAnswer) (new : Shared)
+  pub taken : (d n : ℕ) (t : TriangleCode) (s : Shared) (r : TableAnswer) (new : Shared)
       → TakeAnswer d n t s r new → r .refusal ≡ 0
       → (ownerAt t (new .owners) ≡ d) × (new .readings ≡ s .readings)
   -- "giving back clears it."
-  pub giving : (d n : ℕ) (t : TriangleCode) (s : Shared) (r : TableAnswer) (new : Shared)
+  pub givenBack : (d n : ℕ) (t : TriangleCode) (s : Shared) (r : TableAnswer) (new : Shared)
       → GiveAnswer d n t s r new → r .refusal ≡ 0
       → (ownerAt t (new .owners) ≡ nobody) × (numberAt t (new .readings) ≡ none)
-  -- setting and clearing leave all owners
-  pub setting : (d n : ℕ) (t : TriangleCode) (x : ℤ) (s : Shared) (r : TableAnswer) (new : Shared)
-      → SetAnswer d n t x s r new → new .owners ≡ s .owners
-  pub clearing : (d n : ℕ) (t : TriangleCode) (s : Shared) (r : TableAnswer) (new : Shared)
-      → ClearAnswer d n t s r new → new .owners ≡ s .owners
+  -- setting and clearing leave just that, and all owners as they were
+  pub set : (d n : ℕ) (t : TriangleCode) (x : ℤ) (s : Shared) (r : TableAnswer) (new : Shared)
+      → SetAnswer d n t x s r new → r .refusal ≡ 0
+      → (numberAt t (new .readings) ≡ x) × (new .owners ≡ s .owners)
+  pub cleared : (d n : ℕ) (t : TriangleCode) (s : Shared) (r : TableAnswer) (new : Shared)
+      → ClearAnswer d n t s r new → r .refusal ≡ 0
+      → (numberAt t (new .readings) ≡ none) × (new .owners ≡ s .owners)
   -- and no call touches another triangle
   pub elsewhere : (e : Deed) (d n : ℕ) (t : TriangleCode) (s : Shared) (r : TableAnswer) (new : Shared)
       → DeedAnswer e d n t s r new → (u : TriangleCode) → IsCode n u → (u ≡ t → ⊥)

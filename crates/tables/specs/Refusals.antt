@@ -57,16 +57,16 @@ abbrev pub deskRows : (desk : ℕ) → List Row
 deskRows d = 24 when not (isDesk d) ∷ []
 
 -- "25 owner list malformed (wrong length or another number)"
-abbrev pub ownersRows : (degree : ℕ) → List ℕ → List Row
-ownersRows n owners = 25 when (not (eqb (length owners) (places n)) either anyOther owners) ∷ []
+abbrev pub ownerListRows : (degree : ℕ) → List ℕ → List Row
+ownerListRows n owners = 25 when (not (eqb (length owners) (places n)) either anyOther owners) ∷ []
 
 -- "26 owned by the other desk, 27 not owned": "On another's triangle every call but get is 26; on a free one all but
 -- get and take are 27."
-abbrev pub ownedRows : Deed → (desk owner : ℕ) → List Row
-ownedRows e d o = 26 when (not (eqb o nobody) && not (eqb o d)) ∷ 27 when (eqb o nobody && not (isTaking e)) ∷ []
+abbrev pub ownerRows : Deed → (desk owner : ℕ) → List Row
+ownerRows e d o = 26 when (not (eqb o nobody) && not (eqb o d)) ∷ 27 when (eqb o nobody && not (isTaking e)) ∷ []
 
 abbrev pub sharedRows : Deed → (desk degree : ℕ) → TriangleCode → List ℕ → List Row
-sharedRows e d n t owners = deskRows d ++ ownersRows n owners ++ ownedRows e d (ownerAt t owners)
+sharedRows e d n t owners = deskRows d ++ ownerListRows n owners ++ ownerRows e d (ownerAt t owners)
 
 unfoldable pub refuseDeed : Deed → (desk degree : ℕ) → TriangleCode → Shared → ℕ
 refuseDeed e d n t s =

@@ -10,7 +10,7 @@ use Rattle.words.specs.Counting.{placeOf}
 use Rattle.words.proofs.CodeCount.{place-below}
 use Rattle.tables.specs.Tables.{places}
 use Rattle.tables.specs.Owners.{nobody, isDesk, ownerAt}
-use Rattle.tables.specs.Refusals.{deskOrder, ownedRows}
+use Rattle.tables.specs.Refusals.{deskOrder, ownerRows}
 use Rattle.tables.proofs.Deeds.{not-a-desk, owners-length, owners-other, owners-then}
 use borrow.Author.Needs.{needs}
 use Rattle.soundings.proofs.refuse_shared.Statement.{statement}
@@ -81,7 +81,7 @@ returns-4 c =
     let owners = a .owners .now in
     let q : c .before .wide .result ≡ ownerAt (a .t) owners =
     c .before .wide .ensures ∙ ap (λ (i : ℕ). getD owners i nobody) (p .place-of .ensures) in
-    c .refuse-owner .ensures ∙ ap (λ (x : ℕ). firstOf deskOrder (ownedRows (a .deed) (a .desk) x)) q
+    c .refuse-owner .ensures ∙ ap (λ (x : ℕ). firstOf deskOrder (ownerRows (a .deed) (a .desk) x)) q
     ∙ owners-then (a .deed) (a .desk) (a .degree) (a .t) owners (desk k) (long e)
     (sym (o .any-other .ensures) ∙ p .before .if3 .left)
 

@@ -10,7 +10,16 @@ use grid::TicksAnswer;
 ghost use Prim.Native.Nat.{_+_, _≤_};
 ghost use lib.ListN.{length};
 
-// ---- refusals
+// ---- what is not answered
+
+// How a call is written, by its row of CALLS.
+pub fn put_usage(call: u64, out: &mut [u8]) -> usize
+    requires { ⌜ 8192 ≤ length (now out) ⌝ }
+    ensures { λ r. ⌜ r ≤ 200 ⌝ }
+{
+    let at = lines::put_bytes(b"error: write it as ", out, 0);
+    texts::put_form(call, out, at)
+}
 
 pub fn refused(f: u64, out: &mut [u8]) -> usize
     requires { ⌜ 8192 ≤ length (now out) ⌝ }

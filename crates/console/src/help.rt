@@ -3,7 +3,7 @@ use crate::arguments;
 ghost use Prim.Native.Nat.{_≤_};
 ghost use lib.ListN.{length};
 
-const HELP: [u8; 4777] = *b"The grid of the globe: one call to a line, and one line for its answer.
+const HELP: [u8; 5610] = *b"The grid of the globe: one call to a line, and one line for its answer.
 
   WORD     0x and 1 to 16 hexadecimal digits
   CODE     a triangle code, as 10003 for side 100 and digits 0 and 3; or a WORD
@@ -12,6 +12,7 @@ const HELP: [u8; 4777] = *b"The grid of the globe: one call to a line, and one l
   PLACES   0 to 16: how many places the lent list has. They hold 1, 2, 3 and so on before the call,
            and stand after the answer as the call leaves them
   MM       millimetres, a whole number: a reading is 0 to 100000. FILL, VALUE and NUMBER are whole numbers too
+  DESK     1 for the ice desk, 2 for the pilotage desk. OWNER and FILL of owners: 0 for nobody, or any to 255
 
 Any other number is decimal, or a WORD. A line that begins with # is a remark.
 Under each call stand an example and its answer. A refused call answers its number and the reason.
@@ -83,21 +84,33 @@ sweep DEGREE PLACES [NUMBER]..      files many directions, three numbers each, i
 
 table DEGREE [LENGTH FILL [PLACE VALUE]..]
                                     opens a table of soundings with no readings, of degree 0 to 6; or any
-                                    list of LENGTH numbers, FILL but at each PLACE its VALUE, to try refusals
+                                    list of LENGTH numbers, FILL but at each PLACE its VALUE, to try refusals.
+                                    All its triangles are nobody's
   table 1                           degree 1, 80 places
 
-set CODE MM                         sets a triangle's reading, in millimetres
-  set 1001 1250                     ok
+take DESK CODE                      makes a free triangle the desk's own, with the reading that it has
+  take 1 1001                       ok
 
-get CODE                            its reading
+set DESK CODE MM                    sets the reading of a triangle of the desk's, in millimetres
+  set 1 1001 1250                   ok
+
+get CODE                            a triangle's reading, whosever it is
   get 1001                          1250 mm
   get 1002                          no reading
 
 readings                            how many readings the table has, and each with its triangle
   readings                          1 reading: 1001 1250 mm
 
-clear CODE                          leaves a triangle with no reading
-  clear 1001                        ok
+owners [LENGTH FILL [PLACE OWNER]..]
+                                    how many triangles are owned, and each with its desk; or lays any list of
+                                    LENGTH owners, FILL but at each PLACE its OWNER, to try refusals
+  owners                            1 owned: 1001 desk 1
+
+clear DESK CODE                     leaves a triangle of the desk's with no reading
+  clear 1 1001                      ok
+
+give DESK CODE                      gives a triangle of the desk's back: it is nobody's, and has no reading
+  give 1 1001                       ok
 
 help                                these lines";
 

@@ -1,11 +1,15 @@
 // The console: one line of text to its answer. The first word names a call, the others are its arguments (texts). It
-// holds a table of soundings, which the caller keeps for it: `Held`, and a list of at least 81,921 numbers.
+// holds a table of soundings, which the caller keeps for it: `Held`, and two lists of 81,921 places, of readings and of
+// owners.
 mod answers;
 mod arguments;
 mod calls;
+mod desks;
 mod held;
 mod help;
+mod laying;
 mod lists;
+mod showing;
 mod sweeping;
 mod texts;
 
@@ -14,16 +18,19 @@ ghost use lib.ListN.{length};
 pub use held::Held;
 pub use held::Part;
 pub use held::Reply;
+pub use held::Which;
 
-// The answer of many readings goes on.
-pub use held::go_on;
+// The answer of many places goes on.
+pub use showing::go_on;
 
 // Before the first line no table is open.
 pub fn none_held() -> Held {
     Held {
         open: false,
         degree: 0,
-        length: 0,
+        readings: 0,
+        owners: 0,
+        shown: Which::Readings,
     }
 }
 
@@ -52,15 +59,6 @@ fn unknown(out: &mut [u8]) -> usize
     lines::put_bytes(b"error: no such call; help shows them", out, 0)
 }
 
-// How a call is written.
-fn usage(call: u64, out: &mut [u8]) -> usize
-    requires { ⌜ 8192 ≤ length (now out) ⌝ }
-    ensures { λ r. ⌜ r ≤ 8000 ⌝ }
-{
-    let at = lines::put_bytes(b"error: write it as ", out, 0);
-    texts::put_form(call, out, at)
-}
-
 // The answer of a call, by its row of CALLS, whose arguments stand from a place of a line on; 0 where they cannot
 // be read.
 fn call_answer(call: u64, line: &[u8], at: usize, out: &mut [u8]) -> usize
@@ -79,46 +77,27 @@ fn call_answer(call: u64, line: &[u8], at: usize, out: &mut [u8]) -> usize
         // back
         20 => calls::of_weights(line, at, out),
         // sweep
-        26 => sweeping::answer(line, at, out),
+        21 => sweeping::answer(line, at, out),
         _ => unknown(out),
     }
 }
 
-// The answer of a call on the table.
-fn table_answer(
-    call: u64,
-    line: &[u8],
-    at: usize,
-    held: Held,
-    list: &mut [i32],
-    out: &mut [u8],
-) -> Reply
-    requires { ⌜ (at ≤ length (now line)) × (81921 ≤ length (now list)) × (8192 ≤ length (now out)) ⌝ }
-    ensures { λ r. ⌜ r .size ≤ 8000 ⌝ }
-{
-    let r = held::answer(call, line, at, held, list, out);
-    if r.size == 0 {
-        return held::whole(usage(call, out), held);
-    }
-    r
-}
-
-// The answer of any other call.
+// The answer of a call that needs no table.
 fn plain_answer(call: u64, line: &[u8], at: usize, out: &mut [u8]) -> usize
     requires { ⌜ (at ≤ length (now line)) × (8192 ≤ length (now out)) ⌝ }
     ensures { λ r. ⌜ r ≤ 8000 ⌝ }
 {
     let n = call_answer(call, line, at, out);
     if n == 0 {
-        return usage(call, out);
+        return answers::put_usage(call, out);
     }
     n
 }
 
 // One line to its answer, without the line end: how many bytes of the buffer it takes, and what is held then. No word,
 // or a first word that begins with #: none. Where `rest` is not 0, `go_on` has the next part of the answer.
-pub fn answer(line: &[u8], held: Held, list: &mut [i32], out: &mut [u8]) -> Reply
-    requires { ⌜ (81921 ≤ length (now list)) × (8192 ≤ length (now out)) ⌝ }
+pub fn answer(line: &[u8], held: Held, list: &mut [i32], owners: &mut [u8], out: &mut [u8]) -> Reply
+    requires { ⌜ 8192 ≤ length (now out) ⌝ }
     ensures { λ r. ⌜ r .size ≤ 8000 ⌝ }
 {
     let w = lines::next_word(line, 0);
@@ -132,7 +111,7 @@ pub fn answer(line: &[u8], held: Held, list: &mut [i32], out: &mut [u8]) -> Repl
     }
     let call = texts::call_named(&line[from..end]);
     match call {
-        21..=25 => table_answer(call, line, end, held, list, out),
+        22..=29 => desks::answer(call, line, end, held, list, owners, out),
         _ => held::whole(plain_answer(call, line, end, out), held),
     }
 }

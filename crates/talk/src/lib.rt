@@ -1,6 +1,6 @@
 // The talk at the console: reads lines from standard input, and writes the answer of each to standard output, until the
 // input ends. Where a read or a write fails it stops there, and says so on standard error. It keeps the table that the
-// console holds: `held`, and a list with room for every table.
+// console holds: `held`, and two lists with room for every table, of readings and of owners.
 //
 // No contract can say what is read or written. Proved is that it returns, given that each read and write does, that it
 // stays in its buffers, and that it uses the console by its contract.
@@ -56,8 +56,15 @@ fn make_room(answers: &[u8], p: Progress) -> Progress
 }
 
 // The answer of a line of n bytes, or its first part.
-fn line_answer(line: &[u8], n: usize, held: Held, list: &mut [i32], out: &mut [u8]) -> Reply
-    requires { ⌜ (81921 ≤ length (now list)) × (8192 ≤ length (now out)) ⌝ }
+fn line_answer(
+    line: &[u8],
+    n: usize,
+    held: Held,
+    list: &mut [i32],
+    owners: &mut [u8],
+    out: &mut [u8],
+) -> Reply
+    requires { ⌜ 8192 ≤ length (now out) ⌝ }
     ensures { λ r. ⌜ r .size ≤ 8000 ⌝ }
 {
     if 1000 < n {
@@ -66,12 +73,18 @@ fn line_answer(line: &[u8], n: usize, held: Held, list: &mut [i32], out: &mut [u
     if line.len() < n {
         return console::nothing(held);
     }
-    console::answer(&line[..n], held, list, out)
+    console::answer(&line[..n], held, list, owners, out)
 }
 
 // The other parts of an answer that has them, to the first write that fails.
-fn put_rest(list: &[i32], answers: &mut [u8], before: Progress, rest: usize) -> Progress
-    requires { ⌜ (before .filled ≤ 65536) × (81921 ≤ length (now list)) × (65536 ≤ length (now answers)) ⌝ }
+fn put_rest(
+    list: &[i32],
+    owners: &[u8],
+    answers: &mut [u8],
+    before: Progress,
+    rest: usize,
+) -> Progress
+    requires { ⌜ (before .filled ≤ 65536) × (65536 ≤ length (now answers)) ⌝ }
     ensures { λ r. ⌜ r .filled ≤ 65536 ⌝ }
 {
     let mut p = before;
@@ -83,10 +96,11 @@ fn put_rest(list: &[i32], answers: &mut [u8], before: Progress, rest: usize) -> 
         }
         let at = room.filled;
         let held = room.held;
-        let r = console::go_on(held, left, list, &mut answers[at..]);
+        let r = console::go_on(held, left, list, owners, &mut answers[at..]);
+        let filled = at + r.size;
         p = Progress {
             length: room.length,
-            filled: at + r.size,
+            filled,
             lost: false,
             held,
         };
@@ -96,13 +110,19 @@ fn put_rest(list: &[i32], answers: &mut [u8], before: Progress, rest: usize) -> 
 }
 
 // The answer of the line, whole or its first part and the others.
-fn put_answer(line: &[u8], list: &mut [i32], answers: &mut [u8], p: Progress) -> Progress
-    requires { ⌜ (p .filled ≤ 57000) × (81921 ≤ length (now list)) × (65536 ≤ length (now answers)) ⌝ }
+fn put_answer(
+    line: &[u8],
+    list: &mut [i32],
+    owners: &mut [u8],
+    answers: &mut [u8],
+    p: Progress,
+) -> Progress
+    requires { ⌜ (p .filled ≤ 57000) × (65536 ≤ length (now answers)) ⌝ }
     ensures { λ r. ⌜ r .filled ≤ 65536 ⌝ }
 {
     let at = p.filled;
     let before = p.held;
-    let r = line_answer(line, p.length, before, list, &mut answers[at..]);
+    let r = line_answer(line, p.length, before, list, owners, &mut answers[at..]);
     let held = r.held;
     let first = Progress {
         length: p.length,
@@ -110,7 +130,7 @@ fn put_answer(line: &[u8], list: &mut [i32], answers: &mut [u8], p: Progress) ->
         lost: p.lost,
         held,
     };
-    put_rest(list, answers, first, r.rest)
+    put_rest(list, owners, answers, first, r.rest)
 }
 
 // The line end after an answer, and no byte yet of the next line.
@@ -131,12 +151,18 @@ fn end_answer(answers: &mut [u8], p: Progress) -> Progress
 }
 
 // The line has ended: its answer.
-fn end_line(line: &[u8], list: &mut [i32], answers: &mut [u8], p: Progress) -> Progress
-    requires { ⌜ (p .filled ≤ 65536) × (81921 ≤ length (now list)) × (65536 ≤ length (now answers)) ⌝ }
+fn end_line(
+    line: &[u8],
+    list: &mut [i32],
+    owners: &mut [u8],
+    answers: &mut [u8],
+    p: Progress,
+) -> Progress
+    requires { ⌜ (p .filled ≤ 65536) × (65536 ≤ length (now answers)) ⌝ }
     ensures { λ r. ⌜ r .filled ≤ 65536 ⌝ }
 {
     let room = make_room(answers, p);
-    let answered = put_answer(line, list, answers, room);
+    let answered = put_answer(line, list, owners, answers, room);
     end_answer(answers, answered)
 }
 
@@ -153,15 +179,19 @@ fn add_byte(b: u8, line: &mut [u8], n: usize) -> usize
 }
 
 // One byte of the input.
-fn take_byte(b: u8, line: &mut [u8], list: &mut [i32], answers: &mut [u8], p: Progress) -> Progress
-    requires { ⌜
-        (p .filled ≤ 65536) × (1000 ≤ length (now line)) × (81921 ≤ length (now list))
-        × (65536 ≤ length (now answers))
-        ⌝ }
+fn take_byte(
+    b: u8,
+    line: &mut [u8],
+    list: &mut [i32],
+    owners: &mut [u8],
+    answers: &mut [u8],
+    p: Progress,
+) -> Progress
+    requires { ⌜ (p .filled ≤ 65536) × (1000 ≤ length (now line)) × (65536 ≤ length (now answers)) ⌝ }
     ensures { λ r. ⌜ r .filled ≤ 65536 ⌝ }
 {
     if b == b'\n' {
-        return end_line(line, list, answers, p);
+        return end_line(line, list, owners, answers, p);
     }
     let held = p.held;
     Progress {
@@ -177,19 +207,17 @@ fn take(
     chunk: &[u8],
     line: &mut [u8],
     list: &mut [i32],
+    owners: &mut [u8],
     answers: &mut [u8],
     before: Progress,
 ) -> Progress
-    requires { ⌜
-        (before .filled ≤ 65536) × (1000 ≤ length (now line)) × (81921 ≤ length (now list))
-        × (65536 ≤ length (now answers))
-        ⌝ }
+    requires { ⌜ (before .filled ≤ 65536) × (1000 ≤ length (now line)) × (65536 ≤ length (now answers)) ⌝ }
     ensures { λ r. ⌜ r .filled ≤ 65536 ⌝ }
 {
     let mut p = before;
     let mut i = 0;
     while i < chunk.len() {
-        p = take_byte(chunk[i], line, list, answers, p);
+        p = take_byte(chunk[i], line, list, owners, answers, p);
         if p.lost {
             return p;
         }
@@ -230,24 +258,32 @@ fn answer_chunk(
     chunk: &[u8],
     line: &mut [u8],
     list: &mut [i32],
+    owners: &mut [u8],
     answers: &mut [u8],
     n: usize,
     held: Held,
 ) -> Outcome
-    requires { ⌜ (1000 ≤ length (now line)) × (81921 ≤ length (now list)) × (65536 ≤ length (now answers)) ⌝ }
+    requires { ⌜ (1000 ≤ length (now line)) × (65536 ≤ length (now answers)) ⌝ }
 {
-    let p = take(chunk, line, list, answers, begun(n, held));
+    let p = take(chunk, line, list, owners, answers, begun(n, held));
     flush(answers, p)
 }
 
 // The input has ended after n bytes of a line: a last line without its end.
-fn finish(line: &[u8], list: &mut [i32], answers: &mut [u8], n: usize, held: Held) -> Outcome
-    requires { ⌜ (81921 ≤ length (now list)) × (65536 ≤ length (now answers)) ⌝ }
+fn finish(
+    line: &[u8],
+    list: &mut [i32],
+    owners: &mut [u8],
+    answers: &mut [u8],
+    n: usize,
+    held: Held,
+) -> Outcome
+    requires { ⌜ 65536 ≤ length (now answers) ⌝ }
 {
     if n == 0 {
         return Outcome::End;
     }
-    let p = end_line(line, list, answers, begun(n, held));
+    let p = end_line(line, list, owners, answers, begun(n, held));
     let last = flush(answers, p);
     let Outcome::Line(_, _) = last else {
         return last;
@@ -260,11 +296,12 @@ fn turn(
     chunk: &mut [u8],
     line: &mut [u8],
     list: &mut [i32],
+    owners: &mut [u8],
     answers: &mut [u8],
     n: usize,
     held: Held,
 ) -> Outcome
-    requires { ⌜ (1000 ≤ length (now line)) × (81921 ≤ length (now list)) × (65536 ≤ length (now answers)) ⌝ }
+    requires { ⌜ (1000 ≤ length (now line)) × (65536 ≤ length (now answers)) ⌝ }
 {
     let read = libc::read(0, chunk);
     if read < 0 {
@@ -272,21 +309,27 @@ fn turn(
     }
     let got = io::count(read, chunk);
     if got == 0 {
-        return finish(line, list, answers, n, held);
+        return finish(line, list, owners, answers, n, held);
     }
-    answer_chunk(&chunk[..got], line, list, answers, n, held)
+    answer_chunk(&chunk[..got], line, list, owners, answers, n, held)
 }
 
 // Turn after turn, to the end of the input or to what failed.
-fn all_turns(chunk: &mut [u8], line: &mut [u8], list: &mut [i32], answers: &mut [u8]) -> Outcome
-    requires { ⌜ (1000 ≤ length (now line)) × (81921 ≤ length (now list)) × (65536 ≤ length (now answers)) ⌝ }
+fn all_turns(
+    chunk: &mut [u8],
+    line: &mut [u8],
+    list: &mut [i32],
+    owners: &mut [u8],
+    answers: &mut [u8],
+) -> Outcome
+    requires { ⌜ (1000 ≤ length (now line)) × (65536 ≤ length (now answers)) ⌝ }
 {
     let mut n = 0;
     let mut held = console::none_held();
     // No input lasts for so many.
     let mut turns: u64 = 18446744073709551615;
     while 0 < turns {
-        let t = turn(chunk, line, list, answers, n, held);
+        let t = turn(chunk, line, list, owners, answers, n, held);
         let Outcome::Line(so_far, now_held) = t else {
             return t;
         };
@@ -315,7 +358,8 @@ pub fn answer_lines() {
     let mut chunk = io::large_buffer();
     let mut line = io::buffer();
     let mut list = [0i32; 81921];
+    let mut owners = [0u8; 81921];
     let mut answers = io::large_buffer();
-    let last = all_turns(&mut chunk, &mut line, &mut list, &mut answers);
+    let last = all_turns(&mut chunk, &mut line, &mut list, &mut owners, &mut answers);
     tell(last);
 }

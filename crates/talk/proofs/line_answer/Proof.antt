@@ -23,7 +23,7 @@ returns-2 c = search needs
 
 slice-aggregate-answer : tie.Need-slice-aggregate-answer
 slice-aggregate-answer c =
-    let s = c .before .before .before .before .before in
+    let s = c .before .before .before .before .before .before in
     sym (length-take-le (s .args .n) (now (s .args .line)) (c .before .if2 .left))
 
 answer-requires : tie.Need-answer-requires
@@ -34,6 +34,9 @@ same-length-2 c = search needs
 
 same-length-3 : tie.Need-same-length-3
 same-length-3 c = search needs
+
+same-length-4 : tie.Need-same-length-4
+same-length-4 c = search needs
 
 returns-3 : tie.Need-returns-3
 returns-3 c = search needs
@@ -51,4 +54,5 @@ line-answer-spec =
     answer-requires
     same-length-2
     same-length-3
+    same-length-4
     returns-3)

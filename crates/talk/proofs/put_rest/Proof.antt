@@ -8,11 +8,11 @@ use Rattle.talk.proofs.put_rest.Statement.{statement}
 use Rattle.talk.proofs.put_rest.Tie as tie
 
 abbrev Inv-loop : tie.InvT-loop
-Inv-loop list answers₀ rest p₀ left₀ answers p left =
+Inv-loop list owners answers₀ rest p₀ left₀ answers p left =
     (p .filled ≤ 65536) × (length answers ≡ length answers₀)
 
 abbrev μ-loop : tie.MeasureT-loop
-μ-loop list answers₀ rest p₀ left₀ answers p left = left
+μ-loop list owners answers₀ rest p₀ left₀ answers p left = left
 
 loop-holds : tie.Need-loop-holds Inv-loop μ-loop
 loop-holds c = search needs
@@ -38,8 +38,8 @@ part-go-on-end c = search needs
 go-on-requires : tie.Need-go-on-requires Inv-loop μ-loop
 go-on-requires c κs = search needs
 
-add-t15 : tie.Need-add-t15 Inv-loop μ-loop
-add-t15 c = search needs
+add-filled : tie.Need-add-filled Inv-loop μ-loop
+add-filled c = search needs
 
 loop-less : tie.Need-loop-less Inv-loop μ-loop
 loop-less c = search needs
@@ -67,7 +67,7 @@ put-rest-spec =
     part-go-on-start
     part-go-on-end
     go-on-requires
-    add-t15
+    add-filled
     loop-less
     loop-again
     same-length-2

@@ -1,4 +1,4 @@
--- `talk::take` is safe and ends. The loop's invariant: the answers so far fit, and the three lists have their lengths.
+-- `talk::take` is safe and ends. The loop's invariant: the answers so far fit, and the four lists have their lengths.
 -- The measure is what is left of the chunk. Assumes nothing.
 use mathlib.Core.Path.{_≡_}
 use Prim.Native.Nat.{_≤_, _-_}
@@ -8,12 +8,12 @@ use Rattle.talk.proofs.take.Statement.{statement}
 use Rattle.talk.proofs.take.Tie as tie
 
 abbrev Inv-loop : tie.InvT-loop
-Inv-loop chunk line₀ list₀ answers₀ p₀ i₀ line list answers p i =
+Inv-loop chunk line₀ list₀ owners₀ answers₀ p₀ i₀ line list owners answers p i =
     (p .filled ≤ 65536) × (length line ≡ length line₀) × (length list ≡ length list₀)
-    × (length answers ≡ length answers₀)
+    × (length owners ≡ length owners₀) × (length answers ≡ length answers₀)
 
 abbrev μ-loop : tie.MeasureT-loop
-μ-loop chunk line₀ list₀ answers₀ p₀ i₀ line list answers p i = length chunk - i
+μ-loop chunk line₀ list₀ owners₀ answers₀ p₀ i₀ line list owners answers p i = length chunk - i
 
 loop-holds : tie.Need-loop-holds Inv-loop μ-loop
 loop-holds c = search needs
@@ -33,6 +33,9 @@ same-length-2 c = search needs
 same-length-3 : tie.Need-same-length-3 Inv-loop μ-loop
 same-length-3 c = search needs
 
+same-length-4 : tie.Need-same-length-4 Inv-loop μ-loop
+same-length-4 c = search needs
+
 returns : tie.Need-returns Inv-loop μ-loop
 returns c = search needs
 
@@ -45,14 +48,17 @@ loop-less c = search needs
 loop-again : tie.Need-loop-again Inv-loop μ-loop
 loop-again c = search needs
 
-same-length-4 : tie.Need-same-length-4 Inv-loop μ-loop
-same-length-4 c = search needs
-
 same-length-5 : tie.Need-same-length-5 Inv-loop μ-loop
 same-length-5 c = search needs
 
 same-length-6 : tie.Need-same-length-6 Inv-loop μ-loop
 same-length-6 c = search needs
+
+same-length-7 : tie.Need-same-length-7 Inv-loop μ-loop
+same-length-7 c = search needs
+
+same-length-8 : tie.Need-same-length-8 Inv-loop μ-loop
+same-length-8 c = search needs
 
 returns-2 : tie.Need-returns-2 Inv-loop μ-loop
 returns-2 c = search needs
@@ -69,11 +75,13 @@ take-spec =
     same-length
     same-length-2
     same-length-3
+    same-length-4
     returns
     add-i
     loop-less
     loop-again
-    same-length-4
     same-length-5
     same-length-6
+    same-length-7
+    same-length-8
     returns-2)

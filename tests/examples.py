@@ -1,11 +1,12 @@
 #!/usr/bin/env python3
-"""Every example of README.md, of docs/CONSOLE.md and of the console's help is compared by the gate.
+"""Every example of README.md, docs/CONSOLE.md, docs/DESKS.md and of the console's help is compared by the gate.
 
 `rt ci` runs the console on the calls of crates/plot_main/stdin and holds what it writes to crates/plot_main/stdout. The
 first call is help; every line after it has one line as its answer. Here each example must stand there with just that
 answer, or, where a document cuts the answer short by ` ..`, with one that begins so. Calls on a table of soundings work
-on what the calls before them left: those of one example must stand there one after the other. Each call must have one
-form, in the console's table, in the help and in the table of docs/CONSOLE.md, and all but help an example in the help.
+on what the calls before them left: those of one example must stand there one after the other, and so must all calls of
+docs/DESKS.md. Each call must have one form, in the console's table, in the help and in the table of docs/CONSOLE.md,
+and all but help an example in the help.
 """
 import pathlib
 import re
@@ -25,7 +26,7 @@ def constant(file, name):
 HELP = constant("help.rt", "HELP")
 FORMS = constant("texts.rt", "CALLS").splitlines()
 NAMES = [form.split()[0] for form in FORMS]
-ON_TABLE = ("table", "set", "get", "clear", "readings")
+ON_TABLE = ("table", "take", "set", "get", "readings", "owners", "clear", "give")
 
 
 def stored():
@@ -89,18 +90,18 @@ def check_help():
     return count
 
 
-# ---- docs/CONSOLE.md: `CALL` answers `ANSWER`; the forms in the first column of the table; the day at the ice desk,
-# ---- indented by four, a call and its answer to a line
+# ---- calls that are made one after the other, indented by four: a call and its answer to a line
 
-def check_day(place, text):
-    day = text.split("A day at the ice desk", 1)[1].split("\n\n", 2)[1]
-    lines = [re.fullmatch(r"    (\S.*?)  +(\S.*)", line) for line in day.splitlines()]
-    if None in lines:
-        wrong.append(f"{place}: a line of the day at the ice desk cannot be read")
+def check_lines(place, lines):
+    examples = [re.fullmatch(r"    (\S.*?)  +(\S.*)", line) for line in lines]
+    if None in examples:
+        wrong.append(f"{place}: {lines[examples.index(None)]!r} is not a call with its answer")
         return 0
-    compare_row(place, [(found[1], found[2]) for found in lines])
-    return len(lines)
+    compare_row(place, [(found[1], found[2]) for found in examples])
+    return len(examples)
 
+
+# ---- docs/CONSOLE.md: `CALL` answers `ANSWER`; the forms in the first column of the table; the day at the ice desk
 
 def check_console():
     place = "docs/CONSOLE.md"
@@ -117,7 +118,15 @@ def check_console():
         is_answer = re.match(r"(refused|error:) .", code) and not code.endswith(" ")
         if (is_call or is_answer) and code not in compared:
             wrong.append(f"{place}: nothing compares {code!r}")
-    return len(examples) + check_day(place, text)
+    day = text.split("A day at the ice desk", 1)[1].split("\n\n", 2)[1]
+    return len(examples) + check_lines(place, day.splitlines())
+
+
+# ---- docs/DESKS.md: one morning, in several blocks. What is indented by more than four is a picture.
+
+def check_desks():
+    place = "docs/DESKS.md"
+    return check_lines(place, re.findall(r"^    \S.*", (ROOT / place).read_text(), re.M))
 
 
 # ---- README.md: `$ ./plot CALL`, a remark after #, and the answer in the next line that is no remark; or
@@ -144,11 +153,17 @@ def check_readme():
 
 def check_table():
     for name, form in zip(NAMES, FORMS):
-        # A call without arguments cannot be read with one.
-        compare("texts.rt", f"{name} {name}" if name == form else name, f"error: write it as {form}")
+        # A call that can be read without arguments cannot be read with its own name as one.
+        needs_none = form[len(name) :].lstrip()[:1] in ("", "[")
+        compare("texts.rt", f"{name} {name}" if needs_none else name, f"error: write it as {form}")
 
 
-counts = {"help": check_help(), "docs/CONSOLE.md": check_console(), "README.md": check_readme()}
+counts = {
+    "help": check_help(),
+    "docs/CONSOLE.md": check_console(),
+    "docs/DESKS.md": check_desks(),
+    "README.md": check_readme(),
+}
 check_table()
 for place, count in counts.items():
     if count == 0:

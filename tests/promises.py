@@ -480,7 +480,7 @@ ROWS = (
     ("a name of no file of its cell", "Document 02", "`Across` by `net/specs/Division.antt: divide`", "`Across`"),
     ("a method without its type", "Document 01", "`golden/src/lib.rt: at_least_zero`", "no at_least_zero"),
     ("another type's method", "Document 01", "`words/src/lib.rt: CornerName::parent`", "CornerName has no parent"),
-    ("a local of a function", "Document 01", "`net/src/back.rt: left`", "no left"),
+    ("a local of a function", "Document 01", "`knots/src/back.rt: left`", "no left"),
     ("another struct's field", "Document 01", "`corners/src/lib.rt: NameAnswer.edge`", "NameAnswer has no edge"),
     ("a clause that a demand has not", ASKED, "`Demand3`: `oneOther, allDistinct`", "allDistinct"),
     ("a demand that there is not", ASKED, "`Demand4`", "`Demand4`"),
@@ -503,7 +503,7 @@ LINES = (
     ("another crate's module", ARCHITECTURE, "## What each crate owns", "**golden.** `Refusing`\n", "no module"),
     ("a number of edits", README, "## The layers", "There are 12 must-fail edits.", "12 must-fail edits"),
     ("a number of calls", README, "## The layers", "The seventeen calls of document 01.", "seventeen calls"),
-    ("a call in the table by calls", PROMISES, "|---|---|", "| `uncle` | `net/sum_may_wrap` |", "uncle is no call"),
+    ("a call in the table by calls", PROMISES, "|---|---|", "| `uncle` | `knots/sum_may_wrap` |", "uncle is no call"),
 )
 
 # What is missing; a document, and what is taken out of it; words of what must be reported.

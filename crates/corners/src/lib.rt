@@ -1,7 +1,7 @@
 // The calls of document 01 on corners and edges: checking a name, crossing, weights, naming, the way back, the ring.
+use knots::rings;
 use net::Edge;
 use net::seams;
-use net::steps;
 use words::CornerName;
 use words::TriangleCode;
 ghost use mathlib.Core.Path.{_≡_};
@@ -67,7 +67,7 @@ pub fn check_name(r: CornerName) -> u64
     if f != 0 {
         return f;
     }
-    let least = steps::least_name(r);
+    let least = rings::least_name(r);
     if least.0 != w {
         return 10;
     }
@@ -122,7 +122,7 @@ pub fn weights_of(t: TriangleCode, corner: u64, out: &mut [u64]) -> u64
     if out.len() < WEIGHTS {
         return 9;
     }
-    net::write_corner(t, corner, out);
+    knots::write_corner(t, corner, out);
     0
 }
 
@@ -138,7 +138,7 @@ pub fn weights_of_name(r: CornerName, out: &mut [u64]) -> u64
     if out.len() < WEIGHTS {
         return 9;
     }
-    net::write_corner(net::code_inside(r), w % 4, out);
+    knots::write_corner(knots::code_inside(r), w % 4, out);
     0
 }
 
@@ -157,7 +157,7 @@ pub fn name_of(t: TriangleCode, corner: u64) -> NameAnswer
     }
     NameAnswer {
         refusal: 0,
-        name: steps::least_name(CornerName(t.0 + corner)),
+        name: rings::least_name(CornerName(t.0 + corner)),
     }
 }
 
@@ -179,24 +179,24 @@ pub fn name_back(degree: u64, weights: &[u64]) -> NameAnswer
         };
     }
     let total = words::power(degree);
-    if !net::back::adds_to(weights, total) {
+    if !knots::back::adds_to(weights, total) {
         return NameAnswer {
             refusal: 11,
             name: none,
         };
     }
-    let s = net::back::side_of(weights, total);
+    let s = knots::back::side_of(weights, total);
     if s == 24 {
         return NameAnswer {
             refusal: 11,
             name: none,
         };
     }
-    let c = net::back::corner_at(s, degree, net::back::point_on(weights, s));
+    let c = knots::back::corner_at(s, degree, knots::back::point_on(weights, s));
     let here = CornerName(words::word_of(s, degree, c.path) + c.number);
     NameAnswer {
         refusal: 0,
-        name: steps::least_name(here),
+        name: rings::least_name(here),
     }
 }
 
@@ -220,8 +220,8 @@ pub fn ring(r: CornerName, out: &mut [u64]) -> CountAnswer
             count: 0,
         };
     }
-    let m = net::weights::ring_count(net::point_of(net::code_inside(r), w % 4));
-    steps::write_ring(r, m, out);
+    let m = knots::weights::ring_count(knots::point_of(knots::code_inside(r), w % 4));
+    rings::write_ring(r, m, out);
     CountAnswer {
         refusal: 0,
         count: m,

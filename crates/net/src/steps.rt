@@ -1,20 +1,15 @@
-// The step across an edge and the walk round a corner, on words: all digits at once, where they stand.
+// The step across an edge, on words: all digits at once, where they stand.
 use crate::Edge;
 use crate::seams;
-use words::CornerName;
 use words::TriangleCode;
 ghost use mathlib.Core.Path.{_≡_};
-ghost use Prim.Native.Nat.{_-_, _*_, _^_, _≤_};
-ghost use lib.ListN.{length};
-ghost use Rattle.words.specs.Words.{degreeOf};
+ghost use Prim.Native.Nat.{_^_, _≤_};
 ghost use Rattle.words.specs.Refusals.{checkCode, checkNameFields};
 ghost use Rattle.net.specs.Sides.{OneToThree};
 ghost use Rattle.net.specs.Corners.{nameOf};
-ghost use Rattle.frame.specs.Answers.{over};
 ghost use Rattle.net.specs.Means.Spreads.{sign};
 ghost use Rattle.net.specs.Means.Flags.{other, flags, spanOf};
-ghost use Rattle.net.specs.Means.Walks.{stepFrom, edgeThere, placeAt, overSeam, around, lesser, nameAt};
-ghost use Rattle.net.specs.Means.Walks.{leastName, ringWords};
+ghost use Rattle.net.specs.Means.Walks.{stepFrom, edgeThere, placeAt, overSeam, nameAt};
 
 // 1 at each of the 27 pairs of bits below a word's degree: its digits, two pairs of zero bits, the corner number.
 const ONES: u64 = 0x15_5555_5555_5555;
@@ -23,7 +18,7 @@ const ONES: u64 = 0x15_5555_5555_5555;
 const MORE_ONES: u64 = 0x55_5555_5555_5555;
 
 // 2^54: the first number above all digits.
-const ABOVE: u64 = 18014398509481984;
+pub const ABOVE: u64 = 18014398509481984;
 
 // 2^59: the weight of a word's side.
 const SIDE: u64 = 576460752303423488;
@@ -47,7 +42,7 @@ fn others_of(w: u64, c: u64) -> u64
 
 // 1 at each digit that the step across edge k changes: from the last, whose weight is the unit, up to the first that is
 // 0 or k, that one with them. Where there is none, what is added to the last is carried above all digits.
-fn span_of(w: u64, unit: u64, k: u64) -> u64
+pub fn span_of(w: u64, unit: u64, k: u64) -> u64
     requires { ⌜ OneToThree k × (unit ≤ 2 ^ 54) ⌝ }
     ensures { λ r. ⌜ r ≡ spanOf w unit k ⌝ }
 {
@@ -58,7 +53,7 @@ fn span_of(w: u64, unit: u64, k: u64) -> u64
 // ---- steps
 
 // Over the seam of edge k: on the side across it, with every digit, and the number in the lowest bits, renumbered.
-fn over_seam(r: u64, k: u64) -> u64
+pub fn over_seam(r: u64, k: u64) -> u64
     requires { ⌜ (checkNameFields (nameOf r) ≡ 0) × OneToThree k ⌝ }
     ensures { λ q. ⌜ q ≡ nameAt (overSeam k (placeAt r)) ⌝ }
 {
@@ -90,64 +85,5 @@ impl Edge {
             code: TriangleCode(r - r % 4),
             number: r % 4,
         }
-    }
-}
-
-// ---- round a corner
-
-// The next triangle anticlockwise, with the corner's number there: inside a side that is changed by k too.
-fn around(r: u64, unit: u64) -> u64
-    requires { ⌜ (checkNameFields (nameOf r) ≡ 0) × (unit ≡ 2 ^ (54 - 2 * degreeOf r)) ⌝ }
-    ensures { λ q. ⌜ q ≡ nameAt (around (placeAt r)) ⌝ }
-{
-    let k = seams::next_of(r % 4);
-    let x = span_of(r, unit, k);
-    if x < ABOVE {
-        return r ^ (k * (x + 1));
-    }
-    over_seam(r, k)
-}
-
-fn lesser_of(a: u64, b: u64) -> u64
-    ensures { λ r. ⌜ r ≡ lesser a b ⌝ }
-{
-    if a < b { a } else { b }
-}
-
-// The least name here and in the m triangles that follow round the corner.
-fn least_of(m: u64, r: u64, unit: u64) -> u64
-    requires { ⌜ (checkNameFields (nameOf r) ≡ 0) × (unit ≡ 2 ^ (54 - 2 * degreeOf r)) ⌝ }
-    ensures { λ q. ⌜ q ≡ leastName m (placeAt r) ⌝ }
-{
-    if m == 0 {
-        return r;
-    }
-    lesser_of(r, least_of(m - 1, around(r, unit), unit))
-}
-
-// The canonical name of the corner that a word with a name's fields has.
-pub fn least_name(r: CornerName) -> CornerName
-    requires { ⌜ checkNameFields r ≡ 0 ⌝ }
-    ensures { λ q. ⌜ q ≡ nameOf (leastName 5 (placeAt (r .0))) ⌝ }
-{
-    let w = r.0;
-    CornerName(least_of(5, w, words::unit_of(w)))
-}
-
-// The codes of m triangles round the corner that a name names, from its own on, over the front of a list; later places
-// are unchanged.
-pub fn write_ring(r: CornerName, m: u64, out: &mut [u64])
-    requires { ⌜ (checkNameFields r ≡ 0) × (1 ≤ m) × (m ≤ length (now out)) ⌝ }
-    ensures { λ _. ⌜ now (out .exit) ≡ over (ringWords m (placeAt (r .0))) (now (out .entry)) ⌝ }
-{
-    let mut q = r.0;
-    let unit = words::unit_of(q);
-    let count = m as usize;
-    out[0] = q - q % 4;
-    let mut i = 1;
-    while i < count {
-        q = around(q, unit);
-        out[i] = q - q % 4;
-        i += 1;
     }
 }

@@ -46,9 +46,9 @@ pub fn file_word(degree: u64, x: i32, y: i32, z: i32) -> u64
     if f != 0 {
         return f;
     }
-    let w = seats::quick_word(degree, d);
+    let w = holders::quick_word(degree, d);
     if w == 0 {
-        return seats::exact_word(degree, d);
+        return holders::exact_word(degree, d);
     }
     w
 }
@@ -87,7 +87,7 @@ pub fn list(degree: u64, d: Direction, out: &mut [u64]) -> CountAnswer
             count: 0,
         };
     }
-    let w = seats::quick_word(degree, d);
+    let w = holders::quick_word(degree, d);
     if w != 0 {
         out[0] = w;
         return CountAnswer {
@@ -95,7 +95,7 @@ pub fn list(degree: u64, d: Direction, out: &mut [u64]) -> CountAnswer
             count: 1,
         };
     }
-    let m = seats::list_exactly(degree, d, out);
+    let m = holders::list_exactly(degree, d, out);
     CountAnswer {
         refusal: 0,
         count: m as u64,

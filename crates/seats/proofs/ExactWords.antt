@@ -21,7 +21,7 @@ use Rattle.shares.specs.Means.Paths.{leastPath}
 use Rattle.shares.proofs.ShareLaws.{share-zero, zero-share}
 use Rattle.shares.proofs.Standing.{stands-gaps, stands-floors}
 use Rattle.shares.proofs.AllPaths.{all-24}
-use Rattle.seats.specs.declared.exact.Stand.{Stand}
+use Rattle.seats.specs.declared.Stand.{Stand}
 use Rattle.seats.specs.Means.Octants.{otherOctant, sideAt, firstAt, secondAt}
 use Rattle.seats.specs.Means.Roles.{floorsAt, gapsAt, seatWords}
 use Rattle.seats.specs.Means.Finding.{IsSome, StandsAt}

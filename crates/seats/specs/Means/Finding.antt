@@ -14,7 +14,7 @@ use Rattle.shares.specs.declared.Floors.{Floors}
 use Rattle.shares.specs.declared.Gaps.{Gaps}
 use Rattle.shares.specs.Means.Shares.{Stands, strict}
 use Rattle.seats.specs.declared.Found.{Found}
-use Rattle.seats.specs.declared.exact.Stand.{Stand}
+use Rattle.seats.specs.declared.Stand.{Stand}
 use Rattle.seats.specs.Means.Octants.{rolesOf, firstX, firstY, firstZ}
 
 -- not (0, 0, 0)

@@ -3,7 +3,7 @@ use mathlib.Core.Path.{_≡_, refl, sym, ap, _∙_}
 use mathlib.Core.Bool.{Bool, true, false, not, true≢false}
 use Prim.Native.Nat.{ℕ, zero, suc, _≤_}
 use native.Mathlib.Omega.{arith}
-use borrow.Author.Tests.{lt-ltb, le-ltb, ne-eqb, ltb-false, leb-true, leb-false, not-false}
+use borrow.Author.Tests.{lt-ltb, le-ltb, ne-eqb, ltb-false, leb-true, leb-false}
 use lib.Dec.{ltb, leb, eqb, eqb·suc-zero}
 use lib.IntN.{ℤ, pos, negsuc}
 use lib.Signed.{ltZ, leZ}
@@ -99,8 +99,11 @@ desk-not-other d e = rw e (no-more (eqb d nobody))
     no-more true = refl
     no-more false = refl
 
+pub owner-most : (o : ℕ) → isOther o ≡ false → o ≤ 2
+owner-most o e = ltb-false 2 o (is-other o ∙ e)
+
 pub desk-most : (d : ℕ) → isDesk d ≡ true → d ≤ 2
-desk-most d e = ltb-false 2 d (is-other d ∙ desk-not-other d e)
+desk-most d e = owner-most d (desk-not-other d e)
 
 pub desk-not-nobody : (d : ℕ) → isDesk d ≡ true → d ≡ nobody → ⊥
 desk-not-nobody d e z = true≢false (sym e ∙ ap isDesk z)

@@ -1,16 +1,18 @@
 -- The desk, the list of owners, the triangle's owner (Deeds). Assumes nothing.
-use mathlib.Core.Path.{_≡_, sym, _∙_, ap}
-use mathlib.Core.Bool.{true}
+use mathlib.Core.Path.{_≡_, refl, sym, _∙_, ap}
+use mathlib.Core.Bool.{true, false}
 use borrow.Author.Tests.{not-true, not-false}
 use native.Mathlib.Omega.{arith}
-use Prim.Native.Nat.{ℕ, _<_}
+use Prim.Native.Nat.{ℕ, _≤_, _<_}
 use lib.ListN.{length, getD}
 use Rattle.frame.specs.Refusals.{firstOf}
 use Rattle.words.specs.Counting.{placeOf}
 use Rattle.words.proofs.CodeCount.{place-below}
 use Rattle.tables.specs.Tables.{places}
-use Rattle.tables.specs.Owners.{nobody, isDesk, ownerAt}
+use Rattle.tables.specs.Owners.{nobody, isDesk, isOther, anyOther}
 use Rattle.tables.specs.Refusals.{deskOrder, ownerRows}
+use Rattle.frame.proofs.Scanning.{none-at}
+use Rattle.tables.proofs.Numbers.{owner-most}
 use Rattle.tables.proofs.Deeds.{not-a-desk, owners-length, owners-other, owners-then}
 use borrow.Author.Needs.{needs}
 use Rattle.soundings.proofs.refuse_shared.Statement.{statement}
@@ -58,30 +60,38 @@ returns-3 c =
 place-of-requires : tie.Need-place-of-requires
 place-of-requires c κs = search needs
 
-shared-slice-read-wide : tie.Need-shared-slice-read-wide
-shared-slice-read-wide c =
+shared-slice-read-refuse-owner : tie.Need-shared-slice-read-refuse-owner
+shared-slice-read-refuse-owner c =
     let e = c .before .before .before .before in
     let s = e .before .before .before .before .before in
     let l : placeOf (s .args .t) < length (s .args .owners .now) = rw (long e) (place-below (s .pre .1)) in
     omega (arith, l, c .before .place-of .ensures)
 
-wide-requires : tie.Need-wide-requires
-wide-requires c κs = search needs
+-- an owner is at most 2
+cast-refuse-owner : tie.Need-cast-refuse-owner
+cast-refuse-owner c =
+    let p = c .before in
+    let o = p .before .before in
+    let owners = o .before .before .before .before .before .before .args .owners .now in
+    let good : anyOther owners ≡ false = sym (o .any-other .ensures) ∙ p .before .if3 .left in
+    let x = getD owners (p .place-of .result) nobody in
+    let l : x ≤ 2 = owner-most x (none-at isOther nobody refl owners (p .place-of .result) good) in
+    omega (arith, l)
 
 refuse-owner-requires : tie.Need-refuse-owner-requires
 refuse-owner-requires c κs = search needs
 
 returns-4 : tie.Need-returns-4
 returns-4 c =
-    let p = c .before .before .before in
+    let p = c .before .before in
     let o = p .before .before in
     let e = o .before in
     let k = e .before .before in
     let a = k .before .before .before .args in
     let owners = a .owners .now in
-    let q : c .before .wide .result ≡ ownerAt (a .t) owners =
-    c .before .wide .ensures ∙ ap (λ (i : ℕ). getD owners i nobody) (p .place-of .ensures) in
-    c .refuse-owner .ensures ∙ ap (λ (x : ℕ). firstOf deskOrder (ownerRows (a .deed) (a .desk) x)) q
+    c .refuse-owner .ensures
+    ∙ ap (λ (i : ℕ). firstOf deskOrder (ownerRows (a .deed) (a .desk) (getD owners i nobody)))
+    (p .place-of .ensures)
     ∙ owners-then (a .deed) (a .desk) (a .degree) (a .t) owners (desk k) (long e)
     (sym (o .any-other .ensures) ∙ p .before .if3 .left)
 
@@ -96,7 +106,7 @@ refuse-shared-spec =
     any-other-requires
     returns-3
     place-of-requires
-    shared-slice-read-wide
-    wide-requires
+    shared-slice-read-refuse-owner
+    cast-refuse-owner
     refuse-owner-requires
     returns-4)

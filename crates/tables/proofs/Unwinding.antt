@@ -167,26 +167,20 @@ unfolding after
 after-append turn [] ys s = refl
 after-append turn (x ∷ xs) ys s = after-append turn xs ys (turn x s .1)
 
-after-shared : {n : ℕ} (cs : List Call) (s : Shared) → IsShared n s → IsShared n (after onTable cs s)
-unfolding after
-after-shared [] s is = is
-after-shared (c ∷ cs) s is =
-    after-shared cs (onTable c s .1) (turned is c (heldAt (triangleOf c) s) (λ _. refl) .is)
-
-taken : (d n : ℕ) (t : TriangleCode) (s : Shared) → IsShared n s → IsCode n t → refuseDeed Taking d n t s ≡ 0
+taken : (d n : ℕ) (t : TriangleCode) (s : Shared) → refuseDeed Taking d n t s ≡ 0
     → ownerAt t (onTable (does Taking d n t) s .1 .owners) ≡ d
-taken d n t s is c z = rw z (owner-there Taking d n t s z)
+taken d n t s z = rw z (owner-there Taking d n t s z)
 
 pub apart : Apart
 apart = record {
-  afterTaking = λ d b n t s before xs ys is c q z e.
+  afterTaking = λ d b n t s before xs ys q z e.
       let s₁ = after onTable before s in
-      let is₁ = after-shared before s is in
+      let k = deed-passed Taking d n t s₁ z in
       let take = does Taking d n t in
       let w : after onTable (before ++ (take ∷ [])) s ≡ onTable take s₁ .1 =
       unfold after in after-append onTable before (take ∷ []) s in
-      let is₂ = turned is₁ take (heldAt t s₁) (λ _. refl) .is in
-      rw w (sees n d t c (deed-passed Taking d n t s₁ z .desk) _ _ xs ys is₂ is₂ (taken d n t s₁ is₁ c z) refl
+      let is = turned (k .is) take (heldAt t s₁) (λ _. refl) .is in
+      rw w (sees n d t (k .passed .code) (k .desk) _ _ xs ys is is (taken d n t s₁ z) refl
       (same-calls d b t xs ys q e));
   sees = λ d n t s s′ xs ys is is′ c k o q e. sees n d t c k s s′ xs ys is is′ o q e;
 }

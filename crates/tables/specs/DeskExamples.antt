@@ -45,15 +45,16 @@ pub record Examples : Type 0 where
       ∷ no 26 ∷ no 26 ∷ no 26 ∷ no 26 ∷ millimetres 5
       ∷ ok ∷ millimetres 5 ∷ ok ∷ nothing ∷ no 27
       ∷ ok ∷ nothing ∷ no 26 ∷ []
-  -- what the ice desk sees of 100 until it gives it back: whatever the pilotage desk tries meanwhile, whatever itself
-  -- does elsewhere, and not what comes later
+  -- what the ice desk sees of 100 until it gives it back, not by taking it once more, clearing it, or giving it back in
+  -- vain: whatever the pilotage desk tries meanwhile, whatever itself does elsewhere, and not what comes later
   pub sees :
       seen onTable 1 (written 100)
       (takes 2 0 100 ∷ sets 1 0 100 5 ∷ sets 2 0 100 9 ∷ givesBack 2 0 100 ∷ gets 2 0 100 ∷ gets 1 0 100
-      ∷ takes 1 0 101 ∷ sets 1 0 100 100001 ∷ givesBack 1 1 100 ∷ givesBack 1 0 100
+      ∷ takes 1 0 101 ∷ takes 1 0 100 ∷ clears 1 0 100 ∷ sets 1 0 100 100001 ∷ givesBack 1 1 100
+      ∷ givesBack 1 0 100
       ∷ takes 2 0 100 ∷ sets 2 0 100 9 ∷ gets 1 0 100 ∷ [])
       (after onTable (takes 1 0 100 ∷ []) (freshShared 0))
-      ≡ ok ∷ millimetres 5 ∷ no 21 ∷ no 20 ∷ ok ∷ []
+      ≡ ok ∷ millimetres 5 ∷ ok ∷ ok ∷ no 21 ∷ no 20 ∷ ok ∷ []
   -- the calls that are left without the pilotage desk's, and those of the ice desk about 100
   pub others-left-out : without 2 morning ≡ takes 1 0 100 ∷ takes 1 0 101 ∷ gets 1 0 100 ∷ []
   pub about-100 : callsAbout 1 (written 100) morning ≡ takes 1 0 100 ∷ gets 1 0 100 ∷ []

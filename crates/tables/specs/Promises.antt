@@ -144,11 +144,10 @@ pub record Owning : Type 0 where
 -- "What desk 1 sees of its own triangles doesn't depend on desk 2's calls between its taking one and giving it back,
 -- the lists changing only through calls; what it finds on taking may."
 pub record Apart : Type 0 where
-  -- The sentence as it stands, for any two desks d and b: after any calls, with the last of which d has taken t, two
-  -- ways to go on that differ in b's calls alone.
+  -- The sentence as it stands, for any two desks d and b: after any calls, from any lists, with the last of which d has
+  -- taken t, two ways to go on that differ in b's calls alone.
   pub afterTaking : (d b n : ℕ) (t : TriangleCode) (s : Shared) (before xs ys : List Call)
-      → IsShared n s → IsCode n t → (d ≡ b → ⊥) → refuseDeed Taking d n t (after onTable before s) ≡ 0
-      → without b xs ≡ without b ys
+      → (d ≡ b → ⊥) → refuseDeed Taking d n t (after onTable before s) ≡ 0 → without b xs ≡ without b ys
       → (let taken = after onTable (before ++ (does Taking d n t ∷ [])) s in
       seen onTable d t xs taken ≡ seen onTable d t ys taken)
   -- Two runs from any two tables in which d has t, with the same reading ("what it finds on taking may" differ): where

@@ -183,7 +183,8 @@ module _ (os os′ : List ℕ) (xs ys : List Row) {k : ℕ} (t : T (inOrder os (
 pub refuse-rest : (os os′ os″ : List ℕ) (xs ys : List Row) → T (inOrder os (numbers xs))
     → T (inOrder os′ (numbers ys)) → T (inOrder os″ (numbers (xs ++ ys))) → firstOf os xs ≡ 0
     → firstOf os′ ys ≡ firstOf os″ (xs ++ ys)
-refuse-rest os os′ os″ xs ys t u v z = or-next _ _ z (in-turn os′ ys u) ∙ sym (refusal-append os os″ xs ys t v)
+refuse-rest os os′ os″ xs ys t u v z =
+    or-next _ _ z (in-turn os′ ys u) ∙ sym (refusal-append os os″ xs ys t v)
 
 -- ---- no refusal
 
@@ -213,7 +214,8 @@ named-order (suc o ∷ os) ks t =
     named-past o ks (named-order os (past (suc o) ks) (both (absent (suc o) (past (suc o) ks))
     (inOrder os (past (suc o) ks)) t .1))
 
-not-so : (b : Bool) (k : ℕ) (ks : List ℕ) → T (named (k ∷ ks)) → cond b k 0 ≡ 0 → (b ≡ false) × T (named ks)
+not-so : (b : Bool) (k : ℕ) (ks : List ℕ) → T (named (k ∷ ks)) → cond b k 0 ≡ 0
+    → (b ≡ false) × T (named ks)
 not-so true zero ks t e = absurd t
 not-so true (suc k) ks t e = absurd (omega arith)
 not-so false zero ks t e = absurd t

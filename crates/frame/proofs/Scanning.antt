@@ -55,7 +55,8 @@ module _ {A : Type 0} (f : A → Bool) where
     where
       go : (b : Bool) → f x ≡ b
           → (some f xs ≡ true → (firstPlace f xs < length xs) × (f (getD xs (firstPlace f xs) d) ≡ true))
-          → (firstPlace f (x ∷ xs) < length (x ∷ xs)) × (f (getD (x ∷ xs) (firstPlace f (x ∷ xs)) d) ≡ true)
+          → (firstPlace f (x ∷ xs) < length (x ∷ xs))
+          × (f (getD (x ∷ xs) (firstPlace f (x ∷ xs)) d) ≡ true)
       go true b ih = rw b (omega arith, b)
       go false b ih = let h = ih (rw b at e) in rw b (omega (arith, h .0), h .1)
 

@@ -135,7 +135,9 @@ fn list_side(
         × AreShares (floorsAt (4 * octant + kind) f) (gapsAt (4 * octant + kind) g)
         × Room count (seatWords degree (4 * octant + kind) f g) (now out)
         ⌝ }
-    ensures { λ r. ⌜ Puts count (seatWords degree (4 * octant + kind) f g) (now (out .entry)) r (now (out .exit)) ⌝ }
+    ensures { λ r. ⌜
+        Puts count (seatWords degree (4 * octant + kind) f g) (now (out .entry)) r (now (out .exit))
+        ⌝ }
 {
     let k = 4 * octant + kind;
     let a = at_corners(k, f.f1, f.f2, f.f3);

@@ -62,10 +62,14 @@ pub fn side_of(weights: &[u64], total: u64) -> u64
     24
 }
 
-// A triangle of degree n in the side s that has the point p, by its path, and p's number there: the one that points up from p with one less.
+// A triangle of degree n in the side s that has the point p, by its path, and p's number there: the one that points up
+// from p with one less.
 pub fn corner_at(s: u64, n: u64, p: Point) -> Corner
     requires { ⌜ (n ≤ 24) × (p .w1 + p .w2 + p .w3 ≡ 2 ^ n) ⌝ }
-    ensures { λ r. ⌜ (r .path < 2 ^ (2 * n)) × OneToThree (r .number) × (cornerOf s (digitsOf n (r .path)) (r .number) ≡ spread s p) ⌝ }
+    ensures { λ r. ⌜
+        (r .path < 2 ^ (2 * n)) × OneToThree (r .number)
+        × (cornerOf s (digitsOf n (r .path)) (r .number) ≡ spread s p)
+        ⌝ }
 {
     let x = p.w1;
     let y = p.w2;

@@ -6,6 +6,7 @@ use mathlib.Core.List.{List}
 use Prim.Native.Nat.{ℕ}
 use borrow.Author.Tests.{ne-eqb}
 use lib.IntN.{ℤ}
+use Rattle.frame.specs.Answers.{Known}
 use Rattle.frame.specs.Promises.{KeepsLent}
 use Rattle.frame.proofs.Answering.{answers-or-not, keeps-known}
 use Rattle.words.specs.declared.TriangleCode.{TriangleCode}
@@ -42,15 +43,20 @@ one-answer = record {
 
 -- ---- the place beside a refusal
 
--- of an answer over a list whose refusal is f, which is 23 only where the list holds a bad number, and whose place is
--- that of f
-beside : (list : List ℤ) (f p : ℕ) → (f ≡ 23 → anyBad list ≡ true) → p ≡ placeFor list f
-    → (f ≡ 23 → IsLeastBad list p) × ((f ≡ 23 → ⊥) → p ≡ 0)
-beside list f p bad q = (
-  λ z. subst (IsLeastBad list) (sym (q ∙ ap (placeFor list) z)) (least-bad (bad z)),
-  λ d. q ∙ rw (ne-eqb f 23 d) refl,
+-- of an answer whose place is 0 or that of its refusal f, which is 23 only where the list holds a bad number; g is the
+-- refusal that the answer tells
+beside : {A : Type 0} {f : ℕ} {v : A} {zeros : ℕ → A} {r : A} (list : List ℤ) (place : A → ℕ) (g : ℕ)
+    → place v ≡ 0 → ((k : ℕ) → place (zeros k) ≡ placeFor list k) → (f ≡ 23 → anyBad list ≡ true)
+    → g ≡ f → Known f v zeros r → (g ≡ 23 → IsLeastBad list (place r)) × ((g ≡ 23 → ⊥) → place r ≡ 0)
+beside {f = f} {r = r} list place g none-there its bad e p = (
+  λ z. subst (IsLeastBad list) (sym (told ∙ ap (placeFor list) (sym e ∙ z))) (least-bad (bad (sym e ∙ z))),
+  λ d. told ∙ rw (ne-eqb f 23 (λ z. d (e ∙ z))) refl,
 )
   where
+    told : place r ≡ placeFor list f
+    told = ⊎-elim (λ z. ap place (p .answered z) ∙ none-there ∙ ap (placeFor list) (sym z))
+        (λ some. ap place (p .refused some) ∙ its f) (answers-or-not f)
+
     least-bad : anyBad list ≡ true → IsLeastBad list (leastBad list)
     least-bad b =
         let h = first-there isBad none list b in
@@ -59,27 +65,15 @@ beside list f p bad q = (
 got : (n : ℕ) (t : TriangleCode) (list : List ℤ) (r : SoundingAnswer) → GetAnswer n t list r
     → (r .refusal ≡ 23 → IsLeastBad list (r .place)) × ((r .refusal ≡ 23 → ⊥) → r .place ≡ 0)
 got n t list r p =
-    let e = one-answer .get n t list .exactly r p in
-    beside list (r .refusal) (r .place) (λ z. call-bad n t list false (sym e ∙ z))
-    (place ∙ ap (placeFor list) (sym e))
-  where
-    place : r .place ≡ placeFor list (refuseGet n t list)
-    place = ⊎-elim (λ z. ap (λ (x : SoundingAnswer). x .place) (p .answered z) ∙ ap (placeFor list) (sym z))
-        (λ some. ap (λ (x : SoundingAnswer). x .place) (p .refused some)) (answers-or-not (refuseGet n t list))
+    beside list (λ (x : SoundingAnswer). x .place) (r .refusal) refl (λ k. refl) (call-bad n t list false)
+    (one-answer .get n t list .exactly r p) p
 
 done : (e : Deed) (d n : ℕ) (t : TriangleCode) (s : Shared) (r : TableAnswer) (new : Shared)
     → DeedAnswer e d n t s r new
     → (r .refusal ≡ 23 → IsLeastBad (s .readings) (r .place)) × ((r .refusal ≡ 23 → ⊥) → r .place ≡ 0)
 done e d n t s r new p =
-    let q = deeds e d n t s .exactly (r, new) p in
-    beside (s .readings) (r .refusal) (r .place) (λ z. deed-bad e d n t s (sym q ∙ z))
-    (place ∙ ap (placeFor (s .readings)) (sym q))
-  where
-    place : r .place ≡ placeFor (s .readings) (refuseDeed e d n t s)
-    place = ⊎-elim
-        (λ z. ap (λ (x : TableAnswer × Shared). x .0 .place) (p .answered z) ∙ ap (placeFor (s .readings)) (sym z))
-        (λ some. ap (λ (x : TableAnswer × Shared). x .0 .place) (p .refused some))
-        (answers-or-not (refuseDeed e d n t s))
+    beside (s .readings) (λ (x : TableAnswer × Shared). x .0 .place) (r .refusal) refl (λ k. refl)
+    (deed-bad e d n t s) (deeds e d n t s .exactly (r, new) p) p
 
 pub least : Least
 least = record {

@@ -66,7 +66,8 @@ module _ (n : ℕ) (t : TriangleCode) where
   -- where there is none, the word is a code of the table's degree
   pub triangle-good : firstOf tableOrder (triangleRows n t) ≡ 0 → (n ≤ 6) × IsCode n t
   triangle-good e =
-      let z = or-zero (alone (1 when ltb 24 n)) (checkCode t or alone (20 when wrongDegree) or 0) (sym in-three ∙ e) in
+      let rest = checkCode t or alone (20 when wrongDegree) or 0 in
+      let z = or-zero (alone (1 when ltb 24 n)) rest (sym in-three ∙ e) in
       let y = or-zero (checkCode t) (alone (20 when wrongDegree) or 0) (z .1) in
       let d = either-false (ltb 6 n) (not (eqb (degreeOf (t .0)) n)) .0 (none wrongDegree (y .1)) in
       (ltb-false 6 n (d .0), record { passes = y .0; degreeIs = eqb-true _ _ (not-false _ (d .1)) })
@@ -135,8 +136,8 @@ module _ (n : ℕ) (t : TriangleCode) (list : List ℤ) where
       call-then b =
           refuse-rest tableOrder tableOrder tableOrder (21 when out ∷ []) (tableRows n list) tt tt tt
           (none-so tableOrder (21 when out ∷ []) tt .1 (b, tt))
-          ∙ refuse-rest tableOrder tableOrder tableOrder (triangleRows n t) (21 when out ∷ tableRows n list) tt tt tt
-          z
+          ∙ refuse-rest tableOrder tableOrder tableOrder (triangleRows n t) (21 when out ∷ tableRows n list)
+          tt tt tt z
 
     pub call-passed : refuseCall out n t list ≡ 0 → Passed n t list × (out ≡ false)
     unfolding refuseCall

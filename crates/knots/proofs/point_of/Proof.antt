@@ -1,4 +1,5 @@
--- `knots::point_of` meets its contract: the path of a code's digits leads to their state (`StateCode`). Assumes nothing.
+-- `knots::point_of` meets its contract: the path of a code's digits leads to their state (`StateCode`). Assumes
+-- nothing.
 use mathlib.Core.Path.{sym, _∙_, ap, subst}
 use Prim.Native.Nat.{_^_, _≤_}
 use Rattle.words.proofs.Codes.{code-degree, is-code}

@@ -1,4 +1,5 @@
--- `knots::write_corner` meets its contract: a corner's twelve weights are those of its point (`Loads`). Assumes nothing.
+-- `knots::write_corner` meets its contract: a corner's twelve weights are those of its point (`Loads`). Assumes
+-- nothing.
 use mathlib.Core.Path.{_≡_, sym, _∙_}
 use native.Mathlib.Omega.{arith}
 use denote.Ref.{now}

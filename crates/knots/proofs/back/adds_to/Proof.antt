@@ -1,4 +1,5 @@
--- `knots::back::adds_to` meets its contract. The invariant: what is left and the sum of the places passed are the total. Assumes nothing.
+-- `knots::back::adds_to` meets its contract. The invariant: what is left and the sum of the places passed are the total.
+-- Assumes nothing.
 use borrow.Author.Tests.{ne-eqb}
 use mathlib.Core.Path.{_≡_, sym}
 use Prim.Native.Nat.{_+_, _-_, _≤_}
@@ -30,7 +31,8 @@ returns : tie.Need-returns Inv-loop μ-loop
 returns c =
     let ws = now (c .before .before .before .before .args .weights) in
     let v = c .before .before .before .loop .v in
-    sym (ne-eqb (sum (take 12 ws)) (c .before .before .before .before .args .total) (λ e. omega (arith, sum-more ws v (omega arith), sum-take ws (v + 1) 12 (omega arith))))
+    sym (ne-eqb (sum (take 12 ws)) (c .before .before .before .before .args .total)
+    (λ e. omega (arith, sum-more ws v (omega arith), sum-take ws (v + 1) 12 (omega arith))))
 
 add-v : tie.Need-add-v Inv-loop μ-loop
 add-v c = omega arith

@@ -17,7 +17,9 @@ corner-vertex-requires-3 : tie.Need-corner-vertex-requires-3
 corner-vertex-requires-3 c κs = search needs
 
 -- the three corners are vertices
-small : (c : tie.After-corner-vertex3) → (c .before .before .corner-vertex .result < 12) × (c .before .corner-vertex2 .result < 12) × (c .corner-vertex3 .result < 12)
+small : (c : tie.After-corner-vertex3)
+    → (c .before .before .corner-vertex .result < 12) × (c .before .corner-vertex2 .result < 12)
+    × (c .corner-vertex3 .result < 12)
 small c =
     let s = c .before .before .before .before in (
       vertex-12 (s .args .s) 1 (s .pre .1) (omega arith) (c .before .before .corner-vertex .ensures),
@@ -47,7 +49,8 @@ returns : tie.Need-returns
 returns c =
     let v = c .before .before .before in
     let s = v .before .before .before .before in
-    point-take (now (s .args .weights)) (s .args .s) (s .pre .1) (v .before .before .corner-vertex .ensures) (v .before .corner-vertex2 .ensures) (v .corner-vertex3 .ensures)
+    point-take (now (s .args .weights)) (s .args .s) (s .pre .1) (v .before .before .corner-vertex .ensures)
+    (v .before .corner-vertex2 .ensures) (v .corner-vertex3 .ensures)
 
 pub point-on-spec : {M : Type 1} → statement M
 point-on-spec =

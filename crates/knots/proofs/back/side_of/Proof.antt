@@ -13,7 +13,8 @@ use Rattle.knots.proofs.back.side_of.Statement.{statement}
 use Rattle.knots.proofs.back.side_of.Tie as tie
 
 abbrev Inv-loop : tie.InvT-loop
-Inv-loop weights total s₀ s = (4 ≤ s) × (s ≤ 24) × ((j : ℕ) → j < s → IsSide j → onSide j 0 (take 12 weights) ≡ true → ⊥)
+Inv-loop weights total s₀ s =
+    (4 ≤ s) × (s ≤ 24) × ((j : ℕ) → j < s → IsSide j → onSide j 0 (take 12 weights) ≡ true → ⊥)
 
 abbrev μ-loop : tie.MeasureT-loop
 μ-loop weights total s₀ s = 24 - s
@@ -24,7 +25,8 @@ loop-holds c = (omega arith, omega arith, λ j l h o. omega arith)
 point-on-requires : tie.Need-point-on-requires Inv-loop μ-loop
 point-on-requires c κs = omega arith
 
-at-side : (c : tie.After-point-on Inv-loop μ-loop) → Told (now (c .before .before .before .before .args .weights)) (c .before .before .loop .s) (c .before .before .before .before .args .total) (c .point-on .result)
+at-side : (c : tie.After-point-on Inv-loop μ-loop) → (let a = c .before .before .before .before .args in
+    Told (now (a .weights)) (c .before .before .loop .s) (a .total) (c .point-on .result))
 at-side c =
     let pre = c .before .before .before .before .pre in
     told _ _ _ (c .point-on .result) (omega arith, omega arith) (pre .0) (pre .2) (c .point-on .ensures)
@@ -38,7 +40,12 @@ add-if1-2 c = omega (arith, at-side (c .before .before) .most)
 returns : tie.Need-returns Inv-loop μ-loop
 returns c =
     let p = c .before .before .before in
-    record { low = omega arith; high = omega arith; found = λ l. at-side p .all (c .if1 .taken); none = λ l. absurd (omega arith) }
+    record {
+      low = omega arith;
+      high = omega arith;
+      found = λ l. at-side p .all (c .if1 .taken);
+      none = λ l. absurd (omega arith);
+    }
 
 add-s : tie.Need-add-s Inv-loop μ-loop
 add-s c = omega arith
@@ -56,7 +63,9 @@ returns-2 c = record {
   low = omega arith;
   high = omega arith;
   found = λ l. absurd (omega arith);
-  none = λ l. none-on (take 12 (now (c .before .before .before .args .weights))) (λ j h. c .before .loop .inv .2 j (omega arith) h);
+  none = λ l.
+      none-on (take 12 (now (c .before .before .before .args .weights)))
+      (λ j h. c .before .loop .inv .2 j (omega arith) h);
 }
 
 pub side-of-spec : {M : Type 1} → statement M

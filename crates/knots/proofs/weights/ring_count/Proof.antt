@@ -22,7 +22,9 @@ sign-of-requires-3 : tie.Need-sign-of-requires-3
 sign-of-requires-3 c κs = search needs
 
 add-if1-2 : tie.Need-add-if1-2
-add-if1-2 c = let p = c .before .before .before .args .p in omega (arith, sign-low (p .w1), sign-low (p .w2), sign-low (p .w3))
+add-if1-2 c =
+    let p = c .before .before .before .args .p in
+    omega (arith, sign-low (p .w1), sign-low (p .w2), sign-low (p .w3))
 
 returns : tie.Need-returns
 returns c =

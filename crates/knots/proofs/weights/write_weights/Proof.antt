@@ -1,5 +1,5 @@
--- `knots::weights::write_weights` meets its contract: the corners of a side are three of the twelve vertices (`Writing`).
--- Assumes nothing.
+-- `knots::weights::write_weights` meets its contract: the corners of a side are three of the twelve vertices
+-- (`Writing`). Assumes nothing.
 use Prim.Native.Nat.{_<_}
 use denote.Ref.{now}
 use lib.ListN.{length-set}

@@ -47,7 +47,8 @@ one-answer = record {
 -- refusal that the answer tells
 beside : {A : Type 0} {f : ℕ} {v : A} {zeros : ℕ → A} {r : A} (list : List ℤ) (place : A → ℕ) (g : ℕ)
     → place v ≡ 0 → ((k : ℕ) → place (zeros k) ≡ placeFor list k) → (f ≡ 23 → anyBad list ≡ true)
-    → g ≡ f → Known f v zeros r → (g ≡ 23 → IsLeastBad list (place r)) × ((g ≡ 23 → ⊥) → place r ≡ 0)
+    → g ≡ f → Known f v zeros r
+    → (g ≡ 23 → IsLeastBad list (place r)) × ((g ≡ 23 → ⊥) → place r ≡ 0)
 beside {f = f} {r = r} list place g none-there its bad e p = (
   λ z. subst (IsLeastBad list) (sym (told ∙ ap (placeFor list) (sym e ∙ z))) (least-bad (bad (sym e ∙ z))),
   λ d. told ∙ rw (ne-eqb f 23 (λ z. d (e ∙ z))) refl,

@@ -1,7 +1,8 @@
--- Looking through a list: what the answers of calls on a table and of a sweep are made of. Assumes nothing.
-use Prim.Native.Nat.{ℕ, suc}
+-- Looking through a list, and making one: what the answers of calls on a table and of a sweep are made of. Assumes
+-- nothing.
+use Prim.Native.Nat.{ℕ, zero, suc}
 use mathlib.Core.Bool.{Bool, false, cond}
-use mathlib.Core.List.{List, [], _∷_}
+use mathlib.Core.List.{List, [], _∷_, _++_}
 use Rattle.frame.specs.Refusals.{_either_}
 
 -- whether something in a list passes a test, and the first place of it: how many stand before
@@ -17,3 +18,8 @@ firstPlace f (x ∷ xs) = cond (f x) 0 (suc (firstPlace f xs))
 unfoldable pub those : {A : Type 0} → (A → Bool) → List A → List A
 those f [] = []
 those f (x ∷ xs) = cond (f x) (x ∷ those f xs) (those f xs)
+
+-- what f says of the numbers below m, in their order
+unfoldable pub below : {A : Type 0} → (m : ℕ) → (ℕ → A) → List A
+below zero f = []
+below (suc m) f = below m f ++ (f m ∷ [])

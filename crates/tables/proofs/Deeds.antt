@@ -16,7 +16,8 @@ use Rattle.words.proofs.CodeCount.{place-below}
 use Rattle.tables.specs.Tables.{places, anyBad}
 use Rattle.tables.specs.Owners.{nobody, isDesk, anyOther, ownerAt, Shared, IsShared, isTaking}
 use Rattle.tables.specs.Refusals.{tableOrder, outOfRange, callRows, refuseCall}
-use Rattle.tables.specs.Refusals.{deskOrder, deskRows, ownerListRows, ownerRows, sharedRows, refuseDeed}
+use Rattle.tables.specs.Refusals.{deskOrder, deskRows, ownerListRows, ownerRows, sharedRows}
+use Rattle.tables.specs.Refusals.{deedRows, refuseDeed}
 use Rattle.tables.specs.declared.Deed.{Deed}
 use Rattle.tables.proofs.Refused.{Passed, call-passed}
 
@@ -136,4 +137,4 @@ module _ (e : Deed) (d n : ℕ) (t : TriangleCode) (s : Shared) where
   unfolding refuseDeed
   deed-bad q =
       sym (either-none (anyBad (s .readings)))
-      ∙ given-so deskOrder (callRows (outOfRange e) n t (s .readings) ++ sharedRows e d n t (s .owners)) 22 q
+      ∙ given-so deskOrder (deedRows e d n t s) 22 q

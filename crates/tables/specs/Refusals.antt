@@ -19,8 +19,11 @@ use Rattle.tables.specs.declared.Deed.the-variants.{Taking, Setting, Cle
 abbrev pub tableOrder : List ℕ
 tableOrder = order ++ (20 ∷ 21 ∷ 22 ∷ 23 ∷ [])
 
--- "Set, clear and get take a code of just that degree": "20 wrong degree"; "a table degree of 7 to 24 is also 20, above
--- 24 it is 1"
+-- "a table degree of 7 to 24 is also 20, above 24 it is 1": of a call that is handed no code
+abbrev pub largeRows : (degree : ℕ) → List Row
+largeRows n = degreeRows n ++ (20 when ltb 6 n ∷ [])
+
+-- "Set, clear and get take a code of just that degree": "20 wrong degree"
 abbrev pub triangleRows : (degree : ℕ) → TriangleCode → List Row
 triangleRows n t = degreeRows n ++ codeRows t ++ (20 when (ltb 6 n either not (eqb (degreeOf (t .0)) n)) ∷ [])
 
@@ -68,6 +71,8 @@ ownerRows e d o = 26 when (not (eqb o nobody) && not (eqb o d)) ∷ 27 when (eqb
 abbrev pub sharedRows : Deed → (desk degree : ℕ) → TriangleCode → List ℕ → List Row
 sharedRows e d n t owners = deskRows d ++ ownerListRows n owners ++ ownerRows e d (ownerAt t owners)
 
+abbrev pub deedRows : Deed → (desk degree : ℕ) → TriangleCode → Shared → List Row
+deedRows e d n t s = callRows (outOfRange e) n t (s .readings) ++ sharedRows e d n t (s .owners)
+
 unfoldable pub refuseDeed : Deed → (desk degree : ℕ) → TriangleCode → Shared → ℕ
-refuseDeed e d n t s =
-    firstOf deskOrder (callRows (outOfRange e) n t (s .readings) ++ sharedRows e d n t (s .owners))
+refuseDeed e d n t s = firstOf deskOrder (deedRows e d n t s)

@@ -7,3 +7,4 @@ pub mod WordOrder
 pub mod ParentChild
 pub mod Examples
 pub mod CodeCount
+pub mod ChildPlaces

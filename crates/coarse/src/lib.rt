@@ -1,0 +1,171 @@
+// The coarse sums of a table of soundings (document 02, 2026-08): what the lists of counts and of sums are to hold and
+// what the calls then answer (specs/), with the laws of it (proofs/); in code the two lists themselves: what is refused of
+// them, and how they are written. The calls are in the crate soundings.
+use words::TriangleCode;
+ghost use mathlib.Core.Path.{_≡_};
+ghost use mathlib.Core.List.{_∷_, []};
+ghost use Prim.Native.Nat.{_+_, _*_, _<_, _≤_};
+ghost use lib.ListN.{length, set};
+ghost use Rattle.frame.specs.Refusals.{firstOf};
+ghost use Rattle.frame.specs.Lists.{below};
+ghost use Rattle.words.specs.Refusals.{IsCode};
+ghost use Rattle.net.specs.Division.{sum};
+ghost use Rattle.tables.specs.Tables.{places};
+ghost use Rattle.coarse.specs.Sums.{present, parents, coarse, coarseAfter};
+ghost use Rattle.coarse.specs.Refusals.{sumOrder, coarseRows, keptRows};
+ghost use Rattle.coarse.specs.Means.{presentFrom};
+
+// ---- four readings
+
+// How many readings there are, and what they come to in millimetres.
+pub struct Tally {
+    pub count: u64,
+    pub sum: u64,
+}
+
+// Of one number of a list.
+fn tally_of(number: i32) -> Tally
+    ensures { λ r. ⌜
+        (r .count ≡ length (present (number ∷ []))) × (r .sum ≡ sum (present (number ∷ [])))
+        × (r .count ≤ 1) × (r .sum < 4294967296)
+        ⌝ }
+{
+    if number < 0 {
+        return Tally {
+            count: 0,
+            sum: 0,
+        };
+    }
+    Tally {
+        count: 1,
+        sum: number as u64,
+    }
+}
+
+// Of the four places from i on.
+fn tally_from(list: &[i32], i: usize) -> Tally
+    requires { ⌜ i + 3 < length (now list) ⌝ }
+    ensures { λ r. ⌜
+        (r .count ≡ length (presentFrom i (now (list .entry)))) × (r .sum ≡ sum (presentFrom i (now (list .entry))))
+        ⌝ }
+{
+    let a = tally_of(list[i]);
+    let b = tally_of(list[i + 1]);
+    let c = tally_of(list[i + 2]);
+    let d = tally_of(list[i + 3]);
+    Tally {
+        count: a.count + b.count + c.count + d.count,
+        sum: a.sum + b.sum + c.sum + d.sum,
+    }
+}
+
+// ---- refusals
+
+// How many triangles there are one degree up.
+fn parents_of(degree: u64) -> u64
+    requires { ⌜ degree ≤ 6 ⌝ }
+    ensures { λ r. ⌜ r ≡ parents degree ⌝ }
+{
+    if degree == 0 {
+        return 0;
+    }
+    words::codes_of(degree - 1)
+}
+
+// 28: of the lengths.
+pub fn refuse_lengths(degree: u64, counts: &[u64], sums: &[u64]) -> u64
+    requires { ⌜ degree ≤ 6 ⌝ }
+    ensures { λ r. ⌜ r ≡ firstOf sumOrder (coarseRows degree (coarse (now (counts .entry)) (now (sums .entry)))) ⌝ }
+{
+    let n = parents_of(degree);
+    if counts.len() as u64 != n {
+        return 28;
+    }
+    if sums.len() as u64 != n {
+        return 28;
+    }
+    0
+}
+
+// 28 and 29: of the lengths, and of what is stored for the triangle's parent.
+pub fn refuse_coarse(
+    degree: u64,
+    t: TriangleCode,
+    list: &[i32],
+    counts: &[u64],
+    sums: &[u64],
+) -> u64
+    requires { ⌜ (degree ≤ 6) × IsCode degree t × (length (now list) ≡ places degree) ⌝ }
+    ensures { λ r. ⌜
+        r ≡ firstOf sumOrder
+        (keptRows degree t (now (list .entry)) (coarse (now (counts .entry)) (now (sums .entry))))
+        ⌝ }
+{
+    let f = refuse_lengths(degree, counts, sums);
+    if f != 0 {
+        return f;
+    }
+    if degree == 0 {
+        return 0;
+    }
+    let p = words::place_of(t) as usize / 4;
+    let now = tally_from(list, 4 * p);
+    if counts[p] != now.count {
+        return 29;
+    }
+    if sums[p] != now.sum {
+        return 29;
+    }
+    0
+}
+
+// ---- what is stored
+
+// For the p-th triangle one degree up.
+fn store(p: usize, list: &[i32], counts: &mut [u64], sums: &mut [u64])
+    requires { ⌜ (4 * p + 3 < length (now list)) × (p < length (now counts)) × (p < length (now sums)) ⌝ }
+    ensures { λ r. ⌜
+        (now (counts .exit) ≡ set (now (counts .entry)) p (length (presentFrom (4 * p) (now (list .entry)))))
+        × (now (sums .exit) ≡ set (now (sums .entry)) p (sum (presentFrom (4 * p) (now (list .entry)))))
+        ⌝ }
+{
+    let tally = tally_from(list, 4 * p);
+    counts[p] = tally.count;
+    sums[p] = tally.sum;
+}
+
+// For the parent of a triangle whose reading has been written.
+pub fn keep(degree: u64, t: TriangleCode, list: &[i32], counts: &mut [u64], sums: &mut [u64])
+    requires { ⌜
+        (degree ≤ 6) × IsCode degree t × (length (now list) ≡ places degree)
+        × (length (now counts) ≡ parents degree) × (length (now sums) ≡ parents degree)
+        ⌝ }
+    ensures { λ r. ⌜
+        coarse (now (counts .exit)) (now (sums .exit))
+        ≡ coarseAfter degree t (now (list .entry)) (coarse (now (counts .entry)) (now (sums .entry)))
+        ⌝ }
+{
+    if degree == 0 {
+        return;
+    }
+    store(words::place_of(t) as usize / 4, list, counts, sums);
+}
+
+// For every triangle one degree up, in one pass.
+pub fn keep_all(list: &[i32], counts: &mut [u64], sums: &mut [u64])
+    requires { ⌜
+        (4 * length (now counts) ≤ length (now list)) × (length (now sums) ≡ length (now counts))
+        ⌝ }
+    ensures { λ r. ⌜
+        (now (counts .exit)
+        ≡ below (length (now (counts .entry))) (λ i. length (presentFrom (4 * i) (now (list .entry)))))
+        × (now (sums .exit)
+        ≡ below (length (now (sums .entry))) (λ i. sum (presentFrom (4 * i) (now (list .entry)))))
+        ⌝ }
+{
+    let mut p = 0;
+    while p < counts.len() {
+        store(p, list, counts, sums);
+        p += 1;
+    }
+}

@@ -5,7 +5,7 @@ use mathlib.Core.Bool.{Bool, true, false, not}
 use mathlib.Core.List.{List, [], _∷_}
 use Prim.Native.Nat.{ℕ, _≤_, _<_}
 use native.Mathlib.Omega.{arith}
-use borrow.Author.Tests.{lt-ltb, le-ltb, eq-eqb, ne-eqb, ltb-false, eqb-true, not-false}
+use borrow.Author.Tests.{lt-ltb, le-ltb, eq-eqb, ne-eqb, ltb-true, ltb-false, eqb-true, not-false}
 use lib.Dec.{ltb, eqb}
 use lib.IntN.{ℤ}
 use lib.ListN.{length}
@@ -19,7 +19,66 @@ use Rattle.words.specs.Counting.{placeOf}
 use Rattle.words.specs.declared.TriangleCode.{TriangleCode}
 use Rattle.words.proofs.CodeCount.{place-below}
 use Rattle.tables.specs.Tables.{places, anyBad}
-use Rattle.tables.specs.Refusals.{tableOrder, triangleRows, tableRows, callRows, refuseCall}
+use Rattle.tables.specs.Refusals.{tableOrder, largeRows, triangleRows, tableRows, callRows, refuseCall}
+
+-- ---- of the degree
+
+-- What the refusal f of a degree tells of it.
+pub record Large (n f : ℕ) : Type 0 where
+  pub deep : f ≡ 1 → 24 < n
+  pub notDeep : (f ≡ 1 → ⊥) → n ≤ 24
+  pub large : (f ≡ 0 → ⊥) → 6 < n
+  pub small : f ≡ 0 → n ≤ 6
+  pub not-23 : f ≡ 23 → ⊥
+
+module _ (n : ℕ) where
+  large-rows : firstOf tableOrder (largeRows n) ≡ alone (1 when ltb 24 n) or alone (20 when ltb 6 n) or 0
+  large-rows = in-turn tableOrder (largeRows n) tt
+
+  pub degree-25 : 24 < n → 1 ≡ firstOf tableOrder (largeRows n)
+  degree-25 l = sym (large-rows ∙ rw (lt-ltb 24 n l) refl)
+
+  pub degree-7 : n ≤ 24 → 6 < n → 20 ≡ firstOf tableOrder (largeRows n)
+  degree-7 l m = sym (large-rows ∙ rw (le-ltb 24 n l, lt-ltb 6 n m) refl)
+
+  pub degree-6 : n ≤ 6 → 0 ≡ firstOf tableOrder (largeRows n)
+  degree-6 l = sym (large-rows ∙ rw (le-ltb 24 n (omega arith), le-ltb 6 n l) refl)
+
+  pub large : {f : ℕ} → f ≡ firstOf tableOrder (largeRows n) → Large n f
+  large {f} q = go (ltb 24 n) (ltb 6 n) refl refl
+    where
+      go : (a b : Bool) → ltb 24 n ≡ a → ltb 6 n ≡ b → Large n f
+      go true b u v =
+          let l = ltb-true 24 n u in
+          let e : f ≡ 1 = q ∙ sym (degree-25 l) in
+          record {
+            deep = λ _. l;
+            notDeep = λ k. absurd (k e);
+            large = λ _. omega (arith, l);
+            small = λ z. absurd (omega (arith, z, e));
+            not-23 = λ z. omega (arith, z, e);
+          }
+      go false true u v =
+          let l = ltb-false 24 n u in
+          let m = ltb-true 6 n v in
+          let e : f ≡ 20 = q ∙ sym (degree-7 l m) in
+          record {
+            deep = λ z. absurd (omega (arith, z, e));
+            notDeep = λ _. l;
+            large = λ _. m;
+            small = λ z. absurd (omega (arith, z, e));
+            not-23 = λ z. omega (arith, z, e);
+          }
+      go false false u v =
+          let l = ltb-false 6 n v in
+          let e : f ≡ 0 = q ∙ sym (degree-6 l) in
+          record {
+            deep = λ z. absurd (omega (arith, z, e));
+            notDeep = λ _. omega (arith, l);
+            large = λ k. absurd (k e);
+            small = λ _. l;
+            not-23 = λ z. omega (arith, z, e);
+          }
 
 -- ---- of the degree and the code
 

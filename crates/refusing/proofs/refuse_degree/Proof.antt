@@ -1,19 +1,16 @@
+-- Test by test (Refused). Assumes nothing.
+use Rattle.tables.proofs.Refused.{degree-25, degree-7, degree-6}
 use Rattle.refusing.proofs.refuse_degree.Statement.{statement}
 use Rattle.refusing.proofs.refuse_degree.Tie as tie
-use Rattle.refusing.proofs.refuse_degree.Reads as reads
-use Rattle.refusing.proofs.refuse_degree.Lts as lts
 
--- src/lib.rt:82:9
 returns : tie.Need-returns
-returns c = ?
+returns c = degree-25 _ (c .if1 .taken)
 
--- src/lib.rt:85:9
 returns-2 : tie.Need-returns-2
-returns-2 c = ?
+returns-2 c = degree-7 _ (c .before .if1 .left) (c .if2 .taken)
 
--- src/lib.rt:78:1
 returns-3 : tie.Need-returns-3
-returns-3 c = ?
+returns-3 c = degree-6 _ (c .if2 .left)
 
 pub refuse-degree-spec : {M : Type 1} → statement M
 refuse-degree-spec = tie.close (tie.spec returns returns-2 returns-3)

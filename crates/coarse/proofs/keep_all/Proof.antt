@@ -1,46 +1,78 @@
+-- The loop writes place by place (frame's Below). Assumes nothing.
+use mathlib.Core.Path.{_≡_, refl, _∙_, sym, ap}
+use mathlib.Core.List.{List}
+use Prim.Native.Nat.{ℕ, _-_, _*_, _≤_}
+use native.Mathlib.Omega.{arith}
+use native.Mathlib.Numerals.{add-one}
+use lib.IntN.{ℤ}
+use lib.ListN.{length, set, length-set}
+use Rattle.frame.specs.Answers.{over}
+use Rattle.frame.specs.Lists.{below}
+use Rattle.frame.proofs.Below.{below-next, below-all}
+use Rattle.net.specs.Division.{sum}
+use Rattle.coarse.specs.Means.{presentFrom}
+use borrow.Author.Needs.{needs}
 use Rattle.coarse.proofs.keep_all.Statement.{statement}
 use Rattle.coarse.proofs.keep_all.Tie as tie
-use Rattle.coarse.proofs.keep_all.Reads as reads
-use Rattle.coarse.proofs.keep_all.Lts as lts
-use Rattle.coarse.proofs.store.Reads as store-reads
+
+abbrev counted : List ℤ → ℕ → ℕ
+counted list i = length (presentFrom (4 * i) list)
+
+abbrev summed : List ℤ → ℕ → ℕ
+summed list i = sum (presentFrom (4 * i) list)
 
 abbrev Inv-loop : tie.InvT-loop
-Inv-loop list counts₀ sums₀ p₀ counts sums p = ?
+Inv-loop list counts₀ sums₀ p₀ counts sums p =
+    (p ≤ length counts₀) × (counts ≡ over (below p (counted list)) counts₀) × (length counts ≡ length counts₀)
+    × (sums ≡ over (below p (summed list)) sums₀) × (length sums ≡ length sums₀)
 
 abbrev μ-loop : tie.MeasureT-loop
-μ-loop list counts₀ sums₀ p₀ counts sums p = ?
+μ-loop list counts₀ sums₀ p₀ counts sums p = length counts - p
 
--- src/lib.rt:167:5
 loop-holds : tie.Need-loop-holds Inv-loop μ-loop
-loop-holds c = ?
+unfolding below
+loop-holds c = (omega arith, refl, refl, refl, refl)
 
--- src/lib.rt:168:9
 store-requires : tie.Need-store-requires Inv-loop μ-loop
-store-requires c κs = ?
+store-requires c κs = (omega arith, omega arith, omega arith)
 
--- src/lib.rt:169:9
 add-p : tie.Need-add-p Inv-loop μ-loop
-add-p c = ?
+add-p c = omega arith
 
--- src/lib.rt:167:5
 loop-less : tie.Need-loop-less Inv-loop μ-loop
-loop-less c = ?
+loop-less c = omega arith
 
--- src/lib.rt:167:5
 loop-again : tie.Need-loop-again Inv-loop μ-loop
-loop-again c = ?
+loop-again c =
+    let k = c .before .before .before .before in
+    let l = k .before .before .before .before .loop in
+    let a = k .before .before .before .before .before .before .before .args in
+    let list = a .list .now in
+    let e = k .store .ensures in
+    (
+      omega arith,
+      simp add-one (e .0 ∙ ap (λ (x : List ℕ). set x (l .p) (counted list (l .p))) (l .inv .1)
+      ∙ below-next (counted list) (a .counts .now) (l .p) (omega arith) refl),
+      ap length (e .0) ∙ length-set (l .counts) (l .p) (counted list (l .p)) ∙ l .inv .2,
+      simp add-one (e .1 ∙ ap (λ (x : List ℕ). set x (l .p) (summed list (l .p))) (l .inv .3)
+      ∙ below-next (summed list) (a .sums .now) (l .p) (omega arith) refl),
+      ap length (e .1) ∙ length-set (l .sums) (l .p) (summed list (l .p)) ∙ l .inv .4,
+    )
 
--- src/lib.rt:155:1
 same-length : tie.Need-same-length Inv-loop μ-loop
-same-length c = ?
+same-length c = c .before .loop .inv .2
 
--- src/lib.rt:155:1
 same-length-2 : tie.Need-same-length-2 Inv-loop μ-loop
-same-length-2 c = ?
+same-length-2 c = c .before .loop .inv .4
 
--- src/lib.rt:155:1
 returns : tie.Need-returns Inv-loop μ-loop
-returns c = ?
+returns c =
+    let l = c .before .loop in
+    let a = c .before .before .before .before .args in
+    (
+      l .inv .1 ∙ below-all (counted (a .list .now)) (a .counts .now) (l .p) (omega arith) (l .inv .0),
+      l .inv .3 ∙ below-all (summed (a .list .now)) (a .sums .now) (l .p) (omega arith) (omega arith),
+    )
 
 pub keep-all-spec : {M : Type 1} → statement M
 keep-all-spec =

@@ -1,63 +1,121 @@
+-- The lengths, and then what is stored for the parent (Refused, Children). Assumes nothing.
+use mathlib.Core.Path.{_≡_, _∙_, sym, ap}
+use mathlib.Core.List.{List}
+use native.Mathlib.Omega.{arith}
+use Prim.Native.Nat.{ℕ, _/_, _^_, _<_}
+use lib.ListN.{length, getD}
+use Rattle.frame.specs.Refusals.{firstOf}
+use Rattle.words.specs.Family.{parentOf}
+use Rattle.words.specs.Counting.{placeOf}
+use Rattle.words.proofs.CodeCount.{place-fits}
+use Rattle.net.specs.Division.{sum}
+use Rattle.coarse.specs.Sums.{countIn, sumIn, parents, coarse}
+use Rattle.coarse.specs.Refusals.{sumOrder, coarseRows}
+use Rattle.coarse.proofs.Children.{Above, above}
+use Rattle.coarse.proofs.Refused.{lengths-good, lengths-first, no-parent, other-count, other-sum, same-parent}
 use borrow.Author.Needs.{needs}
 use Rattle.coarse.proofs.refuse_coarse.Statement.{statement}
 use Rattle.coarse.proofs.refuse_coarse.Tie as tie
-use Rattle.coarse.proofs.refuse_coarse.Reads as reads
-use Rattle.coarse.proofs.refuse_coarse.Lts as lts
-use Rattle.coarse.proofs.refuse_lengths.Reads as refuse-lengths-reads
-use Rattle.coarse.proofs.tally_from.Reads as tally-from-reads
-use Rattle.words.proofs.place_of.Reads as place-of-reads
 
--- src/lib.rt:104:9
 refuse-lengths-requires : tie.Need-refuse-lengths-requires
 refuse-lengths-requires c κs = search needs
 
--- src/lib.rt:106:9
 returns : tie.Need-returns
-returns c = ?
+returns c =
+    let a = c .before .before .before .before .args in
+    lengths-first (a .degree) (a .t) (a .list .now) (coarse (a .counts .now) (a .sums .now))
+    (c .before .refuse-lengths .ensures) (c .if1 .taken)
 
--- src/lib.rt:109:9
+-- past the lengths
+none : (c : tie.Else1) → (let a = c .before .before .before .before .args in
+    firstOf sumOrder (coarseRows (a .degree) (coarse (a .counts .now) (a .sums .now))) ≡ 0)
+none c = sym (c .before .refuse-lengths .ensures) ∙ c .if1 .left
+
+long : (c : tie.Else1) → (let a = c .before .before .before .before .args in
+    (length (a .counts .now) ≡ parents (a .degree)) × (length (a .sums .now) ≡ parents (a .degree)))
+long c =
+    let a = c .before .before .before .before .args in
+    lengths-good (a .degree) (coarse (a .counts .now) (a .sums .now)) (none c)
+
 returns-2 : tie.Need-returns-2
-returns-2 c = ?
+returns-2 c =
+    let k = c .before in
+    let a = k .before .before .before .before .args in
+    no-parent (a .degree) (a .t) (a .list .now) (coarse (a .counts .now) (a .sums .now)) (none k) (c .if2 .taken)
 
--- src/lib.rt:111:13
 place-of-requires : tie.Need-place-of-requires
 place-of-requires c κs = search needs
 
--- src/lib.rt:112:32
+-- the parent's place
+up : (c : tie.After-place-of) → (let a = c .before .before .before .before .before .before .args in
+    Above (a .degree) (a .t) (a .list .now) (c .place-of .result / 4))
+up c =
+    let s = c .before .before .before .before .before .before in
+    above (s .args .degree) (s .args .list .now) (c .place-of .ensures) (c .before .if2 .left) (s .pre .0) (s .pre .1)
+    (s .pre .2)
+
+fits : (c : tie.After-place-of) → placeOf (c .before .before .before .before .before .before .args .t) < 2 ^ 53
+fits c = place-fits (c .before .before .before .before .before .before .pre .1)
+
 mul-tally-from : tie.Need-mul-tally-from
 mul-tally-from c = search needs
 
--- src/lib.rt:112:9
 tally-from-requires : tie.Need-tally-from-requires
-tally-from-requires c κs = ?
+tally-from-requires c κs = up c .four
 
--- src/lib.rt:113:8
 mul-if3 : tie.Need-mul-if3
-mul-if3 c = ?
+mul-if3 c = let p = c .before in omega (arith, fits p, p .place-of .ensures)
 
--- src/lib.rt:113:8
 shared-slice-read-if3 : tie.Need-shared-slice-read-if3
-shared-slice-read-if3 c = ?
+shared-slice-read-if3 c =
+    let p = c .before .before in
+    omega (arith, up p .here, long (p .before .before) .0)
 
--- src/lib.rt:114:9
+-- what the four places give is what the parent's children have
+tallied : (c : tie.After-tally-from) → (let a = c .before .before .before .before .before .before .before .args in
+    (c .tally-from .result .count ≡ countIn (parentOf (a .t)) (a .list .now))
+    × (c .tally-from .result .sum ≡ sumIn (parentOf (a .t)) (a .list .now)))
+tallied c =
+    let e = c .tally-from .ensures in
+    let q = up (c .before) .present-is in
+    (e .0 ∙ ap length q, e .1 ∙ ap sum q)
+
 returns-3 : tie.Need-returns-3
-returns-3 c = ?
+returns-3 c =
+    let k = c .before .before .before in
+    let p = k .before in
+    let a = p .before .before .before .before .before .before .args in
+    let stored = ap (λ (i : ℕ). getD (a .counts .now) i 0) (up p .place) in
+    other-count (a .degree) (a .t) (a .list .now) (coarse (a .counts .now) (a .sums .now)) (none (p .before .before))
+    (p .before .if2 .left) (λ q. c .if3 .taken (stored ∙ q ∙ sym (tallied k .0)))
 
--- src/lib.rt:116:8
 mul-if4 : tie.Need-mul-if4
-mul-if4 c = ?
+mul-if4 c = let p = c .before .before .before .before in omega (arith, fits p, p .place-of .ensures)
 
--- src/lib.rt:116:8
 shared-slice-read-if4 : tie.Need-shared-slice-read-if4
-shared-slice-read-if4 c = ?
+shared-slice-read-if4 c =
+    let p = c .before .before .before .before .before in
+    omega (arith, up p .here, long (p .before .before) .1)
 
--- src/lib.rt:117:9
 returns-4 : tie.Need-returns-4
-returns-4 c = ?
+returns-4 c =
+    let k = c .before .before .before .before .before .before in
+    let p = k .before in
+    let a = p .before .before .before .before .before .before .args in
+    let stored = ap (λ (i : ℕ). getD (a .sums .now) i 0) (up p .place) in
+    other-sum (a .degree) (a .t) (a .list .now) (coarse (a .counts .now) (a .sums .now)) (none (p .before .before))
+    (p .before .if2 .left) (λ q. c .if4 .taken (stored ∙ q ∙ sym (tallied k .1)))
 
--- src/lib.rt:91:1
 returns-5 : tie.Need-returns-5
-returns-5 c = ?
+returns-5 c =
+    let e = c .before .before .before in
+    let k = e .before .before .before in
+    let p = k .before in
+    let a = p .before .before .before .before .before .before .args in
+    let counted = ap (λ (i : ℕ). getD (a .counts .now) i 0) (up p .place) in
+    let summed = ap (λ (i : ℕ). getD (a .sums .now) i 0) (up p .place) in
+    same-parent (a .degree) (a .t) (a .list .now) (coarse (a .counts .now) (a .sums .now)) (none (p .before .before))
+    (p .before .if2 .left) (sym counted ∙ e .if3 .left ∙ tallied k .0) (sym summed ∙ c .if4 .left ∙ tallied k .1)
 
 pub refuse-coarse-spec : {M : Type 1} → statement M
 refuse-coarse-spec =

@@ -1,25 +1,34 @@
+-- Length by length (Refused). Assumes nothing.
+use mathlib.Core.Path.{_∙_, sym}
+use Rattle.coarse.specs.Sums.{coarse}
+use Rattle.coarse.proofs.Refused.{wrong-counts, wrong-sums, right-lengths}
 use borrow.Author.Needs.{needs}
 use Rattle.coarse.proofs.refuse_lengths.Statement.{statement}
 use Rattle.coarse.proofs.refuse_lengths.Tie as tie
-use Rattle.coarse.proofs.refuse_lengths.Reads as reads
-use Rattle.coarse.proofs.refuse_lengths.Lts as lts
-use Rattle.coarse.proofs.parents_of.Reads as parents-of-reads
 
--- src/lib.rt:80:9
 parents-of-requires : tie.Need-parents-of-requires
 parents-of-requires c κs = search needs
 
--- src/lib.rt:82:9
 returns : tie.Need-returns
-returns c = ?
+returns c =
+    let k = c .before in
+    let a = k .before .before .before .args in
+    wrong-counts (a .degree) (coarse (a .counts .now) (a .sums .now))
+    (λ q. c .if1 .taken (q ∙ sym (k .parents-of .ensures)))
 
--- src/lib.rt:85:9
 returns-2 : tie.Need-returns-2
-returns-2 c = ?
+returns-2 c =
+    let k = c .before .before in
+    let a = k .before .before .before .args in
+    wrong-sums (a .degree) (coarse (a .counts .now) (a .sums .now))
+    (λ q. c .if2 .taken (q ∙ sym (k .parents-of .ensures)))
 
--- src/lib.rt:76:1
 returns-3 : tie.Need-returns-3
-returns-3 c = ?
+returns-3 c =
+    let k = c .before .before in
+    let a = k .before .before .before .args in
+    right-lengths (a .degree) (coarse (a .counts .now) (a .sums .now)) (c .before .if1 .left ∙ k .parents-of .ensures)
+    (c .if2 .left ∙ k .parents-of .ensures)
 
 pub refuse-lengths-spec : {M : Type 1} → statement M
 refuse-lengths-spec = tie.close (tie.spec parents-of-requires returns returns-2 returns-3)

@@ -1,45 +1,41 @@
+-- What the four places give, at one place of each list. Assumes nothing.
+use mathlib.Core.Path.{_≡_, ap}
+use mathlib.Core.List.{List}
+use Prim.Native.Nat.{ℕ}
+use lib.ListN.{set}
 use borrow.Author.Needs.{needs}
 use Rattle.coarse.proofs.store.Statement.{statement}
 use Rattle.coarse.proofs.store.Tie as tie
-use Rattle.coarse.proofs.store.Reads as reads
-use Rattle.coarse.proofs.store.Lts as lts
-use Rattle.coarse.proofs.tally_from.Reads as tally-from-reads
 
--- src/lib.rt:132:34
 mul-tally-from : tie.Need-mul-tally-from
 mul-tally-from c = search needs
 
--- src/lib.rt:132:9
 tally-from-requires : tie.Need-tally-from-requires
 tally-from-requires c κs = search needs
 
--- src/lib.rt:133:5
 mul-counts : tie.Need-mul-counts
 mul-counts c = search needs
 
--- src/lib.rt:133:5
 slice-write-counts : tie.Need-slice-write-counts
 slice-write-counts c = search needs
 
--- src/lib.rt:134:5
 mul-sums : tie.Need-mul-sums
 mul-sums c = search needs
 
--- src/lib.rt:134:5
 slice-write-sums : tie.Need-slice-write-sums
 slice-write-sums c = search needs
 
--- src/lib.rt:125:1
 same-length : tie.Need-same-length
 same-length c = search needs
 
--- src/lib.rt:125:1
 same-length-2 : tie.Need-same-length-2
 same-length-2 c = search needs
 
--- src/lib.rt:125:1
 returns : tie.Need-returns
-returns c = ?
+returns c =
+    let a = c .before .before .before .args in
+    let e = c .tally-from .ensures in
+    (ap (λ (x : ℕ). set (a .counts .now) (a .p) x) (e .0), ap (λ (x : ℕ). set (a .sums .now) (a .p) x) (e .1))
 
 pub store-spec : {M : Type 1} → statement M
 store-spec =

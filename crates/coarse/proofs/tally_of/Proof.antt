@@ -1,19 +1,43 @@
+-- By the sign (Tallying). Assumes nothing.
+use mathlib.Core.Path.{_≡_, _∙_, refl, sym, ap}
+use mathlib.Core.Bool.{true, false}
+use mathlib.Core.List.{List}
+use Prim.Native.Nat.{ℕ}
+use native.Mathlib.Omega.{arith}
+use lib.IntN.{pos}
+use lib.ListN.{length}
+use lib.Signed.{ltZ}
+use mir.Syntax.{w32}
+use mir.ValLaws.{toZ-ofZ}
+use Rattle.net.specs.Division.{sum}
+use Rattle.coarse.proofs.Tallying.{none-present, Counts, counts, sum-one, sum-nothing}
 use Rattle.coarse.proofs.tally_of.Statement.{statement}
 use Rattle.coarse.proofs.tally_of.Tie as tie
-use Rattle.coarse.proofs.tally_of.Reads as reads
-use Rattle.coarse.proofs.tally_of.Lts as lts
 
--- src/lib.rt:34:9
 returns : tie.Need-returns
-returns c = ?
+returns c =
+    let x = c .before .args .number in
+    let h : ltZ x (pos 0) ≡ true = rw (toZ-ofZ w32 x (c .before .fits .number)) at (c .if1 .taken) in
+    rw (none-present x h) (refl, sum-nothing, omega arith, omega arith)
 
--- src/lib.rt:41:14
+-- a reading
+reading : (c : tie.Else1) → Counts (c .before .args .number)
+reading c =
+    let x = c .before .args .number in
+    counts x (rw (toZ-ofZ w32 x (c .before .fits .number)) at (c .if1 .left))
+
 cast-t3 : tie.Need-cast-t3
-cast-t3 c = ?
+cast-t3 c =
+    let x = c .before .args .number in
+    rw (toZ-ofZ w32 x (c .before .fits .number))
+    (reading c .castable, omega (arith, reading c .cast, c .before .fits .number .sfits))
 
--- src/lib.rt:27:1
 returns-2 : tie.Need-returns-2
-returns-2 c = ?
+returns-2 c =
+    let x = c .before .args .number in
+    let k = reading c in
+    rw (toZ-ofZ w32 x (c .before .fits .number), k .present-is)
+    (refl, sum-one _, omega arith, omega (arith, k .cast, c .before .fits .number .sfits))
 
 pub tally-of-spec : {M : Type 1} → statement M
 tally-of-spec = tie.close (tie.spec returns cast-t3 returns-2)

@@ -1,0 +1,155 @@
+-- The refusals 28 and 29, test by test, and what an answered call knows. Assumes nothing.
+use mathlib.Core.Path.{_≡_, _∙_, refl, sym}
+use mathlib.Core.Logic.{_↔_}
+use mathlib.Core.Bool.{true, false, not, _&&_}
+use mathlib.Core.List.{List, _++_}
+use Prim.Native.Nat.{ℕ, _≤_}
+use borrow.Author.Tests.{eq-eqb, ne-eqb, eqb-true, not-false}
+use lib.Dec.{eqb}
+use lib.IntN.{ℤ}
+use lib.ListN.{length}
+use Rattle.frame.specs.Refusals.{_either_, firstOf}
+use Rattle.frame.proofs.Refusing.{here, next, nothing, not-given, refuse-first, refuse-before, refuse-after, refuse-rest}
+use Rattle.frame.proofs.Refusing.{NoneSo, none-so, none-after, either-right, either-false}
+use Rattle.words.specs.Family.{parentOf}
+use Rattle.words.specs.declared.TriangleCode.{TriangleCode}
+use Rattle.tables.specs.Tables.{places, anyBad, IsTable}
+use Rattle.tables.specs.Refusals.{tableOrder, deskOrder, largeRows, tableRows, deedRows, refuseDeed}
+use Rattle.tables.specs.declared.Deed.{Deed}
+use Rattle.tables.proofs.Refused.{large, list-good}
+use Rattle.coarse.specs.Sums.{countIn, sumIn, parents, Coarse, storedFor, Chart}
+use Rattle.coarse.specs.Refusals.{sumOrder, coarseRows, differs, parentRows, keptRows, refuseKept, refuseAfresh}
+
+-- ---- of the lengths
+
+module _ (n : ℕ) (c : Coarse) where
+  pub wrong-counts : (length (c .counts) ≡ parents n → ⊥) → 28 ≡ firstOf sumOrder (coarseRows n c)
+  wrong-counts k =
+      refuse-first sumOrder (coarseRows n c) tt (here (rw (ne-eqb (length (c .counts)) (parents n) k)))
+
+  pub wrong-sums : (length (c .sums) ≡ parents n → ⊥) → 28 ≡ firstOf sumOrder (coarseRows n c)
+  wrong-sums k =
+      refuse-first sumOrder (coarseRows n c) tt
+      (here (either-right (not (eqb (length (c .counts)) (parents n))) _
+      (rw (ne-eqb (length (c .sums)) (parents n) k))))
+
+  pub coarse-good : NoneSo (coarseRows n c) ↔ ((length (c .counts) ≡ parents n) × (length (c .sums) ≡ parents n))
+  coarse-good = (
+    λ z.
+        let k = either-false (not (eqb (length (c .counts)) (parents n))) _ .0 (z .0) in
+        (eqb-true _ _ (not-false _ (k .0)), eqb-true _ _ (not-false _ (k .1))),
+    λ g. (rw (eq-eqb (length (c .counts)) (parents n) (g .0), eq-eqb (length (c .sums)) (parents n) (g .1)) refl, tt),
+  )
+
+  pub right-lengths : length (c .counts) ≡ parents n → length (c .sums) ≡ parents n
+      → 0 ≡ firstOf sumOrder (coarseRows n c)
+  right-lengths e g = sym (none-so sumOrder (coarseRows n c) tt .1 (coarse-good .1 (e, g)))
+
+  pub lengths-good : firstOf sumOrder (coarseRows n c) ≡ 0
+      → (length (c .counts) ≡ parents n) × (length (c .sums) ≡ parents n)
+  lengths-good z = coarse-good .0 (none-so sumOrder (coarseRows n c) tt .0 z)
+
+  pub coarse-not-23 : firstOf sumOrder (coarseRows n c) ≡ 23 → ⊥
+  coarse-not-23 = not-given sumOrder (coarseRows n c) 22 tt
+
+-- ---- of the parent
+
+module _ (n : ℕ) (t : TriangleCode) (list : List ℤ) (c : Coarse) where
+  pub lengths-first : {f : ℕ} → f ≡ firstOf sumOrder (coarseRows n c) → (f ≡ 0 → ⊥)
+      → f ≡ firstOf sumOrder (keptRows n t list c)
+  lengths-first = refuse-before sumOrder sumOrder (coarseRows n c) (parentRows n t list c) tt tt
+
+  module _ (z : firstOf sumOrder (coarseRows n c) ≡ 0) where
+    pub no-parent : n ≡ 0 → 0 ≡ firstOf sumOrder (keptRows n t list c)
+    no-parent q =
+        refuse-after sumOrder sumOrder (coarseRows n c) (parentRows n t list c) tt tt z
+        (next (rw (eq-eqb n 0 q)) nothing)
+
+    module _ (some : n ≡ 0 → ⊥) where
+      pub other-count : (storedFor (parentOf t) (c .counts) ≡ countIn (parentOf t) list → ⊥)
+          → 29 ≡ firstOf sumOrder (keptRows n t list c)
+      other-count k =
+          refuse-after sumOrder sumOrder (coarseRows n c) (parentRows n t list c) tt tt z
+          (here (rw (ne-eqb n 0 some, ne-eqb (storedFor (parentOf t) (c .counts)) (countIn (parentOf t) list) k)))
+
+      pub other-sum : (storedFor (parentOf t) (c .sums) ≡ sumIn (parentOf t) list → ⊥)
+          → 29 ≡ firstOf sumOrder (keptRows n t list c)
+      other-sum k =
+          refuse-after sumOrder sumOrder (coarseRows n c) (parentRows n t list c) tt tt z
+          (here (rw (ne-eqb n 0 some)
+          (either-right (not (eqb (storedFor (parentOf t) (c .counts)) (countIn (parentOf t) list))) _
+          (rw (ne-eqb (storedFor (parentOf t) (c .sums)) (sumIn (parentOf t) list) k)))))
+
+      pub same-parent : storedFor (parentOf t) (c .counts) ≡ countIn (parentOf t) list
+          → storedFor (parentOf t) (c .sums) ≡ sumIn (parentOf t) list → 0 ≡ firstOf sumOrder (keptRows n t list c)
+      same-parent q w =
+          refuse-after sumOrder sumOrder (coarseRows n c) (parentRows n t list c) tt tt z
+          (next (rw (ne-eqb n 0 some, eq-eqb (storedFor (parentOf t) (c .counts)) (countIn (parentOf t) list) q,
+          eq-eqb (storedFor (parentOf t) (c .sums)) (sumIn (parentOf t) list) w)) nothing)
+
+  pub kept-not-23 : firstOf sumOrder (keptRows n t list c) ≡ 23 → ⊥
+  kept-not-23 = not-given sumOrder (keptRows n t list c) 22 tt
+
+-- ---- a call's, after those of 2026-07
+
+module _ (e : Deed) (d n : ℕ) (t : TriangleCode) (c : Chart) where
+  pub kept-first : {f : ℕ} → f ≡ refuseDeed e d n t (c .shared) → (f ≡ 0 → ⊥) → f ≡ refuseKept e d n t c
+  unfolding refuseDeed refuseKept
+  kept-first =
+      refuse-before deskOrder sumOrder (deedRows e d n t (c .shared))
+      (keptRows n t (c .shared .readings) (c .coarse)) tt tt
+
+  pub kept-then : refuseDeed e d n t (c .shared) ≡ 0
+      → firstOf sumOrder (keptRows n t (c .shared .readings) (c .coarse)) ≡ refuseKept e d n t c
+  unfolding refuseDeed refuseKept
+  kept-then =
+      refuse-rest deskOrder sumOrder sumOrder (deedRows e d n t (c .shared))
+      (keptRows n t (c .shared .readings) (c .coarse)) tt tt tt
+
+  pub kept-passed : (refuseKept e d n t c ≡ 0)
+      ↔ ((refuseDeed e d n t (c .shared) ≡ 0) × NoneSo (keptRows n t (c .shared .readings) (c .coarse)))
+  unfolding refuseDeed refuseKept
+  kept-passed =
+      none-after deskOrder sumOrder (deedRows e d n t (c .shared))
+      (keptRows n t (c .shared .readings) (c .coarse)) tt tt
+
+-- ---- of working out afresh
+
+-- What it knows when it is answered.
+pub record Afresh (n : ℕ) (list : List ℤ) (c : Coarse) : Type 0 where
+  pub degree : n ≤ 6
+  pub long : length list ≡ places n
+  pub counts-long : length (c .counts) ≡ parents n
+  pub sums-long : length (c .sums) ≡ parents n
+
+module _ (n : ℕ) (list : List ℤ) (c : Coarse) where
+  pub degree-first : {f : ℕ} → f ≡ firstOf tableOrder (largeRows n) → (f ≡ 0 → ⊥) → f ≡ refuseAfresh n list c
+  unfolding refuseAfresh
+  degree-first = refuse-before tableOrder sumOrder (largeRows n) (tableRows n list ++ coarseRows n c) tt tt
+
+  module _ (z : firstOf tableOrder (largeRows n) ≡ 0) where
+    rest : firstOf sumOrder (tableRows n list ++ coarseRows n c) ≡ refuseAfresh n list c
+    unfolding refuseAfresh
+    rest = refuse-rest tableOrder sumOrder sumOrder (largeRows n) (tableRows n list ++ coarseRows n c) tt tt tt z
+
+    pub list-first : {f : ℕ} → f ≡ firstOf tableOrder (tableRows n list) → (f ≡ 0 → ⊥)
+        → f ≡ refuseAfresh n list c
+    list-first e some = refuse-before tableOrder sumOrder (tableRows n list) (coarseRows n c) tt tt e some ∙ rest
+
+    pub lengths-last : firstOf tableOrder (tableRows n list) ≡ 0
+        → firstOf sumOrder (coarseRows n c) ≡ refuseAfresh n list c
+    lengths-last y =
+        refuse-rest tableOrder sumOrder sumOrder (tableRows n list) (coarseRows n c) tt tt tt y ∙ rest
+
+  pub afresh-passed : refuseAfresh n list c ≡ 0 → Afresh n list c
+  unfolding refuseAfresh
+  afresh-passed q =
+      let z = none-after tableOrder sumOrder (largeRows n) (tableRows n list ++ coarseRows n c) tt tt .0 q in
+      let g = list-good n list .0 (z .1 .0, (z .1 .1 .0, tt)) in
+      let k = coarse-good n c .0 (z .1 .1 .1) in
+      record {
+        degree = large n refl .small (z .0);
+        long = g .0;
+        counts-long = k .0;
+        sums-long = k .1;
+      }

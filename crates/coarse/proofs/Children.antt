@@ -7,14 +7,16 @@ use native.Mathlib.Nat.{pow-suc}
 use native.Mathlib.Omega.{arith}
 use lib.IntN.{ℤ}
 use lib.ListN.{length, getD, set}
+use Rattle.frame.specs.Lists.{below}
+use Rattle.frame.proofs.Below.{below-same}
 use Rattle.words.specs.Refusals.{IsCode}
 use Rattle.words.specs.Family.{parentOf, childOf}
-use Rattle.words.specs.Counting.{placeOf}
+use Rattle.words.specs.Counting.{codeAt, placeOf}
 use Rattle.words.specs.declared.TriangleCode.{TriangleCode}
-use Rattle.words.proofs.CodeCount.{place-below}
+use Rattle.words.proofs.CodeCount.{place-below, code-at, place-at}
 use Rattle.words.proofs.ChildPlaces.{child-place, up}
 use Rattle.tables.specs.Tables.{places, none, numberAt}
-use Rattle.coarse.specs.Sums.{present, presentIn, parents, kept}
+use Rattle.coarse.specs.Sums.{present, presentIn, parents, everyParent, kept}
 use Rattle.coarse.specs.Means.{presentFrom}
 
 pub from-children : {n : ℕ} {q : TriangleCode} (list : List ℤ) → IsCode n q → n < 24
@@ -23,7 +25,7 @@ from-children {n} {q} list c l =
     let p = 4 * placeOf q in
     let z : p ≡ p + 0 = omega arith in
     λ i. present (at 0 (omega arith) z i ∷ at 1 (omega arith) refl i ∷ at 2 (omega arith) refl i
-        ∷ at 3 (omega arith) refl i ∷ [])
+    ∷ at 3 (omega arith) refl i ∷ [])
   where
     at : (k : ℕ) → k ≤ 3 → {x : ℕ} → x ≡ 4 * placeOf q + k → getD list x none ≡ numberAt (childOf q k) list
     at k h e = ap (λ (i : ℕ). getD list i none) (e ∙ sym (child-place c l k h))
@@ -69,3 +71,14 @@ pub kept-none : (n : ℕ) → n ≡ 0 → (t : TriangleCode) (f : TriangleCode �
     → list ≡ kept n t f list
 kept-none zero z t f list = refl
 kept-none (suc n) z t f list = absurd (omega arith)
+
+-- what is said of every four places is said of every parent
+pub every-parent : (g : List ℕ → ℕ) (list : List ℤ) (n : ℕ) {m : ℕ} → n ≤ 6 → m ≡ parents n
+    → below m (λ i. g (presentFrom (4 * i) list)) ≡ everyParent n (λ p. g (presentIn p list))
+unfolding below everyParent
+every-parent g list zero h e = ap (λ (m : ℕ). below m (λ i. g (presentFrom (4 * i) list))) e
+every-parent g list (suc n) h e =
+    ap (λ (m : ℕ). below m (λ i. g (presentFrom (4 * i) list))) e
+    ∙ below-same (places n) (λ i. g (presentIn (codeAt n i) list)) (λ i. g (presentFrom (4 * i) list))
+    (λ i k. ap (λ (x : ℕ). g (presentFrom (4 * x) list)) (sym (place-at n i (omega arith)))
+    ∙ ap g (from-children list (code-at n i (omega arith) k) (omega arith)))

@@ -17,6 +17,7 @@ use Rattle.tables.specs.Tables.{places, anyBad, IsTable}
 use Rattle.tables.specs.Refusals.{tableOrder, deskOrder, largeRows, tableRows, deedRows, refuseDeed}
 use Rattle.tables.specs.declared.Deed.{Deed}
 use Rattle.tables.proofs.Refused.{large, list-good}
+use Rattle.tables.proofs.Deeds.{Owned, deed-passed}
 use Rattle.coarse.specs.Sums.{countIn, sumIn, parents, Coarse, storedFor, Chart}
 use Rattle.coarse.specs.Refusals.{sumOrder, coarseRows, differs, parentRows, keptRows, refuseKept, refuseAfresh}
 
@@ -84,8 +85,11 @@ module _ (n : ℕ) (t : TriangleCode) (list : List ℤ) (c : Coarse) where
           → storedFor (parentOf t) (c .sums) ≡ sumIn (parentOf t) list → 0 ≡ firstOf sumOrder (keptRows n t list c)
       same-parent q w =
           refuse-after sumOrder sumOrder (coarseRows n c) (parentRows n t list c) tt tt z
-          (next (rw (ne-eqb n 0 some, eq-eqb (storedFor (parentOf t) (c .counts)) (countIn (parentOf t) list) q,
-          eq-eqb (storedFor (parentOf t) (c .sums)) (sumIn (parentOf t) list) w)) nothing)
+          (next (rw (
+            ne-eqb n 0 some,
+            eq-eqb (storedFor (parentOf t) (c .counts)) (countIn (parentOf t) list) q,
+            eq-eqb (storedFor (parentOf t) (c .sums)) (sumIn (parentOf t) list) w,
+          )) nothing)
 
   pub kept-not-23 : firstOf sumOrder (keptRows n t list c) ≡ 23 → ⊥
   kept-not-23 = not-given sumOrder (keptRows n t list c) 22 tt
@@ -112,6 +116,18 @@ module _ (e : Deed) (d n : ℕ) (t : TriangleCode) (c : Chart) where
   kept-passed =
       none-after deskOrder sumOrder (deedRows e d n t (c .shared))
       (keptRows n t (c .shared .readings) (c .coarse)) tt tt
+
+-- What an answered call that writes knows.
+pub record Kept (e : Deed) (d n : ℕ) (t : TriangleCode) (c : Chart) : Type 0 where
+  pub owned : Owned e d n t (c .shared)
+  pub counts-long : length (c .coarse .counts) ≡ parents n
+  pub sums-long : length (c .coarse .sums) ≡ parents n
+
+pub kept-known : (e : Deed) (d n : ℕ) (t : TriangleCode) (c : Chart) → refuseKept e d n t c ≡ 0 → Kept e d n t c
+kept-known e d n t c z =
+    let k = kept-passed e d n t c .0 z in
+    let g = coarse-good n (c .coarse) .0 (k .1 .0, tt) in
+    record { owned = deed-passed e d n t (c .shared) (k .0); counts-long = g .0; sums-long = g .1 }
 
 -- ---- of working out afresh
 

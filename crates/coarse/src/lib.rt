@@ -31,10 +31,7 @@ fn tally_of(number: i32) -> Tally
         ⌝ }
 {
     if number < 0 {
-        return Tally {
-            count: 0,
-            sum: 0,
-        };
+        return Tally { count: 0, sum: 0 };
     }
     Tally {
         count: 1,

@@ -10,6 +10,7 @@ use words::TriangleCode;
 ghost use mathlib.Core.Path.{_≡_};
 ghost use Prim.Native.Nat.{_<_};
 ghost use lib.ListN.{length};
+ghost use Rattle.words.specs.Refusals.{checkCode};
 ghost use Rattle.words.specs.Counting.{placeOf};
 ghost use Rattle.tables.specs.Owners.{shared, sharedAfter};
 ghost use Rattle.tables.specs.Answers.{refused, GetAnswer};
@@ -69,7 +70,9 @@ fn refuse_kept(
 
 // What the deed leaves at its triangle's place of the readings and of the owners.
 fn write(deed: Deed, desk: u8, t: TriangleCode, list: &mut [i32], owners: &mut [u8])
-    requires { ⌜ (placeOf t < length (now list)) × (placeOf t < length (now owners)) ⌝ }
+    requires { ⌜
+        (checkCode t ≡ 0) × (placeOf t < length (now list)) × (placeOf t < length (now owners))
+        ⌝ }
     ensures { λ r. ⌜
         shared (now (list .exit)) (now (owners .exit))
         ≡ sharedAfter deed desk t (shared (now (list .entry)) (now (owners .entry)))
@@ -143,7 +146,16 @@ pub fn set(
         (chart (shared (now (list .exit)) (now (owners .exit))) (coarse (now (counts .exit)) (now (sums .exit))))
         ⌝ }
 {
-    carry_out(Deed::Setting(reading), desk, degree, t, list, owners, counts, sums)
+    carry_out(
+        Deed::Setting(reading),
+        desk,
+        degree,
+        t,
+        list,
+        owners,
+        counts,
+        sums,
+    )
 }
 
 // Leaves a triangle of the desk's with no reading.

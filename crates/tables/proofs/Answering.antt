@@ -4,15 +4,14 @@ use mathlib.Core.List.{List}
 use Prim.Native.Nat.{ℕ}
 use borrow.Author.Tests.{ne-eqb}
 use lib.IntN.{ℤ}
+use Rattle.frame.specs.Answers.{Known}
 use Rattle.frame.proofs.Answering.{answering, refused-as}
 use Rattle.words.specs.declared.TriangleCode.{TriangleCode}
 use Rattle.tables.specs.Tables.{leastBad, said, numberAt}
-use Rattle.tables.specs.Owners.{Shared, sharedAfter}
-use Rattle.tables.specs.Refusals.{refuseGet, refuseDeed}
-use Rattle.tables.specs.Answers.{tableAnswer, soundingAnswer, refused, GetAnswer, DeedAnswer}
+use Rattle.tables.specs.Refusals.{refuseGet}
+use Rattle.tables.specs.Answers.{tableAnswer, soundingAnswer, refused, GetAnswer}
 use Rattle.tables.specs.declared.Sounding.{Sounding}
 use Rattle.tables.specs.declared.Sounding.the-variants.{Nothing}
-use Rattle.tables.specs.declared.Deed.{Deed}
 use Rattle.tables.specs.declared.TableAnswer.{TableAnswer}
 
 -- ---- the place beside a refusal
@@ -55,13 +54,15 @@ module _ (n : ℕ) (t : TriangleCode) (list : List ℤ) (a : TableAnswer) (e : a
         → GetAnswer n t list (soundingAnswer 0 0 s)
     get-found z q = answering (none list _ a e z) (ap (soundingAnswer 0 0) q)
 
-module _ (e : Deed) (d n : ℕ) (t : TriangleCode) (s : Shared) (a : TableAnswer)
-    (q : a ≡ refused (s .readings) (refuseDeed e d n t s)) where
-  pub deed-refused : (a .refusal ≡ 0 → ⊥) → DeedAnswer e d n t s a s
-  deed-refused k = refused-as (ap (λ (r : TableAnswer). (r, s)) q) (some (s .readings) _ a q k)
+-- a call that writes: `old` is the lists as they come, `then` as an answered call leaves them
+module _ {S : Type 0} (list : List ℤ) (f : ℕ) (then old : S) (a : TableAnswer) (q : a ≡ refused list f) where
+  abbrev Answered : S → Type 0
+  Answered new = Known {A = TableAnswer × S} f (tableAnswer 0 0, then) (λ k. (refused list k, old)) (a, new)
 
-  pub deed-done : a .refusal ≡ 0 → {new : Shared} → new ≡ sharedAfter e d t s → DeedAnswer e d n t s a new
-  deed-done z w =
-      let f = none (s .readings) _ a q z in
-      let k : a ≡ tableAnswer 0 0 = q ∙ ap (refused (s .readings)) f in
-      answering f (λ i. (k i, w i))
+  pub lent-refused : (a .refusal ≡ 0 → ⊥) → Answered old
+  lent-refused k = refused-as (ap (λ (r : TableAnswer). (r, old)) q) (some list _ a q k)
+
+  pub lent-written : a .refusal ≡ 0 → {new : S} → new ≡ then → Answered new
+  lent-written z w =
+      let e : a ≡ tableAnswer 0 0 = q ∙ ap (refused list) (none list _ a q z) in
+      answering (none list _ a q z) (λ i. (e i, w i))

@@ -6,7 +6,7 @@ use Prim.Native.Nat.{ℕ, _≤_}
 use borrow.Author.Tests.{not-false}
 use lib.Dec.{eqb}
 use lib.IntN.{ℤ}
-use lib.ListN.{set, length-set, length-replicate}
+use lib.ListN.{length, set, length-set, length-replicate}
 use Rattle.frame.proofs.Scanning.{none-at, none-set, none-replicate}
 use Rattle.words.specs.Refusals.{IsCode}
 use Rattle.words.specs.Counting.{placeOf}
@@ -94,6 +94,10 @@ module _ {n : ℕ} {s : Shared} (is : IsShared n s) where
     pub after-at : IsCode n t → (u : TriangleCode) → IsCode n u
         → heldAt u (sharedAfter e d t s) ≡ cond (eqb (u .0) (t .0)) (heldAfter e d (heldAt t s)) (heldAt u s)
     after-at c = hold-at c (heldAfter e d (heldAt t s)) (stored-said e (numberAt t (s .readings)) b)
+
+pub after-long : (e : Deed) (d : ℕ) (t : TriangleCode) (s : Shared)
+    → length (sharedAfter e d t s .readings) ≡ length (s .readings)
+after-long e d t s = length-set (s .readings) (placeOf t) (number (soundingAfter e (said (numberAt t (s .readings)))))
 
 -- ---- a fresh table
 

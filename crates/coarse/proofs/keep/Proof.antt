@@ -15,7 +15,7 @@ returns c =
     let a = c .before .before .before .args in
     let list = a .list .now in
     λ i. coarse (kept-none (a .degree) (c .if1 .taken) (a .t) (λ p. countIn p list) (a .counts .now) i)
-        (kept-none (a .degree) (c .if1 .taken) (a .t) (λ p. sumIn p list) (a .sums .now) i)
+    (kept-none (a .degree) (c .if1 .taken) (a .t) (λ p. sumIn p list) (a .sums .now) i)
 
 place-of-requires : tie.Need-place-of-requires
 place-of-requires c κs = search needs
@@ -51,10 +51,10 @@ returns-2 c =
     let u = up p in
     let e = k .store .ensures in
     λ i. coarse
-        ((e .0 ∙ kept-set (a .degree) some (a .t) (λ q. countIn q list) (a .counts .now) (u .place)
-        (ap length (u .present-is))) i)
-        ((e .1 ∙ kept-set (a .degree) some (a .t) (λ q. sumIn q list) (a .sums .now) (u .place)
-        (ap sum (u .present-is))) i)
+    ((e .0 ∙ kept-set (a .degree) some (a .t) (λ q. countIn q list) (a .counts .now) (u .place)
+    (ap length (u .present-is))) i)
+    ((e .1 ∙ kept-set (a .degree) some (a .t) (λ q. sumIn q list) (a .sums .now) (u .place)
+    (ap sum (u .present-is))) i)
 
 pub keep-spec : {M : Type 1} → statement M
 keep-spec =

@@ -48,14 +48,13 @@ loop-again c =
     let l = k .before .before .before .before .loop in
     let a = k .before .before .before .before .before .before .before .args in
     let list = a .list .now in
-    let e = k .store .ensures in
-    (
+    let e = k .store .ensures in (
       omega arith,
       simp add-one (e .0 ∙ ap (λ (x : List ℕ). set x (l .p) (counted list (l .p))) (l .inv .1)
-      ∙ below-next (counted list) (a .counts .now) (l .p) (omega arith) refl),
+          ∙ below-next (counted list) (a .counts .now) (l .p) (omega arith) refl),
       ap length (e .0) ∙ length-set (l .counts) (l .p) (counted list (l .p)) ∙ l .inv .2,
       simp add-one (e .1 ∙ ap (λ (x : List ℕ). set x (l .p) (summed list (l .p))) (l .inv .3)
-      ∙ below-next (summed list) (a .sums .now) (l .p) (omega arith) refl),
+          ∙ below-next (summed list) (a .sums .now) (l .p) (omega arith) refl),
       ap length (e .1) ∙ length-set (l .sums) (l .p) (summed list (l .p)) ∙ l .inv .4,
     )
 
@@ -68,8 +67,7 @@ same-length-2 c = c .before .loop .inv .4
 returns : tie.Need-returns Inv-loop μ-loop
 returns c =
     let l = c .before .loop in
-    let a = c .before .before .before .before .args in
-    (
+    let a = c .before .before .before .before .args in (
       l .inv .1 ∙ below-all (counted (a .list .now)) (a .counts .now) (l .p) (omega arith) (l .inv .0),
       l .inv .3 ∙ below-all (summed (a .list .now)) (a .sums .now) (l .p) (omega arith) (omega arith),
     )

@@ -96,14 +96,13 @@ returns c =
     let e3 = rw (toZ-ofZ w32 (getD list (i + 2) (pos 0)) (record { sfits = k3 .before .tally-of-arg3 .given }))
     at (k3 .tally-of3 .ensures) in
     let e4 = rw (toZ-ofZ w32 (getD list (i + 3) (pos 0)) (record { sfits = k4 .before .tally-of-arg4 .given }))
-    at (k4 .tally-of4 .ensures) in
-    (
+    at (k4 .tally-of4 .ensures) in (
       (λ j. read count list i (omega arith) (e1 .0) j + read count list (i + 1) (omega arith) (e2 .0) j
           + read count list (i + 2) (omega arith) (e3 .0) j + read count list (i + 3) (omega arith) (e4 .0) j)
-      ∙ of-four counting (getD list i none) (getD list (i + 1) none) (getD list (i + 2) none) (getD list (i + 3) none),
+          ∙ of-four counting (getD list i none) (getD list (i + 1) none) (getD list (i + 2) none) (getD list (i + 3) none),
       (λ j. read total list i (omega arith) (e1 .1) j + read total list (i + 1) (omega arith) (e2 .1) j
           + read total list (i + 2) (omega arith) (e3 .1) j + read total list (i + 3) (omega arith) (e4 .1) j)
-      ∙ of-four summing (getD list i none) (getD list (i + 1) none) (getD list (i + 2) none) (getD list (i + 3) none),
+          ∙ of-four summing (getD list i none) (getD list (i + 1) none) (getD list (i + 2) none) (getD list (i + 3) none),
     )
 
 pub tally-from-spec : {M : Type 1} → statement M

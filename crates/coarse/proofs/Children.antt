@@ -2,7 +2,7 @@
 -- are. Assumes nothing.
 use mathlib.Core.Path.{_≡_, _∙_, refl, sym, ap}
 use mathlib.Core.List.{List, [], _∷_}
-use Prim.Native.Nat.{ℕ, zero, suc, _+_, _-_, _*_, _^_, _/_, _≤_, _<_}
+use Prim.Native.Nat.{ℕ, zero, suc, _+_, _-_, _*_, _/_, _≤_, _<_}
 use native.Mathlib.Nat.{pow-suc}
 use native.Mathlib.Omega.{arith}
 use lib.IntN.{ℤ}
@@ -27,7 +27,8 @@ from-children {n} {q} list c l =
     λ i. present (at 0 (omega arith) z i ∷ at 1 (omega arith) refl i ∷ at 2 (omega arith) refl i
     ∷ at 3 (omega arith) refl i ∷ [])
   where
-    at : (k : ℕ) → k ≤ 3 → {x : ℕ} → x ≡ 4 * placeOf q + k → getD list x none ≡ numberAt (childOf q k) list
+    at : (k : ℕ) → k ≤ 3 → {x : ℕ} → x ≡ 4 * placeOf q + k
+        → getD list x none ≡ numberAt (childOf q k) list
     at k h e = ap (λ (i : ℕ). getD list i none) (e ∙ sym (child-place c l k h))
 
 -- ---- one degree up
@@ -48,8 +49,8 @@ pub record Above (n : ℕ) (t : TriangleCode) (list : List ℤ) (i : ℕ) : Type
   pub four : 4 * i + 3 < length list
   pub present-is : presentFrom (4 * i) list ≡ presentIn (parentOf t) list
 
-pub above : (n : ℕ) {t : TriangleCode} (list : List ℤ) {k : ℕ} → k ≡ placeOf t → (n ≡ 0 → ⊥) → n ≤ 6
-    → IsCode n t → length list ≡ places n → Above n t list (k / 4)
+pub above : (n : ℕ) {t : TriangleCode} (list : List ℤ) {k : ℕ} → k ≡ placeOf t → (n ≡ 0 → ⊥)
+    → n ≤ 6 → IsCode n t → length list ≡ places n → Above n t list (k / 4)
 above zero list w z l c e = absurd (z refl)
 above (suc n) {t} list {k} w z l c e =
     let u = up c (omega arith) in
@@ -62,8 +63,8 @@ above (suc n) {t} list {k} w z l c e =
       present-is = ap (λ (j : ℕ). presentFrom (4 * j) list) q ∙ from-children list (u .code) (omega arith);
     }
 
-pub kept-set : (n : ℕ) → (n ≡ 0 → ⊥) → (t : TriangleCode) (f : TriangleCode → ℕ) (list : List ℕ) {i v : ℕ}
-    → i ≡ placeOf (parentOf t) → v ≡ f (parentOf t) → set list i v ≡ kept n t f list
+pub kept-set : (n : ℕ) → (n ≡ 0 → ⊥) → (t : TriangleCode) (f : TriangleCode → ℕ) (list : List ℕ)
+    → {i v : ℕ} → i ≡ placeOf (parentOf t) → v ≡ f (parentOf t) → set list i v ≡ kept n t f list
 kept-set zero z t f list e q = absurd (z refl)
 kept-set (suc n) z t f list e q = λ j. set list (e j) (q j)
 

@@ -1,19 +1,19 @@
 -- The refusals 28 and 29, test by test, and what an answered call knows. Assumes nothing.
 use mathlib.Core.Path.{_≡_, _∙_, refl, sym}
 use mathlib.Core.Logic.{_↔_}
-use mathlib.Core.Bool.{true, false, not, _&&_}
+use mathlib.Core.Bool.{Bool, true, false, not, _&&_}
 use mathlib.Core.List.{List, _++_}
 use Prim.Native.Nat.{ℕ, _≤_}
-use borrow.Author.Tests.{eq-eqb, ne-eqb, eqb-true, not-false}
+use borrow.Author.Tests.{eq-eqb, ne-eqb, eqb-true, eqb-false, not-false}
 use lib.Dec.{eqb}
 use lib.IntN.{ℤ}
 use lib.ListN.{length}
-use Rattle.frame.specs.Refusals.{_either_, firstOf}
-use Rattle.frame.proofs.Refusing.{here, next, nothing, not-given, refuse-first, refuse-before, refuse-after, refuse-rest}
+use Rattle.frame.specs.Refusals.{firstOf}
+use Rattle.frame.proofs.Refusing.{here, not-given, refuse-first, refuse-before, refuse-after, refuse-rest}
 use Rattle.frame.proofs.Refusing.{NoneSo, none-so, none-after, either-right, either-false}
 use Rattle.words.specs.Family.{parentOf}
 use Rattle.words.specs.declared.TriangleCode.{TriangleCode}
-use Rattle.tables.specs.Tables.{places, anyBad, IsTable}
+use Rattle.tables.specs.Tables.{places}
 use Rattle.tables.specs.Refusals.{tableOrder, deskOrder, largeRows, tableRows, deedRows, refuseDeed}
 use Rattle.tables.specs.declared.Deed.{Deed}
 use Rattle.tables.proofs.Refused.{large, list-good}
@@ -55,17 +55,48 @@ module _ (n : ℕ) (c : Coarse) where
 
 -- ---- of the parent
 
+-- Lists that are neither 28 nor 29 for t.
+pub record Stored (n : ℕ) (t : TriangleCode) (list : List ℤ) (c : Coarse) : Type 0 where
+  pub counts-long : length (c .counts) ≡ parents n
+  pub sums-long : length (c .sums) ≡ parents n
+  pub count : (n ≡ 0 → ⊥) → storedFor (parentOf t) (c .counts) ≡ countIn (parentOf t) list
+  pub total : (n ≡ 0 → ⊥) → storedFor (parentOf t) (c .sums) ≡ sumIn (parentOf t) list
+
 module _ (n : ℕ) (t : TriangleCode) (list : List ℤ) (c : Coarse) where
+  pub stored : NoneSo (keptRows n t list c) ↔ Stored n t list c
+  stored = (
+    λ z.
+        let g = coarse-good n c .0 (z .0, tt) in
+        let same : (n ≡ 0 → ⊥)
+        → (not (eqb (storedFor (parentOf t) (c .counts)) (countIn (parentOf t) list)) ≡ false)
+        × (not (eqb (storedFor (parentOf t) (c .sums)) (sumIn (parentOf t) list)) ≡ false) =
+        λ some. either-false (not (eqb (storedFor (parentOf t) (c .counts)) (countIn (parentOf t) list))) _ .0
+        (rw (ne-eqb n 0 some) at (z .1 .0)) in
+        record {
+          counts-long = g .0;
+          sums-long = g .1;
+          count = λ some. eqb-true _ _ (not-false _ (same some .0));
+          total = λ some. eqb-true _ _ (not-false _ (same some .1));
+        },
+    λ s. (coarse-good n c .1 (s .counts-long, s .sums-long) .0, (row s (eqb n 0) refl, tt)),
+  )
+    where
+      row : Stored n t list c → (b : Bool) → eqb n 0 ≡ b
+          → (not (eqb n 0) && differs (parentOf t) list c) ≡ false
+      row s true b = rw b refl
+      row s false b =
+          let some = eqb-false n 0 b in
+          rw (
+            b,
+            eq-eqb (storedFor (parentOf t) (c .counts)) (countIn (parentOf t) list) (s .count some),
+            eq-eqb (storedFor (parentOf t) (c .sums)) (sumIn (parentOf t) list) (s .total some),
+          ) refl
+
   pub lengths-first : {f : ℕ} → f ≡ firstOf sumOrder (coarseRows n c) → (f ≡ 0 → ⊥)
       → f ≡ firstOf sumOrder (keptRows n t list c)
   lengths-first = refuse-before sumOrder sumOrder (coarseRows n c) (parentRows n t list c) tt tt
 
   module _ (z : firstOf sumOrder (coarseRows n c) ≡ 0) where
-    pub no-parent : n ≡ 0 → 0 ≡ firstOf sumOrder (keptRows n t list c)
-    no-parent q =
-        refuse-after sumOrder sumOrder (coarseRows n c) (parentRows n t list c) tt tt z
-        (next (rw (eq-eqb n 0 q)) nothing)
-
     module _ (some : n ≡ 0 → ⊥) where
       pub other-count : (storedFor (parentOf t) (c .counts) ≡ countIn (parentOf t) list → ⊥)
           → 29 ≡ firstOf sumOrder (keptRows n t list c)
@@ -81,15 +112,8 @@ module _ (n : ℕ) (t : TriangleCode) (list : List ℤ) (c : Coarse) where
           (either-right (not (eqb (storedFor (parentOf t) (c .counts)) (countIn (parentOf t) list))) _
           (rw (ne-eqb (storedFor (parentOf t) (c .sums)) (sumIn (parentOf t) list) k)))))
 
-      pub same-parent : storedFor (parentOf t) (c .counts) ≡ countIn (parentOf t) list
-          → storedFor (parentOf t) (c .sums) ≡ sumIn (parentOf t) list → 0 ≡ firstOf sumOrder (keptRows n t list c)
-      same-parent q w =
-          refuse-after sumOrder sumOrder (coarseRows n c) (parentRows n t list c) tt tt z
-          (next (rw (
-            ne-eqb n 0 some,
-            eq-eqb (storedFor (parentOf t) (c .counts)) (countIn (parentOf t) list) q,
-            eq-eqb (storedFor (parentOf t) (c .sums)) (sumIn (parentOf t) list) w,
-          )) nothing)
+  pub none-kept : Stored n t list c → 0 ≡ firstOf sumOrder (keptRows n t list c)
+  none-kept s = sym (none-so sumOrder (keptRows n t list c) tt .1 (stored .1 s))
 
   pub kept-not-23 : firstOf sumOrder (keptRows n t list c) ≡ 23 → ⊥
   kept-not-23 = not-given sumOrder (keptRows n t list c) 22 tt
@@ -97,7 +121,8 @@ module _ (n : ℕ) (t : TriangleCode) (list : List ℤ) (c : Coarse) where
 -- ---- a call's, after those of 2026-07
 
 module _ (e : Deed) (d n : ℕ) (t : TriangleCode) (c : Chart) where
-  pub kept-first : {f : ℕ} → f ≡ refuseDeed e d n t (c .shared) → (f ≡ 0 → ⊥) → f ≡ refuseKept e d n t c
+  pub kept-first : {f : ℕ} → f ≡ refuseDeed e d n t (c .shared) → (f ≡ 0 → ⊥)
+      → f ≡ refuseKept e d n t c
   unfolding refuseDeed refuseKept
   kept-first =
       refuse-before deskOrder sumOrder (deedRows e d n t (c .shared))
@@ -120,14 +145,15 @@ module _ (e : Deed) (d n : ℕ) (t : TriangleCode) (c : Chart) where
 -- What an answered call that writes knows.
 pub record Kept (e : Deed) (d n : ℕ) (t : TriangleCode) (c : Chart) : Type 0 where
   pub owned : Owned e d n t (c .shared)
-  pub counts-long : length (c .coarse .counts) ≡ parents n
-  pub sums-long : length (c .coarse .sums) ≡ parents n
+  pub lists : Stored n t (c .shared .readings) (c .coarse)
 
 pub kept-known : (e : Deed) (d n : ℕ) (t : TriangleCode) (c : Chart) → refuseKept e d n t c ≡ 0 → Kept e d n t c
 kept-known e d n t c z =
     let k = kept-passed e d n t c .0 z in
-    let g = coarse-good n (c .coarse) .0 (k .1 .0, tt) in
-    record { owned = deed-passed e d n t (c .shared) (k .0); counts-long = g .0; sums-long = g .1 }
+    record {
+      owned = deed-passed e d n t (c .shared) (k .0);
+      lists = stored n t (c .shared .readings) (c .coarse) .0 (k .1);
+    }
 
 -- ---- of working out afresh
 
@@ -139,7 +165,8 @@ pub record Afresh (n : ℕ) (list : List ℤ) (c : Coarse) : Type 0 where
   pub sums-long : length (c .sums) ≡ parents n
 
 module _ (n : ℕ) (list : List ℤ) (c : Coarse) where
-  pub degree-first : {f : ℕ} → f ≡ firstOf tableOrder (largeRows n) → (f ≡ 0 → ⊥) → f ≡ refuseAfresh n list c
+  pub degree-first : {f : ℕ} → f ≡ firstOf tableOrder (largeRows n) → (f ≡ 0 → ⊥)
+      → f ≡ refuseAfresh n list c
   unfolding refuseAfresh
   degree-first = refuse-before tableOrder sumOrder (largeRows n) (tableRows n list ++ coarseRows n c) tt tt
 

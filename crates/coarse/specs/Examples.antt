@@ -3,7 +3,7 @@ use mathlib.Core.Path.{_≡_}
 use mathlib.Core.List.{List, [], _∷_, _++_}
 use Prim.Native.Nat.{ℕ}
 use lib.IntN.{ℤ, pos}
-use lib.ListN.{set, replicate}
+use lib.ListN.{replicate}
 use Rattle.frame.specs.Promises.{_leaves_}
 use Rattle.grid.specs.Writing.{written}
 use Rattle.tables.specs.Tables.{none, fresh}
@@ -72,7 +72,10 @@ pub record Examples : Type 0 where
   pub clear-0 : ClearAnswer 1 1 (written 1001) three
       leaves (tableAnswer 0 0, four (pos 100) none (pos 7) none (two 2 0 107 0))
   pub give : GiveAnswer 1 1 (written 1000) three
-      leaves (tableAnswer 0 0, chart (shared (none ∷ pos 0 ∷ pos 7 ∷ replicate 77 none) (0 ∷ replicate 79 1)) (two 2 0 7 0))
+      leaves (
+        tableAnswer 0 0,
+        chart (shared (none ∷ pos 0 ∷ pos 7 ∷ replicate 77 none) (0 ∷ replicate 79 1)) (two 2 0 7 0),
+      )
   -- 29 until the sums are worked out, and other parents do not matter
   pub mended :
       answers onChart (sets 1 1 1000 5 ∷ sets 1 1 1010 5 ∷ gets 1 1 1000 ∷ []) miscounted
@@ -99,7 +102,7 @@ pub record Bounds : Type 0 where
   pub sums-1 : refuseKept Taking 1 0 (written 100) (chart (freshShared 0) (coarse [] (0 ∷ []))) ≡ 28
   pub empty : refuseKept Taking 1 0 (written 100) (chart (freshShared 0) (coarse [] [])) ≡ 0
   -- "Where the stored count or sum of the parent concerned differs from its children's readings, these four calls are
-  -- refusal 29": of that parent alone, for a count and for a sum, also where the call would leave them as they should be
+  -- refusal 29": of that parent alone, for a count and for a sum, also where the call would leave the right ones
   pub take-29 : refuseKept Taking 1 1 (written 1003) miscounted ≡ 29
   pub set-29 : refuseKept (Setting (pos 1)) 1 1 (written 1003) miscounted ≡ 29
   pub clear-29 : refuseKept Clearing 1 1 (written 1001) miscounted ≡ 29

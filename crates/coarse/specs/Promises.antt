@@ -8,7 +8,6 @@ use Rattle.frame.specs.Promises.{KeepsLent}
 use Rattle.words.specs.declared.TriangleCode.{TriangleCode}
 use Rattle.net.specs.Division.{sum}
 use Rattle.tables.specs.Owners.{Shared, IsShared}
-use Rattle.tables.specs.Refusals.{refuseDeed}
 use Rattle.tables.specs.Answers.{refused, DeedAnswer}
 use Rattle.tables.specs.Histories.{Call, does, done, answers, after, onTable, without, seen}
 use Rattle.tables.specs.declared.Deed.{Deed}
@@ -86,8 +85,8 @@ pub record Totals : Type 0 where
   pub summed : (n : ℕ) (c : Chart) → 1 ≤ n → IsShared n (c .shared) → AreTrue n c
       → sum (c .coarse .sums) ≡ sum (present (c .shared .readings))
 
--- 2026-07's "What desk 1 sees of its own triangles doesn't depend on desk 2's calls between its taking one and giving it
--- back", on any four lists: also where other parents' sums are wrong.
+-- 2026-07's "What desk 1 sees of its own triangles doesn't depend on desk 2's calls between its taking one and giving
+-- it back", on any four lists: also where other parents' sums are wrong.
 pub record Apart : Type 0 where
   pub afterTaking : (d b n : ℕ) (t : TriangleCode) (c : Chart) (before xs ys : List Call)
       → (d ≡ b → ⊥) → refuseKept Taking d n t (after onChart before c) ≡ 0 → without b xs ≡ without b ys

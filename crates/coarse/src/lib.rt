@@ -1,6 +1,6 @@
 // The coarse sums of a table of soundings (document 02, 2026-08): what the lists of counts and of sums are to hold and
-// what the calls then answer (specs/), with the laws of it (proofs/); in code the two lists themselves: what is refused of
-// them, and how they are written. The calls are in the crate soundings.
+// what the calls then answer (specs/), with the laws of it (proofs/); in code the two lists themselves: what is refused
+// of them, and how they are written. The calls are in the crate soundings.
 use words::TriangleCode;
 ghost use mathlib.Core.Path.{_≡_};
 ghost use mathlib.Core.List.{_∷_, []};
@@ -43,7 +43,8 @@ fn tally_of(number: i32) -> Tally
 fn tally_from(list: &[i32], i: usize) -> Tally
     requires { ⌜ i + 3 < length (now list) ⌝ }
     ensures { λ r. ⌜
-        (r .count ≡ length (presentFrom i (now (list .entry)))) × (r .sum ≡ sum (presentFrom i (now (list .entry))))
+        (r .count ≡ length (presentFrom i (now (list .entry))))
+        × (r .sum ≡ sum (presentFrom i (now (list .entry))))
         ⌝ }
 {
     let a = tally_of(list[i]);
@@ -72,7 +73,9 @@ fn parents_of(degree: u64) -> u64
 // 28: of the lengths.
 pub fn refuse_lengths(degree: u64, counts: &[u64], sums: &[u64]) -> u64
     requires { ⌜ degree ≤ 6 ⌝ }
-    ensures { λ r. ⌜ r ≡ firstOf sumOrder (coarseRows degree (coarse (now (counts .entry)) (now (sums .entry)))) ⌝ }
+    ensures { λ r. ⌜
+        r ≡ firstOf sumOrder (coarseRows degree (coarse (now (counts .entry)) (now (sums .entry))))
+        ⌝ }
 {
     let n = parents_of(degree);
     if counts.len() as u64 != n {

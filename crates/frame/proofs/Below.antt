@@ -1,5 +1,5 @@
--- The list of what f says of the numbers below m: place by place, made by writing one place after the other, and when one
--- place of it is written. Assumes nothing.
+-- The list of what f says of the numbers below m: place by place, made by writing one place after the other, and when
+-- one place of it is written. Assumes nothing.
 use mathlib.Core.Path.{_≡_, _∙_, refl, sym, ap}
 use mathlib.Core.Bool.{Bool, true, false}
 use mathlib.Core.List.{List, [], _∷_, _++_, append-nil}
@@ -30,7 +30,8 @@ at-below (suc m) f d i l = go (ltb i m) refl (at-below m f d i)
         let h = ltb-true i m b in
         List·getD-append (below m f) (f m ∷ []) d i (omega (arith, h, length-below m f)) ∙ ih h
     go false b ih =
-        let e : i ≡ m = omega (arith, ltb-false i m b, l) in rw e (getD-at (below m f) (f m) [] d m (length-below m f))
+        let e : i ≡ m = omega (arith, ltb-false i m b, l) in
+        rw e (getD-at (below m f) (f m) [] d m (length-below m f))
 
 module _ {A : Type 0} (m : ℕ) (f : ℕ → A) where
   -- a list is that one where it is as long and has the same at each place

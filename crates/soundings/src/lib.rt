@@ -1,9 +1,9 @@
-// The calls of a table of soundings (document 02, 2026-03, 2026-07 and 2026-08), which has one reading for each triangle
-// of one degree from 0 to 6, in a lent list ordered by code, each triangle's owner in another, and the count and the sum
-// of the readings of each triangle one degree up in two more: `get`, which is lent the readings alone; `take`, `set`,
-// `clear` and `give`, which are lent all four lists and told the desk that makes the call; and `work_out`, which works
-// counts and sums out afresh. None has a `requires`; each states its complete answer, and the crate contracts holds it to
-// that.
+// The calls of a table of soundings (document 02, 2026-03, 2026-07 and 2026-08), which has one reading for each
+// triangle of one degree from 0 to 6, in a lent list ordered by code, each triangle's owner in another, and the count
+// and the sum of the readings of each triangle one degree up in two more: `get`, which is lent the readings alone;
+// `take`, `set`, `clear` and `give`, which are lent all four lists and told the desk that makes the call; and
+// `work_out`, which works counts and sums out afresh. None has a `requires`; each states its complete answer, and the
+// crate contracts holds it to that.
 use refusing::refuse;
 use tables::Deed;
 use words::TriangleCode;

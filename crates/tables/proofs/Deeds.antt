@@ -7,7 +7,7 @@ use Prim.Native.Nat.{ℕ, _<_}
 use borrow.Author.Tests.{eq-eqb, ne-eqb, eqb-true, not-false}
 use lib.Dec.{eqb}
 use lib.ListN.{length}
-use Rattle.frame.specs.Refusals.{_either_, firstOf}
+use Rattle.frame.specs.Refusals.{firstOf}
 use Rattle.frame.proofs.Refusing.{here, next, nothing, given-so, not-given, refuse-first, refuse-before, refuse-rest}
 use Rattle.frame.proofs.Refusing.{NoneSo, none-so, none-after, either-none, either-right, either-false}
 use Rattle.words.specs.Counting.{placeOf}

@@ -90,7 +90,7 @@ told (negsuc n) = suc (n + n)
 abbrev pub at : ℕ → TableAnswer × Shared → ℕ
 at i x = told (getD (x .1 .readings) i (pos 0))
 
-abbrev pub refusal : TableAnswer × Shared → ℕ
+abbrev pub refusal : {S : Type 0} → TableAnswer × S → ℕ
 refusal x = x .0 .refusal
 
 abbrev heard : SoundingAnswer → ℕ

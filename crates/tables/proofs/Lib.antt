@@ -5,6 +5,7 @@ pub mod Refused
 pub mod Deeds
 pub mod Answering
 pub mod Holding
+pub mod Alike
 pub mod SimpleMaps
 pub mod Ownership
 pub mod Unwinding

@@ -2,7 +2,7 @@
 use mathlib.Core.Path.{_≡_, _∙_, refl, sym, ap}
 use mathlib.Core.Bool.{Bool, true, false, not, cond}
 use mathlib.Core.Logic.{_↔_}
-use mathlib.Core.List.{List, [], _∷_, _++_}
+use mathlib.Core.List.{List, _∷_, _++_}
 use Prim.Native.Nat.{ℕ, zero, suc, _≤_}
 use borrow.Author.Tests.{eqb-true, not-false}
 use lib.Dec.{eqb}
@@ -34,20 +34,7 @@ use Rattle.tables.proofs.Refused.{triangle-good, list-good}
 use Rattle.tables.proofs.Deeds.{owners-good}
 use Rattle.tables.proofs.Answering.{no-place}
 use Rattle.tables.proofs.Holding.{shared-after, after-at, begun}
-
--- ---- two ways to answer the same calls, where what they work on stays related
-
-pub alike : {C A S S′ : Type 0} (turn : C → S → A × S) (turn′ : C → S′ → A × S′)
-    (R : S → S′ → Type 0)
-    → ((c : C) (s : S) (s′ : S′) → R s s′
-    → (turn c s .0 ≡ turn′ c s′ .0) × R (turn c s .1) (turn′ c s′ .1))
-    → (cs : List C) (s : S) (s′ : S′) → R s s′ → answers turn cs s ≡ answers turn′ cs s′
-unfolding answers
-alike turn turn′ R step [] s s′ r = refl
-alike turn turn′ R step (c ∷ cs) s s′ r =
-    let k = step c s s′ r in
-    let ih = alike turn turn′ R step cs (turn c s .1) (turn′ c s′ .1) (k .1) in
-    λ i. k .0 i ∷ ih i
+use Rattle.tables.proofs.Alike.{alike-answers}
 
 -- ---- the rows of the lists in a table
 
@@ -243,7 +230,7 @@ turns {n} c s map a =
 
 as-map : {n : ℕ} {s : Shared} {map : Map} → Agree n s map → (cs : List Call)
     → answers onTable cs s ≡ answers (onMap n) cs map
-as-map {n} {s} {map} a cs = alike onTable (onMap n) (Agree n) turns cs s map a
+as-map {n} {s} {map} a cs = alike-answers onTable (onMap n) (Agree n) turns cs s map a
 
 -- ---- a table, by its rows
 

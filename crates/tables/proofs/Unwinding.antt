@@ -24,6 +24,7 @@ use Rattle.tables.specs.declared.Deed.the-variants.{Taking, Setting, Cle
 use Rattle.tables.specs.declared.TableAnswer.{TableAnswer}
 use Rattle.tables.proofs.Numbers.{desk-not-nobody}
 use Rattle.tables.proofs.Deeds.{deed-passed}
+use Rattle.tables.proofs.Alike.{after-append}
 use Rattle.tables.proofs.SimpleMaps.{turned}
 use Rattle.tables.proofs.Ownership.{owner-there}
 
@@ -106,10 +107,10 @@ others-refused n e by m u o b q z =
     true≢false (rw (ne-eqb o nobody (desk-not-nobody o b), ne-eqb o by (λ w. q (sym w))) at k)
 
 module _ (n d : ℕ) (t : TriangleCode) (c : IsCode n t) (k : isDesk d ≡ true) where
-  abbrev Has : Shared → Held → Type 0
+  abbrev pub Has : Shared → Held → Type 0
   Has s h = IsShared n s × (heldAt t s ≡ h)
 
-  own : (x : Call) (s : Shared) (h : Held) → isAbout d t x ≡ true → Has s h
+  pub own : (x : Call) (s : Shared) (h : Held) → isAbout d t x ≡ true → Has s h
       → (onTable x s .0 ≡ onHeld n x h .0) × Has (onTable x s .1) (onHeld n x h .1)
   own x s h b has =
       let q = about-is d t x b .1 in
@@ -129,7 +130,7 @@ module _ (n d : ℕ) (t : TriangleCode) (c : IsCode n t) (k : isDesk d ≡ true)
       go zero w = absurd (w refl)
       go (suc f) w = refl
 
-  other : (x : Call) (s : Shared) (h : Held) → isAbout d t x ≡ false → Has s h → h .owner ≡ d
+  pub other : (x : Call) (s : Shared) (h : Held) → isAbout d t x ≡ false → Has s h → h .owner ≡ d
       → Has (onTable x s .1) h
   other x s h b has o =
       let w = turned (has .0) x (heldAt (triangleOf x) s) (λ _. refl) in
@@ -161,13 +162,7 @@ module _ (n d : ℕ) (t : TriangleCode) (c : IsCode n t) (k : isDesk d ≡ true)
 
 -- ---- after taking
 
-after-append : {C A S : Type 0} (turn : C → S → A × S) (xs ys : List C) (s : S)
-    → after turn (xs ++ ys) s ≡ after turn ys (after turn xs s)
-unfolding after
-after-append turn [] ys s = refl
-after-append turn (x ∷ xs) ys s = after-append turn xs ys (turn x s .1)
-
-taken : (d n : ℕ) (t : TriangleCode) (s : Shared) → refuseDeed Taking d n t s ≡ 0
+pub taken : (d n : ℕ) (t : TriangleCode) (s : Shared) → refuseDeed Taking d n t s ≡ 0
     → ownerAt t (onTable (does Taking d n t) s .1 .owners) ≡ d
 taken d n t s z = rw z (owner-there Taking d n t s z)
 

@@ -1,7 +1,7 @@
 -- The parent's place, and the four below it (Children). Assumes nothing.
-use mathlib.Core.Path.{_≡_, _∙_, ap}
+use mathlib.Core.Path.{_∙_, ap}
 use native.Mathlib.Omega.{arith}
-use Prim.Native.Nat.{ℕ, _/_}
+use Prim.Native.Nat.{_/_}
 use lib.ListN.{length}
 use Rattle.net.specs.Division.{sum}
 use Rattle.coarse.specs.Sums.{countIn, sumIn, coarse}

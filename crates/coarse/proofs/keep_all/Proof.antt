@@ -1,5 +1,5 @@
 -- The loop writes place by place (frame's Below). Assumes nothing.
-use mathlib.Core.Path.{_≡_, refl, _∙_, sym, ap}
+use mathlib.Core.Path.{_≡_, refl, _∙_, ap}
 use mathlib.Core.List.{List}
 use Prim.Native.Nat.{ℕ, _-_, _*_, _≤_}
 use native.Mathlib.Omega.{arith}
@@ -11,7 +11,6 @@ use Rattle.frame.specs.Lists.{below}
 use Rattle.frame.proofs.Below.{below-next, below-all}
 use Rattle.net.specs.Division.{sum}
 use Rattle.coarse.specs.Means.{presentFrom}
-use borrow.Author.Needs.{needs}
 use Rattle.coarse.proofs.keep_all.Statement.{statement}
 use Rattle.coarse.proofs.keep_all.Tie as tie
 
@@ -23,8 +22,8 @@ summed list i = sum (presentFrom (4 * i) list)
 
 abbrev Inv-loop : tie.InvT-loop
 Inv-loop list counts₀ sums₀ p₀ counts sums p =
-    (p ≤ length counts₀) × (counts ≡ over (below p (counted list)) counts₀) × (length counts ≡ length counts₀)
-    × (sums ≡ over (below p (summed list)) sums₀) × (length sums ≡ length sums₀)
+    (p ≤ length counts₀) × (counts ≡ over (below p (counted list)) counts₀)
+    × (length counts ≡ length counts₀) × (sums ≡ over (below p (summed list)) sums₀) × (length sums ≡ length sums₀)
 
 abbrev μ-loop : tie.MeasureT-loop
 μ-loop list counts₀ sums₀ p₀ counts sums p = length counts - p

@@ -1,6 +1,5 @@
 -- The lengths, and then what is stored for the parent (Refused, Children). Assumes nothing.
 use mathlib.Core.Path.{_≡_, _∙_, sym, ap}
-use mathlib.Core.List.{List}
 use native.Mathlib.Omega.{arith}
 use Prim.Native.Nat.{ℕ, _/_, _^_, _<_}
 use lib.ListN.{length, getD}
@@ -12,7 +11,7 @@ use Rattle.net.specs.Division.{sum}
 use Rattle.coarse.specs.Sums.{countIn, sumIn, parents, coarse}
 use Rattle.coarse.specs.Refusals.{sumOrder, coarseRows}
 use Rattle.coarse.proofs.Children.{Above, above}
-use Rattle.coarse.proofs.Refused.{lengths-good, lengths-first, no-parent, other-count, other-sum, same-parent}
+use Rattle.coarse.proofs.Refused.{lengths-good, lengths-first, other-count, other-sum, none-kept}
 use borrow.Author.Needs.{needs}
 use Rattle.coarse.proofs.refuse_coarse.Statement.{statement}
 use Rattle.coarse.proofs.refuse_coarse.Tie as tie
@@ -41,7 +40,12 @@ returns-2 : tie.Need-returns-2
 returns-2 c =
     let k = c .before in
     let a = k .before .before .before .before .args in
-    no-parent (a .degree) (a .t) (a .list .now) (coarse (a .counts .now) (a .sums .now)) (none k) (c .if2 .taken)
+    none-kept (a .degree) (a .t) (a .list .now) (coarse (a .counts .now) (a .sums .now)) (record {
+      counts-long = long k .0;
+      sums-long = long k .1;
+      count = λ some. absurd (some (c .if2 .taken));
+      total = λ some. absurd (some (c .if2 .taken));
+    })
 
 place-of-requires : tie.Need-place-of-requires
 place-of-requires c κs = search needs
@@ -114,8 +118,13 @@ returns-5 c =
     let a = p .before .before .before .before .before .before .args in
     let counted = ap (λ (i : ℕ). getD (a .counts .now) i 0) (up p .place) in
     let summed = ap (λ (i : ℕ). getD (a .sums .now) i 0) (up p .place) in
-    same-parent (a .degree) (a .t) (a .list .now) (coarse (a .counts .now) (a .sums .now)) (none (p .before .before))
-    (p .before .if2 .left) (sym counted ∙ e .if3 .left ∙ tallied k .0) (sym summed ∙ c .if4 .left ∙ tallied k .1)
+    let l = long (p .before .before) in
+    none-kept (a .degree) (a .t) (a .list .now) (coarse (a .counts .now) (a .sums .now)) (record {
+      counts-long = l .0;
+      sums-long = l .1;
+      count = λ _. sym counted ∙ e .if3 .left ∙ tallied k .0;
+      total = λ _. sym summed ∙ c .if4 .left ∙ tallied k .1;
+    })
 
 pub refuse-coarse-spec : {M : Type 1} → statement M
 refuse-coarse-spec =

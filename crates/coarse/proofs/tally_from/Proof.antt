@@ -1,7 +1,7 @@
 -- Four numbers, one after the other (Tallying, Adding). Assumes nothing.
-use mathlib.Core.Path.{_≡_, _∙_}
+use mathlib.Core.Path.{_∙_}
 use mathlib.Core.List.{[], _∷_}
-use Prim.Native.Nat.{ℕ, _+_, _<_}
+use Prim.Native.Nat.{ℕ, _+_}
 use native.Mathlib.Omega.{arith}
 use lib.IntN.{ℤ, pos}
 use lib.ListN.{length, getD}
@@ -87,6 +87,7 @@ returns c =
     let k1 = k2 .before .before in
     let list = k1 .before .before .args .list .now in
     let i = k1 .before .before .args .i in
+    let at : ℕ → ℤ = λ k. getD list k none in
     let count : ℤ → ℕ = λ x. length (present (x ∷ [])) in
     let total : ℤ → ℕ = λ x. sum (present (x ∷ [])) in
     let e1 = rw (toZ-ofZ w32 (getD list i (pos 0)) (record { sfits = k1 .before .tally-of-arg .given }))
@@ -99,10 +100,10 @@ returns c =
     at (k4 .tally-of4 .ensures) in (
       (λ j. read count list i (omega arith) (e1 .0) j + read count list (i + 1) (omega arith) (e2 .0) j
           + read count list (i + 2) (omega arith) (e3 .0) j + read count list (i + 3) (omega arith) (e4 .0) j)
-          ∙ of-four counting (getD list i none) (getD list (i + 1) none) (getD list (i + 2) none) (getD list (i + 3) none),
+          ∙ of-four counting (at i) (at (i + 1)) (at (i + 2)) (at (i + 3)),
       (λ j. read total list i (omega arith) (e1 .1) j + read total list (i + 1) (omega arith) (e2 .1) j
           + read total list (i + 2) (omega arith) (e3 .1) j + read total list (i + 3) (omega arith) (e4 .1) j)
-          ∙ of-four summing (getD list i none) (getD list (i + 1) none) (getD list (i + 2) none) (getD list (i + 3) none),
+          ∙ of-four summing (at i) (at (i + 1)) (at (i + 2)) (at (i + 3)),
     )
 
 pub tally-from-spec : {M : Type 1} → statement M

@@ -1,15 +1,11 @@
 -- By the sign (Tallying). Assumes nothing.
-use mathlib.Core.Path.{_≡_, _∙_, refl, sym, ap}
-use mathlib.Core.Bool.{true, false}
-use mathlib.Core.List.{List}
-use Prim.Native.Nat.{ℕ}
+use mathlib.Core.Path.{_≡_, refl}
+use mathlib.Core.Bool.{true}
 use native.Mathlib.Omega.{arith}
 use lib.IntN.{pos}
-use lib.ListN.{length}
 use lib.Signed.{ltZ}
 use mir.Syntax.{w32}
 use mir.ValLaws.{toZ-ofZ}
-use Rattle.net.specs.Division.{sum}
 use Rattle.coarse.proofs.Tallying.{none-present, Counts, counts, sum-one, sum-nothing}
 use Rattle.coarse.proofs.tally_of.Statement.{statement}
 use Rattle.coarse.proofs.tally_of.Tie as tie

@@ -1,5 +1,5 @@
 -- Checked, then one place of each list written (coarse's Refused, tables' Answering). Assumes nothing.
-use mathlib.Core.Path.{_≡_, sym, _∙_, ap}
+use mathlib.Core.Path.{sym, _∙_, ap}
 use native.Mathlib.Omega.{arith}
 use Prim.Native.Nat.{_≤_}
 use lib.ListN.{length}
@@ -67,7 +67,8 @@ keep-requires c κs =
     let long =
     ap (λ (s : Shared). length (s .readings)) (w .write .ensures)
     ∙ after-long (a .deed) (a .desk) (a .t) (shared (a .list .now) (a .owners .now)) in
-    (g .owned .passed .degree, g .owned .passed .code, long ∙ g .owned .passed .long, g .counts-long, g .sums-long)
+    let p = g .owned .passed in
+    (p .degree, p .code, long ∙ p .long, g .lists .counts-long, g .lists .sums-long)
 
 same-length-5 : tie.Need-same-length-5
 same-length-5 c = search needs

@@ -1,7 +1,7 @@
 -- The degree, the list of readings, the lengths of the two others (coarse's Refused). Assumes nothing.
 use mathlib.Core.Path.{_≡_, refl, sym, _∙_}
 use Rattle.frame.specs.Refusals.{firstOf}
-use Rattle.tables.specs.Refusals.{tableOrder, largeRows, tableRows}
+use Rattle.tables.specs.Refusals.{tableOrder, largeRows}
 use Rattle.tables.proofs.Refused.{large}
 use Rattle.tables.proofs.Answering.{answer-bare, answer-same, checked}
 use Rattle.coarse.specs.Sums.{coarse}

@@ -21,7 +21,8 @@ returns c =
     let q = checked list _ _ (k .refuse-deed .ensures) in
     answer-same list (k .refuse-deed .ensures)
     (kept-first (a .deed) (a .desk) (a .degree) (a .t)
-    (chart (shared list (a .owners .now)) (coarse (a .counts .now) (a .sums .now))) refl (λ z. c .if1 .taken (q ∙ z)))
+    (chart (shared list (a .owners .now)) (coarse (a .counts .now) (a .sums .now))) refl
+    (λ z. c .if1 .taken (q ∙ z)))
 
 -- past the refusals of 2026-07
 none : (c : tie.Else1) → (let a = c .before .before .before .before .before .before .args in
@@ -34,7 +35,8 @@ none c =
 refuse-coarse-requires : tie.Need-refuse-coarse-requires
 refuse-coarse-requires c κs =
     let a = c .before .before .before .before .before .before .args in
-    let k = deed-passed (a .deed) (a .desk) (a .degree) (a .t) (shared (a .list .now) (a .owners .now)) (none c) .passed in
+    let s = shared (a .list .now) (a .owners .now) in
+    let k = deed-passed (a .deed) (a .desk) (a .degree) (a .t) s (none c) .passed in
     (k .degree, k .code, k .long)
 
 refuse-requires : tie.Need-refuse-requires

@@ -1,5 +1,5 @@
 -- Checked, then all counts and sums (coarse's Children). Assumes nothing.
-use mathlib.Core.Path.{_≡_, sym, _∙_}
+use mathlib.Core.Path.{sym, _∙_}
 use lib.ListN.{length}
 use Rattle.net.specs.Division.{sum}
 use Rattle.tables.proofs.Answering.{checked, lent-refused, lent-written}

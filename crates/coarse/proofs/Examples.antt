@@ -1,0 +1,105 @@
+-- The examples, bounds and mistakes of specs/Examples.antt, computed. Assumes nothing.
+use mathlib.Core.Path.{refl}
+use Prim.Native.Nat.{ℕ}
+use lib.ListN.{getD}
+use Rattle.frame.specs.Refusals.{firstOf}
+use Rattle.frame.specs.Lists.{some, firstPlace, below}
+use Rattle.frame.proofs.Answering.{known-gives}
+use Rattle.words.specs.Words.{digits, path, wordOf}
+use Rattle.words.specs.Family.{parentOf, childOf}
+use Rattle.words.specs.Counting.{codeAt, placeOf}
+use Rattle.net.specs.Division.{sum}
+use Rattle.grid.specs.Writing.{decimals, written}
+use Rattle.tables.specs.Refusals.{refuseCall}
+use Rattle.tables.specs.Histories.{answers, after}
+use Rattle.tables.specs.declared.TableAnswer.{TableAnswer}
+use Rattle.tables.proofs.Examples.{wrong, refusal}
+use Rattle.coarse.specs.Sums.{Coarse, everyParent, Chart}
+use Rattle.coarse.specs.Refusals.{refuseKept, refuseAfresh}
+use Rattle.coarse.specs.Histories.{toldBy, presentBy}
+use Rattle.coarse.specs.Examples.{Examples, Bounds, Mistakes}
+
+pub examples : Examples
+unfolding placeOf codeAt parentOf childOf some firstPlace below firstOf sum refuseCall refuseKept refuseAfresh everyParent
+    answers after toldBy presentBy decimals written path wordOf digits
+examples = record {
+  counted = refl;
+  again = refl;
+  less = refl;
+  heard-4 = refl;
+  heard-2 = refl;
+  heard-0 = refl;
+  take = known-gives refl;
+  set-new = known-gives refl;
+  set-again = known-gives refl;
+  clear-0 = known-gives refl;
+  give = known-gives refl;
+  mended = refl;
+  afresh = known-gives refl;
+  degree-0 = refl;
+  afresh-0 = known-gives refl;
+}
+
+pub bounds : Bounds
+unfolding placeOf codeAt parentOf childOf some firstPlace below firstOf sum refuseCall refuseKept refuseAfresh everyParent
+    decimals written path wordOf digits
+bounds = record {
+  counts-19 = refl;
+  counts-21 = refl;
+  sums-19 = refl;
+  sums-21 = refl;
+  counts-1 = refl;
+  sums-1 = refl;
+  empty = refl;
+  take-29 = refl;
+  set-29 = refl;
+  clear-29 = refl;
+  give-29 = refl;
+  sum-29 = refl;
+  last-child = refl;
+  other-parent = refl;
+  other-sum = refl;
+  twentyone-before-28 = refl;
+  twentythree-before-28 = refl;
+  twentyfive-before-28 = refl;
+  twentysix-before-28 = refl;
+  twentyseven-before-28 = refl;
+  twentyseven-before-29 = refl;
+  twentyeight-before-29 = refl;
+  afresh-25 = refl;
+  afresh-24 = refl;
+  afresh-7 = refl;
+  afresh-19 = refl;
+  afresh-bad = known-gives refl;
+  afresh-counts = known-gives refl;
+  afresh-sums = known-gives refl;
+  afresh-1 = refl;
+}
+
+-- the count and the sum at a place that are left
+abbrev count : ℕ → TableAnswer × Chart → ℕ
+count i x = getD (x .1 .coarse .counts) i 0
+
+abbrev total : ℕ → TableAnswer × Chart → ℕ
+total i x = getD (x .1 .coarse .sums) i 0
+
+abbrev counted : TableAnswer × Coarse → ℕ
+counted x = getD (x .1 .counts) 0 0
+
+pub mistakes : Mistakes
+unfolding placeOf codeAt parentOf childOf some firstPlace below firstOf sum refuseCall refuseKept refuseAfresh everyParent
+    decimals written path wordOf digits
+mistakes = record {
+  counted-twice = wrong (count 0) refl;
+  not-lowered = wrong (total 0) refl;
+  zero-not-counted = wrong (count 0) refl;
+  zero-afresh = wrong counted refl;
+  mended = wrong refusal refl;
+  mended-by-taking = wrong refusal refl;
+  all-looked-at = wrong refusal refl;
+  left = wrong (count 0) refl;
+  own-place = wrong (count 0) refl;
+  touched = wrong (count 0) refl;
+  touched-afresh = wrong counted refl;
+  not-afresh = wrong counted refl;
+}

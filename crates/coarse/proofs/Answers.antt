@@ -24,6 +24,6 @@ one-answer = record {
   set = λ d n t x. each-kept (Setting x) d n t;
   clear = each-kept Clearing;
   give = each-kept Giving;
-  afresh = λ n list c.
+  workOut = λ n list c.
       keeps-known (refuseAfresh n list c) (workedOut n list) (refusedAfresh list c) (λ x. x .0 .refusal) refl refl;
 }

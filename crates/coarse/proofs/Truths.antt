@@ -252,7 +252,7 @@ sums-kept = record {
   begun = λ n l. (begun n l, fresh-true n l);
   opened = λ n s c new r p z.
       ap (λ (x : TableAnswer × Coarse). x .1)
-      (p .answered (sym (one-answer .afresh n (s .readings) c .exactly (r, new) p) ∙ z));
+      (p .answered (sym (one-answer .workOut n (s .readings) c .exactly (r, new) p) ∙ z));
   unrefused = λ e d m n t c is tr. not-refused is tr e d m t;
 }
 

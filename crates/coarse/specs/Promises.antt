@@ -33,7 +33,7 @@ pub record OneAnswer : Type 0 where
   pub give : (d n : ℕ) (t : TriangleCode) (c : Chart)
       → KeepsLent (refuseKept Giving d n t c) (GiveAnswer d n t c) (λ r. r .refusal)
       (refused (c .shared .readings)) c
-  pub afresh : (n : ℕ) (list : List ℤ) (c : Coarse)
+  pub workOut : (n : ℕ) (list : List ℤ) (c : Coarse)
       → KeepsLent (refuseAfresh n list c) (AfreshAnswer n list c) (λ r. r .refusal) (refused list) c
 
 -- Every stored count and sum is that of its triangle's readings.

@@ -23,7 +23,8 @@ summed list i = sum (presentFrom (4 * i) list)
 abbrev Inv-loop : tie.InvT-loop
 Inv-loop list counts₀ sums₀ p₀ counts sums p =
     (p ≤ length counts₀) × (counts ≡ over (below p (counted list)) counts₀)
-    × (length counts ≡ length counts₀) × (sums ≡ over (below p (summed list)) sums₀) × (length sums ≡ length sums₀)
+    × (length counts ≡ length counts₀) × (sums ≡ over (below p (summed list)) sums₀)
+    × (length sums ≡ length sums₀)
 
 abbrev μ-loop : tie.MeasureT-loop
 μ-loop list counts₀ sums₀ p₀ counts sums p = length counts - p

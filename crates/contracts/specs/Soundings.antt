@@ -1,5 +1,5 @@
--- Document 02, 2026-03 and 2026-07: what the functions of a table themselves say, as grid/specs/Contracts.antt has it
--- of document 01's. Assumes nothing.
+-- Document 02, 2026-03, 2026-07 and 2026-08: what the functions of a table themselves say, as grid/specs/Contracts.antt
+-- has it of document 01's. Assumes nothing.
 use mathlib.Core.List.{List}
 use Prim.Native.Nat.{ℕ}
 use lib.IntN.{ℤ}
@@ -7,46 +7,56 @@ use contract.Lifetimes.{Lfts}
 use denote.Ref.{RefT, now}
 use Rattle.frame.specs.Promises.{Says}
 use Rattle.words.specs.declared.TriangleCode.{TriangleCode}
-use Rattle.tables.specs.Owners.{Shared, shared}
-use Rattle.tables.specs.Answers.{GetAnswer, TakeAnswer, SetAnswer, ClearAnswer, GiveAnswer}
+use Rattle.grid.specs.Contracts.{Slice}
+use Rattle.tables.specs.Owners.{shared}
+use Rattle.tables.specs.Answers.{GetAnswer}
 use Rattle.tables.specs.declared.TableAnswer.{TableAnswer}
 use Rattle.tables.specs.declared.SoundingAnswer.{SoundingAnswer}
+use Rattle.coarse.specs.Sums.{Coarse, coarse, Chart, chart}
+use Rattle.coarse.specs.Answers.{TakeAnswer, SetAnswer, ClearAnswer, GiveAnswer, AfreshAnswer}
 use Rattle.soundings.proofs.get.Reads as get
 use Rattle.soundings.proofs.take.Reads as take
 use Rattle.soundings.proofs.set.Reads as set
 use Rattle.soundings.proofs.clear.Reads as clear
 use Rattle.soundings.proofs.give.Reads as give
+use Rattle.soundings.proofs.work_out.Reads as work_out
 
--- A lent list of signed numbers, and one of bytes, as a call is handed it and leaves it; `now` is what it holds.
+-- A lent list of signed numbers, as a call is handed it and leaves it; `now` is what it holds.
 abbrev pub Readings : Type 0
 Readings = RefT (List ℤ)
 
-abbrev pub Owners : Type 0
-Owners = RefT (List ℕ)
+-- The last arguments of a call: counts and sums, and what they hold.
+abbrev pub Stored : Type 0
+Stored = Slice × (Slice × Unit)
 
--- both together
-abbrev pub both : Readings → Owners → Shared
-both list owners = shared (now list) (now owners)
+abbrev pub stored : Stored → Coarse
+stored l = coarse (now (l .0)) (now (l .1 .0))
+
+-- All four lists: readings, owners, and these two.
+abbrev pub Lent : Type 0
+Lent = Readings × (Slice × Stored)
+
+abbrev pub all : Lent → Chart
+all l = chart (shared (now (l .0)) (now (l .1 .0))) (stored (l .1 .1))
 
 -- For any arguments, any result, and lists left with any contents.
 pub record Contracts : Type 0 where
   pub get : (κs : Lfts 1) (n : ℕ) (t : TriangleCode) (list new : Readings) (r : SoundingAnswer)
       → Says (get.Asked κs (n, (t, (list, tt)))) (get.Learnt κs (n, (t, (list, tt))) r (n, (t, (new, tt))))
       (GetAnswer n t (now list) r)
-  pub take : (κs : Lfts 2) (d n : ℕ) (t : TriangleCode) (list new : Readings) (os left : Owners) (r : TableAnswer)
-      → Says (take.Asked κs (d, (n, (t, (list, (os, tt))))))
-      (take.Learnt κs (d, (n, (t, (list, (os, tt))))) r (d, (n, (t, (new, (left, tt))))))
-      (TakeAnswer d n t (both list os) r (both new left))
-  pub set : (κs : Lfts 2) (d n : ℕ) (t : TriangleCode) (x : ℤ) (list new : Readings) (os left : Owners)
-      (r : TableAnswer)
-      → Says (set.Asked κs (d, (n, (t, (x, (list, (os, tt)))))))
-      (set.Learnt κs (d, (n, (t, (x, (list, (os, tt)))))) r (d, (n, (t, (x, (new, (left, tt)))))))
-      (SetAnswer d n t x (both list os) r (both new left))
-  pub clear : (κs : Lfts 2) (d n : ℕ) (t : TriangleCode) (list new : Readings) (os left : Owners) (r : TableAnswer)
-      → Says (clear.Asked κs (d, (n, (t, (list, (os, tt))))))
-      (clear.Learnt κs (d, (n, (t, (list, (os, tt))))) r (d, (n, (t, (new, (left, tt))))))
-      (ClearAnswer d n t (both list os) r (both new left))
-  pub give : (κs : Lfts 2) (d n : ℕ) (t : TriangleCode) (list new : Readings) (os left : Owners) (r : TableAnswer)
-      → Says (give.Asked κs (d, (n, (t, (list, (os, tt))))))
-      (give.Learnt κs (d, (n, (t, (list, (os, tt))))) r (d, (n, (t, (new, (left, tt))))))
-      (GiveAnswer d n t (both list os) r (both new left))
+  pub take : (κs : Lfts 4) (d n : ℕ) (t : TriangleCode) (lists new : Lent) (r : TableAnswer)
+      → Says (take.Asked κs (d, (n, (t, lists)))) (take.Learnt κs (d, (n, (t, lists))) r (d, (n, (t, new))))
+      (TakeAnswer d n t (all lists) r (all new))
+  pub set : (κs : Lfts 4) (d n : ℕ) (t : TriangleCode) (x : ℤ) (lists new : Lent) (r : TableAnswer)
+      → Says (set.Asked κs (d, (n, (t, (x, lists)))))
+      (set.Learnt κs (d, (n, (t, (x, lists)))) r (d, (n, (t, (x, new)))))
+      (SetAnswer d n t x (all lists) r (all new))
+  pub clear : (κs : Lfts 4) (d n : ℕ) (t : TriangleCode) (lists new : Lent) (r : TableAnswer)
+      → Says (clear.Asked κs (d, (n, (t, lists)))) (clear.Learnt κs (d, (n, (t, lists))) r (d, (n, (t, new))))
+      (ClearAnswer d n t (all lists) r (all new))
+  pub give : (κs : Lfts 4) (d n : ℕ) (t : TriangleCode) (lists new : Lent) (r : TableAnswer)
+      → Says (give.Asked κs (d, (n, (t, lists)))) (give.Learnt κs (d, (n, (t, lists))) r (d, (n, (t, new))))
+      (GiveAnswer d n t (all lists) r (all new))
+  pub workOut : (κs : Lfts 3) (n : ℕ) (list list′ : Readings) (sums new : Stored) (r : TableAnswer)
+      → Says (work_out.Asked κs (n, (list, sums))) (work_out.Learnt κs (n, (list, sums)) r (n, (list′, new)))
+      (AfreshAnswer n (now list) (stored sums) r (stored new))

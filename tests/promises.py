@@ -39,7 +39,8 @@ ARCHITECTURE = "docs/ARCHITECTURE.md"
 DOCS = (README, PROMISES, DECISIONS, ARCHITECTURE, "docs/FILING.md", "docs/CONSOLE.md", "docs/PERFORMANCE.md")
 DEMANDS, MISTAKES = "grid/specs/Demands.antt", "grid/specs/Mistakes.antt"
 CONTRACTS, HOST_CONTRACTS = "crates/grid/specs/Contracts.antt", "crates/contracts/specs/Host.antt"
-TABLE_CONTRACTS, TABLE_PROMISES = "crates/contracts/specs/Soundings.antt", "tables/specs/Promises.antt"
+TABLE_CONTRACTS = "crates/contracts/specs/Soundings.antt"
+TABLE_PROMISES = ("tables/specs/Promises.antt", "coarse/specs/Promises.antt")
 SWEEP_CONTRACTS, SWEEP_PROMISES = "crates/contracts/specs/Sweeps.antt", "sweeps/specs/Promises.antt"
 ASKED = "The demands"
 WRONG_ANSWERS = "Wrong answers that are ruled out, as theorems"
@@ -219,12 +220,13 @@ def of_sweep():
 
 @functools.cache
 def contracts():
-    """Where calls are held to their promises: the file with a row for each, the record of promises, the calls."""
+    """Where calls are held to their promises: the file with a row for each, the files that have the record of promises,
+    a later one for calls that a request changed, and the calls."""
     return (
-        (CONTRACTS, DEMANDS, "Demand1", calls()),
-        (HOST_CONTRACTS, "host/specs/Promises.antt", "OneAnswer", exported()),
+        (CONTRACTS, (DEMANDS,), "Demand1", calls()),
+        (HOST_CONTRACTS, ("host/specs/Promises.antt",), "OneAnswer", exported()),
         (TABLE_CONTRACTS, TABLE_PROMISES, "OneAnswer", of_table()),
-        (SWEEP_CONTRACTS, SWEEP_PROMISES, "OneAnswer", of_sweep()),
+        (SWEEP_CONTRACTS, (SWEEP_PROMISES,), "OneAnswer", of_sweep()),
     )
 
 
@@ -441,7 +443,8 @@ class Documents:
         for file, promises, record, of_file in contracts():
             text = self.text(file)
             rows = set(re.findall(r"^  pub (\w+) :", text, re.MULTILINE))
-            for name in sorted(rows ^ {name for _, name in file_names(promises).parts[record]}):
+            promised = {name for each in promises for _, name in file_names(each).parts[record]}
+            for name in sorted(rows ^ promised):
                 self.say(file, f"{name} is a row of Contracts or of {record}, and not of both")
             asked = re.findall(r"Says \((\w+)\.Asked ", text)
             for call in of_file:

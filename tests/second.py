@@ -13,11 +13,13 @@ weights, exact, t, drawn and bits with each number; file and list for a directio
 edge and each corner that has a whole direction at all. Likewise every call on a name for every corner to degree 5. The
 calls below that, and those to be refused, are a choice.
 
-For the table of soundings of requests 2026-03 and 2026-07 the console has a state: the one open table, which is two
-lists, of readings and of owners. A code's place is its place among all codes of the degree in rising order. It calls
-for every place of the tables of degree 0 to 4, and for some at 5 and 6; for long histories of both desks; for every
-refusal, alone and with each other one; and for bad lists. All answers are then compared with those of "a simple map
-from code to reading or nothing", and a map from code to the desk that has taken it.
+For the table of soundings of requests 2026-03, 2026-07 and 2026-08 the console has a state: the one open table, which
+is four lists, of readings and of owners, and of counts and of sums for the triangles one degree up. A code's place is
+its place among all codes of the degree in rising order. It calls for every place of the tables of degree 0 to 4, and
+for some at 5 and 6; for long histories of both desks; for every refusal, alone and with each other one; and for bad
+lists, and counts and sums that are off. All answers are then compared with those of "a simple map from code to reading
+or nothing", and maps from code to the desk that has taken it and to the count and sum of its children; and the totals
+of the counts and sums with the readings that the calls since a fresh table tell.
 
 For the plotter host in C of request 2026-01 it writes the lines of the host's test bench, and answers them with the
 same searches: every triangle to degree 4 is checked, and crossed over each edge; cross, file and list are lent slices
@@ -188,6 +190,7 @@ def child_code(code, digit):
     return make_code(side_of(code), digits_of(code) + [digit])
 
 
+@lru_cache(maxsize=1 << 17)
 def parent_code(code):
     return make_code(side_of(code), digits_of(code)[:-1])
 
@@ -536,11 +539,16 @@ REFUSAL_TABLE += """
 | 26 | owned by the other desk |
 | 27 | not owned |
 """
+# 2026-08; the words are those of docs/CONSOLE.md.
+REFUSAL_TABLE += """
+| 28 | a list of counts or sums has the wrong length |
+| 29 | the stored count or sum of the parent concerned differs from its children's readings |
+"""
 REFUSALS = {int(n): text for n, text in re.findall(r"\| (\d+) \| (.*) \|", REFUSAL_TABLE)}
 
 # "Where several hold, the order is", and then of document 02: "They are checked in number order", "The new refusals are
-# checked in number order after 23."
-REFUSAL_ORDER = [1, 2, 3, 4, 10, 5, 6, 8, 7, 9, 11, 20, 21, 22, 23, 24, 25, 26, 27]
+# checked in number order after 23", "refusal 28, checked after 27", "refusal 29, checked last".
+REFUSAL_ORDER = [1, 2, 3, 4, 10, 5, 6, 8, 7, 9, 11, 20, 21, 22, 23, 24, 25, 26, 27, 28, 29]
 
 
 def first(refusals):
@@ -610,11 +618,12 @@ def back_refusals(n, weights):
     return r
 
 
-# ==== Document 02, 2026-03, "A table of soundings", and 2026-07, "Second desk on the same table"
+# ==== Document 02, 2026-03, "A table of soundings", 2026-07, "Second desk ..", and 2026-08, "Keep the coarse sums"
 
 # "It holds one reading for each triangle of one degree from 0 to 6, in a lent list of signed numbers". "Each triangle
-# gets an owner: 0 nobody, 1 ice, 2 pilotage, in a lent list of the same length."
-Table = namedtuple("Table", "degree places owners")
+# gets an owner: 0 nobody, 1 ice, 2 pilotage, in a lent list of the same length." "for each triangle one degree up, the
+# count and sum of its present readings .. in lent lists beside the table"
+Table = namedtuple("Table", "degree places owners counts sums")
 TABLE_DEEPEST = 6
 NOTHING = -1  # "-1 means no reading"
 NOBODY, DESKS = 0, (1, 2)
@@ -665,17 +674,56 @@ def length_refusals(n, places):
     return when(22, not has_length(n, places))
 
 
+def reading_list_refusals(table):
+    n, places = table.degree, table.places
+    return table_degree_refusals(n) | length_refusals(n, places) | when(23, bad_places(places))
+
+
 def sounding_refusals(table, code):
     # "Set, clear and get take a code of just that degree."
-    n, places, _ = table
-    own = table_degree_refusals(n) | length_refusals(n, places) | when(23, bad_places(places))
-    return own | code_refusals(code) | when(20, degree_of(code) != n)
+    return reading_list_refusals(table) | code_refusals(code) | when(20, degree_of(code) != table.degree)
 
 
 def owner_list_refusals(table):
     # "25 owner list malformed (wrong length or another number)"
     malformed = not has_length(table.degree, table.owners) or not set(table.owners) <= {NOBODY, *DESKS}
     return when(25, malformed)
+
+
+def parent_list_refusals(table):
+    # "Lists of wrong length are refusal 28". "For tables of degree 0 the lists are empty."
+    n = table.degree
+    return when(28, not all(has_length(n - 1, x) if n > 0 else x == [] for x in (table.counts, table.sums)))
+
+
+def child_codes(code):
+    return [child_code(code, digit) for digit in (0, 1, 2, 3)]
+
+
+@lru_cache(maxsize=None)
+def child_places(parent):
+    return [place_of(code) for code in child_codes(parent)]
+
+
+def count_and_sum(table, parent):
+    """What the readings of the parent's four children give."""
+    present = [x for x in map(table.places.__getitem__, child_places(parent)) if x != NOTHING]
+    return len(present), sum(present)
+
+
+def stored(table, parent):
+    return table.counts[place_of(parent)], table.sums[place_of(parent)]
+
+
+def store(table, parent):
+    place = place_of(parent)
+    table.counts[place], table.sums[place] = count_and_sum(table, parent)
+
+
+def is_off(table, code):
+    # "the stored count or sum of the parent concerned differs from its children's readings". At degree 0 there is none.
+    parent = parent_code(code)
+    return table.degree > 0 and stored(table, parent) != count_and_sum(table, parent)
 
 
 def desk_refusals(table, desk, code, to_take=False):
@@ -685,7 +733,9 @@ def desk_refusals(table, desk, code, to_take=False):
         return refusals
     # "On another's triangle every call but get is 26; on a free one all but get and take are 27."
     owner = table.owners[place_of(code)]
-    return when(26, owner not in (NOBODY, desk)) | when(27, owner == NOBODY and not to_take)
+    refusals = when(26, owner not in (NOBODY, desk)) | when(27, owner == NOBODY and not to_take)
+    refusals |= parent_list_refusals(table)
+    return refusals or when(29, is_off(table, code))
 
 
 def set_refusals(table, desk, code, mm):
@@ -891,9 +941,9 @@ def call_sweep(n, places, numbers):
 
 # ==== The console's table: docs/CONSOLE.md, "A table of soundings"
 
-# "The console holds one table (document 02, 2026-03 and 2026-07), from the line that opens it to the next one that
-# does, or the end of the input". "It has two lists, of readings and of owners." This is all that is carried from line
-# to line.
+# "The console holds one table (document 02, 2026-03, 2026-07 and 2026-08), from the line that opens it to the next one
+# that does, or the end of the input". "It has four lists: of readings and of owners, and of counts and of sums for the
+# triangles one degree up." This is all that is carried from line to line.
 CONSOLE = SimpleNamespace(table=None)
 NO_TABLE = "error: no table is open; table DEGREE opens one"
 
@@ -903,13 +953,15 @@ def call_table(n, places=None):
 
     def say():
         numbers = [NOTHING] * (20 * 4**n) if places is None else places
-        # "Both lay a list of owners of the same length, in which all is nobody's."
-        CONSOLE.table = Table(n, numbers, [NOBODY] * len(numbers))
+        # "Both lay a list of owners of the same length, in which all is nobody's, and lists of counts and of sums that
+        # hold 0: 20*4^(DEGREE-1) places each for a degree of 1 to 6, and none for any other."
+        parents = 20 * 4 ** (n - 1) if 1 <= n <= TABLE_DEEPEST else 0
+        CONSOLE.table = Table(n, numbers, [NOBODY] * len(numbers), [0] * parents, [0] * parents)
         return f"degree {n}, {len(numbers)} places"
 
     # "The degree may be any number, and nothing is refused", if a list is given. Of a fresh table: "A degree of 7 to 24
-    # is refused with 20, one above 24 with 1." "A table line that is refused .. leaves the open table as it is, owners
-    # too."
+    # is refused with 20, one above 24 with 1." "A line that lays a list .. and is refused .. leaves the open table as
+    # it is, all four lists."
     return either(table_degree_refusals(n) if places is None else set(), say)
 
 
@@ -932,6 +984,9 @@ def write_place(table, refusals, code, number=None, owner=None):
         table.places[place_of(code)] = number
     if owner is not None:
         table.owners[place_of(code)] = owner
+    # "keep them true through set, clear, take and give back"
+    if table.degree > 0:
+        store(table, parent_code(code))
     return "ok"
 
 
@@ -966,13 +1021,18 @@ def place_text(code, number):
     return f"{triangle_text(code)} {number} mm" if is_reading(number) else f"{triangle_text(code)} holds {number}"
 
 
+def list_text(counted, shown):
+    # "and if there is anything to show `: ` and each .., separated by `, `"
+    return counted + (": " + ", ".join(shown) if shown else "")
+
+
 def readings_text(count, shown):
     # "It says `1 reading`, and `readings` after any other count."
-    return f"{count} reading{'' if count == 1 else 's'}" + (": " + ", ".join(shown) if shown else "")
+    return list_text(f"{count} reading{'' if count == 1 else 's'}", shown)
 
 
 def call_readings(table):
-    n, places, _ = table
+    n, places = table.degree, table.places
 
     def say():
         shown = [place_text(code, x) for code, x in zip(codes_of(n), places) if x != NOTHING]
@@ -988,15 +1048,19 @@ def owner_text(code, owner):
 
 
 def owners_text(count, shown):
-    return f"{count} owned" + (": " + ", ".join(shown) if shown else "")
+    return list_text(f"{count} owned", shown)
+
+
+def lay(table, kind, numbers):
+    # "The other lists stay, the degree may be any number, and nothing is refused"
+    CONSOLE.table = table._replace(**{kind: numbers})
+    return f"{len(numbers)} places"
 
 
 def call_owners(table, owners=None):
     """The owners, or a list of them for the open table."""
-    # "The readings stay, and nothing is refused", if a list is given.
     if owners is not None:
-        CONSOLE.table = table._replace(owners=owners)
-        return f"{len(owners)} places"
+        return lay(table, "owners", owners)
     n = table.degree
 
     def say():
@@ -1006,6 +1070,47 @@ def call_owners(table, owners=None):
     # "It is refused with 1 and 20 as `readings` is, and then with 25 where the list of owners has not 20*4^DEGREE
     # places."
     return either(table_degree_refusals(n) | when(25, not has_length(n, table.owners)), say)
+
+
+def coarse_text(count, sum_):
+    return f"count {count} sum {sum_}"
+
+
+def parents_text(shown):
+    # "It says `1 parent`, and `parents` after any other count."
+    return list_text(f"{len(shown)} parent{'' if len(shown) == 1 else 's'}", shown)
+
+
+def parents_of(n):
+    """The codes one degree up; a table of degree 0 has none."""
+    return codes_of(n - 1) if n > 0 else []
+
+
+def call_coarse(table, code=None):
+    """What is stored for one triangle one degree up, or for all of them."""
+    n = table.degree
+    refusals = table_degree_refusals(n) | parent_list_refusals(table)
+
+    def say_all():
+        numbers = zip(parents_of(n), table.counts, table.sums)
+        return parents_text([f"{triangle_text(parent)} {coarse_text(x, y)}" for parent, x, y in numbers if x or y])
+
+    if code is None:
+        return either(refusals, say_all)
+    # "1 to 4 as `check CODE` is; 20 for a table's degree of 7 to 24, and where CODE's degree is not one less than the
+    # table's"
+    refusals |= code_refusals(code) | when(20, degree_of(code) != n - 1)
+    return either(refusals, lambda: coarse_text(*stored(table, code)))
+
+
+def call_work_out(table):
+    # "It is refused with 1, 20, 22, 23 (with its place) and 28, and does not look at the owners."
+    no = first(reading_list_refusals(table) | parent_list_refusals(table))
+    if no:
+        return refused_with_place(table, no)
+    for parent in parents_of(table.degree):
+        store(table, parent)
+    return "ok"
 
 
 # ==== The console's lines
@@ -1059,7 +1164,7 @@ def read_owner(text):
 
 SIGNED = dict.fromkeys("XYZ", read_signed)
 READERS = {"CODE": read_code, "NAME": read_hex, **SIGNED, "MM": read_signed}
-READERS.update({"PLACES": read_places, "[PLACES]": read_places})
+READERS.update({"PLACES": read_places, "[PLACES]": read_places, "[CODE]": read_code})
 
 ANSWERS = {
     "check CODE": call_check,
@@ -1093,6 +1198,10 @@ TABLE_ANSWERS = {
     "get CODE": on_table(call_get),
     "readings": on_table(call_readings),
     "owners [LENGTH FILL [PLACE OWNER]..]": on_table(call_owners),
+    "coarse [CODE]": on_table(call_coarse),
+    "work-out": on_table(call_work_out),
+    "counts LENGTH FILL [PLACE N]..": on_table(lambda table, numbers: lay(table, "counts", numbers)),
+    "sums LENGTH FILL [PLACE N]..": on_table(lambda table, numbers: lay(table, "sums", numbers)),
 }
 
 
@@ -1102,15 +1211,15 @@ def forms_of(answers):
 
 GRID_FORMS, TABLE_FORMS = forms_of(ANSWERS), forms_of(TABLE_ANSWERS)
 FORMS = {**GRID_FORMS, **TABLE_FORMS}
-LONGEST_TABLE = 81921
+LONGEST_TABLE, LONGEST_PARENTS = 81921, 20481
 
 
-def read_list(given, read):
+def read_list(given, read, longest=LONGEST_TABLE):
     """The list that is laid by LENGTH, FILL, and each PLACE with its number."""
     within(len(given), 2, len(given) - len(given) % 2)
     # "LENGTH places (0 to 81921, ..) that all hold FILL, but at each PLACE, which is below LENGTH, its VALUE; of two
     # for one PLACE the later holds"
-    length = within(read_number(given[0]), 0, LONGEST_TABLE)
+    length = within(read_number(given[0]), 0, longest)
     places = [read(given[1])] * length
     for place, number in zip(given[2::2], given[3::2]):
         places[within(read_number(place), 0, length - 1)] = read(number)
@@ -1128,6 +1237,12 @@ def read_owners(given):
     return [read_list(given, read_owner)] if given else []
 
 
+def read_parents(given):
+    """A list of counts or of sums."""
+    # "LENGTH places (0 to 20481, ..)". "(FILL in a counts or a sums line is an N)"
+    return [read_list(given, read_number, LONGEST_PARENTS)]
+
+
 def read_arguments(kinds, given):
     last = kinds[-1] if kinds else ""
     if last == "WEIGHTS":  # "(0 to 16 weights)"
@@ -1137,10 +1252,12 @@ def read_arguments(kinds, given):
         return read_table(given)
     if last == "OWNER]..]":
         return read_owners(given)
+    if last == "N]..":
+        return read_parents(given)
     if last == "[NUMBER]..":  # "(0 to 48 numbers)"
         within(len(given), 2, 2 + MOST_NUMBERS)
         return [read_number(given[0]), read_places(given[1]), [read_signed(x) for x in given[2:]]]
-    within(len(given), len(kinds) - (last == "[PLACES]"), len(kinds))
+    within(len(given), len(kinds) - (last in ("[PLACES]", "[CODE]")), len(kinds))
     return [READERS.get(kind, read_number)(x) for kind, x in zip(kinds, given)]
 
 
@@ -1149,7 +1266,7 @@ def parts_of(line):
 
 
 def answer(line):
-    """The answer to one line, a character for each byte, and what it does to the open table and its owners."""
+    """The answer to one line, a character for each byte, and what it does to the open table."""
     if len(line) > 1000:
         return "error: a line has at most 1000 bytes"
     parts = parts_of(line)
@@ -1340,7 +1457,7 @@ def check_table_lines():
 
 
 def check_by_hand():
-    for some in (ICE_DESK, BOTH_DESKS):
+    for some in (ICE_DESK, BOTH_DESKS, COARSE):
         for (line, text), found in zip(some, answers_to(line for line, _ in some)):
             must(found == text, "by hand", line, text, found)
     must(answers_to(["table 0", "get 0x2050000000000001"])[1] == refused(4), "4 before 20")
@@ -2384,6 +2501,7 @@ MORNING_TEXT = """
     set 3 1001 100001 -> refused 21: reading out of range
     set 1 1001 100001 -> refused 21: reading out of range
     table 1 80 -1 1 700 2 800 -> degree 1, 80 places
+    work-out -> ok
     take 2 1001 -> ok
     give 2 1001 -> ok
     take 1 1001 -> ok
@@ -2399,6 +2517,128 @@ MORNING_TEXT = """
     get 1002 -> 800 mm
 """
 
+# docs/COARSE.md: "This is how they go, call by call".
+COARSE_TEXT = """
+    table 1 -> degree 1, 80 places
+    coarse -> 0 parents
+    take 1 1000 -> ok
+    take 1 1002 -> ok
+    take 1 1003 -> ok
+    take 1 1011 -> ok
+    coarse 100 -> count 0 sum 0
+    set 1 1000 10 -> ok
+    set 1 1002 0 -> ok
+    set 1 1003 100000 -> ok
+    set 1 1011 7 -> ok
+    coarse 100 -> count 3 sum 100010
+    coarse -> 2 parents: 100 count 3 sum 100010, 101 count 1 sum 7
+    set 1 1000 4 -> ok
+    coarse 100 -> count 3 sum 100004
+    clear 1 1003 -> ok
+    coarse 100 -> count 2 sum 4
+    give 1 1011 -> ok
+    coarse 101 -> count 0 sum 0
+    set 2 1000 9 -> refused 26: owned by the other desk
+    set 1 1001 9 -> refused 27: not owned
+    coarse -> 1 parent: 100 count 2 sum 4
+    readings -> 2 readings: 1000 4 mm, 1002 0 mm
+    coarse 1000 -> refused 20: wrong degree
+    counts 20 0 0 3 -> 20 places
+    take 1 1001 -> refused 29: the stored count or sum of the parent concerned differs from its children's readings
+    set 1 1000 5 -> refused 29: the stored count or sum of the parent concerned differs from its children's readings
+    clear 1 1000 -> refused 29: the stored count or sum of the parent concerned differs from its children's readings
+    give 1 1000 -> refused 29: the stored count or sum of the parent concerned differs from its children's readings
+    get 1000 -> 4 mm
+    coarse 100 -> count 3 sum 4
+    take 2 1010 -> ok
+    work-out -> ok
+    coarse 100 -> count 2 sum 4
+    set 1 1000 5 -> ok
+    sums 20 0 0 6 -> 20 places
+    set 1 1000 4 -> refused 29: the stored count or sum of the parent concerned differs from its children's readings
+    work-out -> ok
+    set 1 1000 4 -> ok
+    sums 19 0 -> 19 places
+    set 1 1000 4 -> refused 28: a list of counts or sums has the wrong length
+    give 2 1000 -> refused 26: owned by the other desk
+    work-out -> refused 28: a list of counts or sums has the wrong length
+    coarse 100 -> refused 28: a list of counts or sums has the wrong length
+    table 1 80 -1 0 700 1 800 -> degree 1, 80 places
+    take 1 1000 -> refused 29: the stored count or sum of the parent concerned differs from its children's readings
+    work-out -> ok
+    take 1 1000 -> ok
+    coarse 100 -> count 2 sum 1500
+    table 0 -> degree 0, 20 places
+    take 1 100 -> ok
+    set 1 100 5 -> ok
+    coarse -> 0 parents
+    coarse 100 -> refused 20: wrong degree
+    counts 1 0 -> 1 places
+    set 1 100 5 -> refused 28: a list of counts or sums has the wrong length
+"""
+SECOND_COARSE_TEXT = """
+    table 2 320 -1 0 1 3 2 317 100000 318 100000 319 100000 316 100000 -> degree 2, 320 places
+    coarse -> 0 parents
+    coarse 1000 -> count 0 sum 0
+    get 10000 -> 1 mm
+    take 1 10001 -> refused 29: the stored count or sum of the parent concerned differs from its children's readings
+    take 1 10010 -> ok
+    work-out -> ok
+    coarse -> 2 parents: 1000 count 2 sum 3, 5113 count 4 sum 400000
+    coarse 0xB870000000000000 -> count 4 sum 400000
+    take 1 10001 -> ok
+    take 1 51131 -> ok
+    clear 1 51131 -> ok
+    coarse 5113 -> count 3 sum 300000
+    counts 80 0 0 2 79 18446744073709551615 -> 80 places
+    clear 1 51131 -> refused 29: the stored count or sum of the parent concerned differs from its children's readings
+    set 2 51131 5 -> refused 26: owned by the other desk
+    set 1 10001 5 -> ok
+    coarse -> 2 parents: 1000 count 3 sum 8, 5113 count 18446744073709551615 sum 300000
+    owners 320 3 -> 320 places
+    coarse 5113 -> count 18446744073709551615 sum 300000
+    work-out -> ok
+    coarse -> 2 parents: 1000 count 3 sum 8, 5113 count 3 sum 300000
+    sums 80 0 1 7 -> 80 places
+    coarse -> 3 parents: 1000 count 3 sum 0, 1001 count 0 sum 7, 5113 count 3 sum 0
+    coarse 600 -> refused 2: a is 0, 6 or 7
+    coarse 10001 -> refused 20: wrong degree
+    coarse 100 -> refused 20: wrong degree
+    table 1 80 -1 3 -2 -> degree 1, 80 places
+    work-out -> refused 23: the list holds a number that is neither a reading nor -1; place 3
+    coarse 100 -> count 0 sum 0
+    counts 19 0 -> 19 places
+    work-out -> refused 23: the list holds a number that is neither a reading nor -1; place 3
+    coarse -> refused 28: a list of counts or sums has the wrong length
+    table 1 79 -2 -> degree 1, 79 places
+    work-out -> refused 22: the list's length isn't 20*4^degree
+    coarse -> 0 parents
+    table 7 3 5 -> degree 7, 3 places
+    work-out -> refused 20: wrong degree
+    coarse -> refused 20: wrong degree
+    coarse 100000000 -> refused 20: wrong degree
+    coarse 7 -> error: write it as coarse [CODE]
+    counts 20482 0 -> error: write it as counts LENGTH FILL [PLACE N]..
+    counts 20481 0 -> 20481 places
+    table 25 0 0 -> degree 25, 0 places
+    work-out -> refused 1: a degree, as field or argument, is above 24
+    coarse -> refused 1: a degree, as field or argument, is above 24
+    coarse 600 -> refused 1: a degree, as field or argument, is above 24
+    table 0 20 -1 3 9 -> degree 0, 20 places
+    take 1 111 -> ok
+    work-out -> ok
+    sums 1 0 -> 1 places
+    coarse -> refused 28: a list of counts or sums has the wrong length
+    coarse 111 -> refused 20: wrong degree
+    take 1 111 -> refused 28: a list of counts or sums has the wrong length
+    take 2 111 -> refused 26: owned by the other desk
+    set 1 100 5 -> refused 27: not owned
+    work-out -> refused 28: a list of counts or sums has the wrong length
+    sums 0 9 -> 0 places
+    give 1 111 -> ok
+    readings -> 0 readings
+"""
+
 
 def by_hand(text):
     """Lines with the answers to them."""
@@ -2407,6 +2647,7 @@ def by_hand(text):
 
 ICE_DESK = by_hand(ICE_DESK_TEXT) + by_hand(DAY_TEXT)
 BOTH_DESKS = by_hand(MORNING_TEXT)
+COARSE = by_hand(COARSE_TEXT) + by_hand(SECOND_COARSE_TEXT)
 
 # Readable lines, with no table to be called on.
 WITHOUT_TABLE = """
@@ -2415,6 +2656,8 @@ WITHOUT_TABLE = """
     clear 1 7013; clear 2 0x1; get 100000000; get 100000000000000000000000000; owners; owners 80 0; owners 0 255
     owners 20 3 19 1; owners 81921 0 81920 2; take 1 1001; take 2 100; take 0 1001; take 3 600; take 4294967297 100
     give 1 1001; give 2 0x1; give 18446744073709551615 7013; set 0 600 -1; set 0xFFFFFFFFFFFFFFFF 0x0 -2; clear 256 100
+    coarse; coarse 100; coarse 1001; coarse 600; coarse 0xFFFFFFFFFFFFFFFF; work-out; counts 20 0; counts 0 0; sums 20 0
+    counts 20481 18446744073709551615 20480 0; sums 0 5; sums 20 0 19 0xFFFFFFFFFFFFFFFF
 """
 UNREADABLE_ON_TABLE = """
     table; table 0 20; table 0 20 -1 3; table 0 20 -1 3 5 4; table 0 20 -1 3 5 4 6 19; table x; table 7 3; table 25 x
@@ -2451,6 +2694,22 @@ UNREADABLE_ON_TABLE = """
     owners all; owners 1 x; owners # note; owners #; owners 20 0 #; owners 20 0 3 1 # note; owners LENGTH FILL
     owners [20 0]; owners 20, 0; owners 20 0, 3 1; owners 20 0 100 1; owners 20 0 3 desk 1; owners 20 nobody
     owners 20 0 3 ice; owners desk 1; owners owners; owners 20 1.0; owners 20 0 3 0x; owners 20 0 0x14 1
+    coarse x; coarse all; coarse 1; coarse 0; coarse 100 101; coarse 100 5; coarse 1 100; coarse 100 # note; coarse #
+    coarse # note; coarse CODE; coarse [CODE]; coarse 600 1; coarse 100 x; coarse coarse; coarse 20 0; coarse 20 0 3 1
+    coarse 1004; coarse 100,; coarse -100; coarse count 1; coarse 0 0
+    work-out 1; work-out 100; work-out x; work-out all; work-out # note; work-out #; work-out work-out; work-out 20 0
+    counts; counts 20; counts 0; counts x; counts 20 x; counts x 0; counts 20 0 3; counts 20 0 3 1 4; counts 100
+    counts 20 0 3 1 4 2 5; counts 20 -1; counts 20 -0; counts 20 0 3 -1; counts 20 0 -1 1; counts -1 0; counts 20 0 20 1
+    counts 20 0 3 1 20 1; counts 0 0 0 1; counts 1 0 1 1; counts 19 0 19 1; counts 20482 0; counts 20481 0 20481 1
+    counts 20480 0 20480 1; counts 81920 0; counts 81921 0; counts 0x5002 0; counts 20 18446744073709551616; counts all
+    counts 20 0 3 18446744073709551616; counts 20 0 0x14 1; counts 20 0 100 1; counts LENGTH FILL; counts [20 0]
+    counts 20, 0; counts #; counts 20 0 # note; counts # note; counts 20 1.0; counts 20 0 3 0x; counts 20 0 3 1 x
+    sums; sums 20; sums 0; sums x; sums 20 x; sums x 0; sums 20 0 3; sums 20 0 3 1 4; sums 100; sums #; sums all
+    sums 20 0 3 1 4 2 5; sums 20 -1; sums 20 -0; sums 20 0 3 -1; sums 20 0 -1 1; sums -1 0; sums 20 0 20 1
+    sums 20 0 3 1 20 1; sums 0 0 0 1; sums 1 0 1 1; sums 19 0 19 1; sums 20482 0; sums 20481 0 20481 1; sums 0x5002 0
+    sums 20480 0 20480 1; sums 81920 0; sums 81921 0; sums 20 18446744073709551616; sums 20 0 3 18446744073709551616
+    sums 20 0 0x14 1; sums 20 0 100 1; sums LENGTH FILL; sums [20 0]; sums 20, 0; sums 20 0 # note; sums # note
+    sums 20 1250 mm; sums 20 0 3 1250 mm; sums 20 1.0; sums 20 0 3 0x; sums 20 0 3 1 x; sums sums
 """
 UNKNOWN_ON_TABLE = """
     Table 0; TABLE 0; tables 0; tabl 0; table0; table:0; table, 0; Set 1 100 5; SET 1 100 5; sets 1 100 5; se 1 100 5
@@ -2461,10 +2720,15 @@ UNKNOWN_ON_TABLE = """
     TAKE 1 100; takes 1 100; took 1 100; tak 1 100; take1 100; take, 1 100; take:; Give 1 100; GIVE 1 100; gives 1 100
     give-back 1 100; giveback 1 100; gave 1 100; giv 1 100; give1 100; return 1 100; free 1 100; own 1 100; owner; owned
     owner 100; Owners; OWNERS; owners:; owners,; owners20 0; owners\u00a0; owner 20 0; take\u00a01 100; give\u00a01 100
+    Coarse; COARSE; coarse100; coarse:; coarser; coars; coarse-sums; coarse\u00a0100; parents; parents 100; count 100
+    workout; work out; work_out; work -out; Work-out; WORK-OUT; work-out:; work-out100; work; -out; work-out\u00a0
+    count; count 20 0; Counts 20 0; COUNTS 20 0; counts20 0; counts: 20 0; counts\u00a020 0; sum; sum 20 0; Sums 20 0
+    SUMS 20 0; sums20 0; sums: 20 0; sums\u00a020 0; count 1 sum 5; 100 count 1 sum 5
 """
 BAD_LENGTHS = BAD_NUMBERS + "81922 163840 4294967296 4294967316 18446744073709551615 0x14002 000081922".split()
 BAD_PLACE_NUMBERS = BAD_NUMBERS + "20 21 0x14 00020 81920 4294967296 4294967299 18446744073709551615".split()
 BAD_OWNERS = BAD_NUMBERS + "256 257 258 511 65536 4294967296 4294967297 18446744073709551615 0x100 00256".split()
+BAD_PARENT_LENGTHS = BAD_LENGTHS + "20482 81920 81921 0x5002 00020482 65536 65556".split()
 BAD_TABLE_CODES = [word for word in BAD_CODES if not TRIANGLE.fullmatch(word)]
 # Good arguments, and for each of them bad ones in its place.
 TABLE_ARGUMENTS = [
@@ -2478,8 +2742,13 @@ TABLE_ARGUMENTS = [
     ("give", ["2", "111"], [BAD_NUMBERS, BAD_TABLE_CODES]),
     ("owners", ["20", "0"], [BAD_LENGTHS, BAD_OWNERS]),
     ("owners", ["20", "0", "3", "1"], [BAD_LENGTHS, BAD_OWNERS, BAD_PLACE_NUMBERS, BAD_OWNERS]),
+    ("coarse", ["100"], [BAD_TABLE_CODES]),
+    ("counts", ["20", "0"], [BAD_PARENT_LENGTHS, BAD_NUMBERS]),
+    ("counts", ["20", "0", "3", "1"], [BAD_NUMBERS, BAD_NUMBERS, BAD_PLACE_NUMBERS, BAD_NUMBERS]),
+    ("sums", ["20", "0"], [BAD_PARENT_LENGTHS, BAD_NUMBERS]),
+    ("sums", ["20", "0", "3", "1"], [BAD_NUMBERS, BAD_NUMBERS, BAD_PLACE_NUMBERS, BAD_NUMBERS]),
 ]
-SHOWN = ["readings", "owners"]  # All that the table holds.
+SHOWN = ["readings", "owners", "coarse"]  # All that the table holds.
 
 
 def unreadable_table_lines():
@@ -2495,6 +2764,7 @@ def unknown_table_lines():
     yield from ["readings\x0b", "\x0breadings", "table\x0b0", "set\x0b1 100 5", "get\x0c100", "clear\x001 100"]
     yield from ["readings\x00", "", " \t", "# table 0", "#readings", " # set 1 100 5"]
     yield from ["take\x0b1 100", "give\x0c1 100", "owners\x00", "owners\x0b20 0", "#owners", "# take 1 100"]
+    yield from ["coarse\x0b100", "coarse\x00", "work-out\x0c", "counts\x0b20 0", "sums\x0020 0", "#coarse", "#work-out"]
 
 
 def before_any_table():
@@ -2503,21 +2773,22 @@ def before_any_table():
     yield from written(WITHOUT_TABLE)
     for line in [*unreadable_table_lines(), *unknown_table_lines()]:
         yield line
-        if line.startswith(("table ", "owners ")):
+        if line.startswith(("table ", "owners ", "counts ", "sums ")):
             yield "readings"
     for n in (7, 8, 23, 24, 25, 26, 31, 32, 255, 256, 2**32, 2**32 + 1, 2**63, MOST - 1, MOST):
         yield f"table {n}"
         yield from ["readings", "get 1001", "set 1 1001 5", "clear 2 1001", "get 1001 5"]
         yield from ["owners", "take 1 1001", "give 2 1001", "owners 80 0", "set 1001 5", "clear 1001", "take 1001"]
+        yield from ["coarse", "coarse 100", "work-out", "counts 20 0", "sums 20 0", "counts 20", "sums 20482 0"]
     yield from written(WITHOUT_TABLE)
 
 
 def unreadable_on_table():
     """The same lines while a table is open, and what the table holds after each."""
-    yield from ["table 0 20 -1 3 1250 19 0", "owners 20 0 0 1 3 2 19 1"]
+    yield from ["table 1 80 -1 3 1250 79 0", "owners 80 0 0 1 3 2 79 1", "counts 20 0 0 1 7 9 19 1", "sums 20 0 0 1250"]
     for line in [*unreadable_table_lines(), *unknown_table_lines()]:
         yield from [line, *SHOWN]
-    yield from ["get 111", "get 511", "get 100", "set 1 100 1", "clear 2 111", "give 1 511", *SHOWN]
+    yield from ["get 1003", "get 5113", "get 1000", "set 1 1000 1", "clear 2 1003", "give 1 5113", *SHOWN]
 
 
 READABLE_ON_TABLE = """
@@ -2548,6 +2819,18 @@ READABLE_ON_TABLE = """
     owners 20 0 3 00255; owners 0 0; owners 0 255; owners 1 255 0 0; owners 1 0; owners 2 1 1 2; owners 19 0 18 1
     owners 21 0 20 2; owners 80 1; owners 81920 0; owners 81921 0; owners 81921 0 81920 255; owners 0x14001 0 0x14000 1
     owners 00081921 2; owners 20 3; owners 20 0 0 3 0 1; owners 20 1; owners 20 2 0 1; owners 20 0
+    coarse 100; coarse 0x2000000000000000; coarse 000; coarse 0x0; coarse 0xaBcDeF0123456789; coarse 1001; work-out
+    counts 0 0; counts 0 18446744073709551615; sums 0x0 0xFFFFFFFFFFFFFFFF; counts 1 0; sums 1 1 0 0; counts 20 0
+    table 1 80 -1 0 1 1 2 79 3; coarse 100; coarse 0xB800000000000000; coarse 0xb800000000000000; work-out; coarse 511
+    counts 0x14 0x0 0x13 0x2; counts 020 00 019 001; sums 20 00000000000000000000000000002 3 0000000000000000000000001
+    counts 20 18446744073709551615; sums 20 0xFFFFFFFFFFFFFFFF; counts 20 0 3 0xffffffffffffffff 4 0x0; coarse 111
+    sums 20 0 3 00018446744073709551615; counts 0x0000000000000014 0x8000000000000000 0x0000000000000000 0x000000000000
+    sums 20 4294967296 19 9223372036854775808; counts 20 0 0 3 0 1; sums 20 5 0 3 0 0; coarse 100; coarse 101
+    counts 19 0 18 1; counts 21 0 20 2; counts 80 1; counts 20480 0; counts 20481 0; counts 20481 0 20480 255
+    counts 0x5001 0 0x5000 1; counts 00020481 2; counts 0 0; counts 1 7 0 8; counts 20 0; sums 19 0 18 1; sums 21 0 20 2
+    sums 80 1; sums 20480 0; sums 20481 0; sums 20481 0 20480 255; sums 0x5001 0 0x5000 1; sums 00020481 2; sums 0 0
+    sums 20 256 4 65536; work-out; coarse 0x2000000000000001; coarse 0x2000000000000004; coarse 1000; coarse 711
+    table 2; coarse 1001; coarse 0x2050000000000000; coarse 100; coarse 10011; coarse 6001
 """
 
 
@@ -2558,6 +2841,8 @@ def readable_on_table():
     lines += ["  set   1 100\t7  ", "get 100\r", "\rget\r\t100", "set\t1\t101\r100000", "clear\t1\t100\r"]
     lines += ["give\t1\r100 ", "  give  1  101", "\rowners\t", "owners\r", "\towners 20\r0\t3 1  4\t2 "]
     lines += ["table 0\t20 -1\r3 \t7", "\treadings\t", "readings\r", "   readings   ", "\r \treadings"]
+    lines += ["table 1", "\tcounts 20\r0\t3 1  4\t2 ", "sums\t20  0 3\r9\t", "coarse\r", "\tcoarse\t", "\rwork-out\t"]
+    lines += [" coarse \t111\r", "coarse\r100", "work-out\r", "   work-out   ", "table 0"]
     for length in (999, 1000, 1001, 1002, 5000):
         lines += [filled("table 0 20 -1 4 44", length), "table 0 20 -1 5 " + "0" * (length - 18) + "55"]
         lines += [filled("take 2 200", length), "take " + "0" * (length - 10) + "2 201"]
@@ -2567,6 +2852,9 @@ def readable_on_table():
         lines += [filled("give 2 200", length, "\r"), "give " + "0" * (length - 10) + "2 201", filled("owners", length)]
         lines += [filled("owners 20 0 4 1", length), "owners 20 0 5 " + "0" * (length - 15) + "2"]
         lines += ["owners 20 " + "0" * (length - 15) + "1 6 2", " " * (length - len("owners")) + "owners"]
+        lines += ["table 1", filled("counts 20 0 4 1", length), "sums 20 0 5 " + "0" * (length - 13) + "2"]
+        lines += ["counts 20 " + "0" * (length - 15) + "1 6 2", filled("sums 20 0 6 3", length, "\r")]
+        lines += [filled("coarse 201", length), filled("coarse", length, "\t"), filled("work-out", length)]
     for line in lines:
         yield from [line, *SHOWN]
 
@@ -2577,6 +2865,10 @@ def ice_desk_calls():
 
 def both_desks_calls():
     yield from (line for line, _ in BOTH_DESKS)
+
+
+def coarse_story_calls():
+    yield from (line for line, _ in COARSE)
 
 
 def last_line():
@@ -2598,7 +2890,7 @@ def desk_of(place):
 
 
 def sounding_line(call, desk, word, mm):
-    words = [call] + ([] if call == "get" else [desk]) + [word] + ([mm] if call == "set" else [])
+    words = [call] + ([] if call in ("get", "coarse") else [desk]) + [word] + ([mm] if call == "set" else [])
     return " ".join(map(str, words))
 
 
@@ -2627,6 +2919,16 @@ def owned(length, fill, numbers=()):
     return f"owners {laid(length, fill, numbers)}"
 
 
+def asked_parents(n):
+    """What is stored for each triangle one degree up."""
+    return [f"coarse {some_form(parent, at)}" for at, parent in enumerate(parents_of(n))]
+
+
+def mostly_worked_out(at):
+    """Where readings came with the table; now and then it is left out, and calls are 29."""
+    return ["work-out"] if at % 8 else []
+
+
 def place_by_place(chance, n, order):
     """Each place is taken and set in this order, and asked for; cleared and asked for again in another order; and given
     back in a third, some set once more before."""
@@ -2637,7 +2939,7 @@ def place_by_place(chance, n, order):
         if at % often == 0:
             yield from SHOWN
     yield from (f"get {some_form(code, at)}" for at, code in enumerate(codes_of(n)))
-    yield from SHOWN
+    yield from [*asked_parents(n), *SHOWN]
     for call in ("clear", "give"):
         for at, code in enumerate(chance.sample(order, len(order))):
             yield from own_lines(f"set {call}" if call == "give" and at % 3 == 0 else call, code, at)
@@ -2667,7 +2969,7 @@ def every_place_of_four():
     yield from (f"get {some_form(code, at)}" for at, code in enumerate(codes_of(4)[::8]))
     yield from (own_line("clear", code, at) for at, code in enumerate(order[::30]))
     yield from (own_line("give", code, at) for at, code in enumerate(order[::40]))
-    yield from SHOWN
+    yield from [*asked_parents(4)[::5], *SHOWN]
 
 
 def alone(n, place):
@@ -2677,7 +2979,7 @@ def alone(n, place):
     code, beside = codes_of(n)[place], codes_of(n)[(place + 1) % length]
     yield opened(n, length, NOTHING, [(place, mm_of(place))])
     yield from [f"get {some_form(code, place)}", f"get {some_form(beside, place)}", "readings"]
-    yield owned(length, NOBODY, [(place, desk)])
+    yield from [*mostly_worked_out(place), owned(length, NOBODY, [(place, desk)])]
     yield from (f"set {desk} {some_form(x, place)} 77" for x in (beside, code))
     yield from SHOWN
     yield from [f"table {n}", *own_lines("take set", code, place + 1), *SHOWN]
@@ -2757,7 +3059,14 @@ def other_line(chance, word):
     """A line that has nothing to do with the table."""
     some = [f"check {word}", f"parent {word}", f"child {word} 2", "file 6 1 2 3", "list 1 0 0 1 8", "", "# set 1 100 5"]
     some += [f"take {word}", f"give {word}", "set 100 5", "clear 100", "owners 20", "owners 81922 0", "owners 20 256"]
+    some += ["counts 20", "counts 20482 0", "sums 20 -1", "sums 20 0 20 1", "work-out 1", "coarse 1"]
     return chance.choice(some + ["set 100", "readings all", "table", "table 7", "table 25", "close"])
+
+
+def history_coarse(chance, n, pool):
+    """Mostly the parent of a code of the pool."""
+    code = chance.choice(pool)
+    return "coarse " + any_form(chance, history_word(chance, n - 1, [parent_code(code)]) if n > 0 else code)
 
 
 def any_calls(chance, n, pool, many):
@@ -2766,8 +3075,9 @@ def any_calls(chance, n, pool, many):
         call = chance.choice(["take"] * 5 + ["set"] * 8 + ["get"] * 6 + ["clear"] * 3 + ["give"] * 2)
         word = any_form(chance, history_word(chance, n, pool))
         yield sounding_line(call, history_desk(chance), word, history_reading(chance))
-        if chance.randrange(25) == 0:
-            yield chance.choice([*SHOWN, *SHOWN, other_line(chance, word)])
+        if chance.randrange(16) == 0:
+            parent = history_coarse(chance, n, pool)
+            yield chance.choice([*SHOWN, *SHOWN, parent, parent, other_line(chance, word)])
     yield from SHOWN
 
 
@@ -2789,8 +3099,29 @@ def history_from_elsewhere(chance, n, many):
     yield opened(n, length, chance.choice([NOTHING, 31]) if n <= 2 else NOTHING, readings)
     fill = chance.choice([NOBODY, *DESKS]) if n <= 2 else NOBODY
     yield owned(length, fill, [(place, chance.choice([NOBODY, *DESKS])) for place in places])
+    pool = [codes_of(n)[place] for place in places]
+    # Now and then a third of the calls comes before the sums are worked out.
+    before = many // 3 if chance.randrange(4) == 0 else 0
+    yield from any_calls(chance, n, pool, before)
+    yield from ["work-out", "coarse"]
+    yield from any_calls(chance, n, pool, many - before)
+
+
+def coarse_history(chance, n, many):
+    """Many calls on the children of a few triangles one degree up, and after each what is stored for its parent."""
+    chosen = parents_of(n) and [parents_of(n)[place] for place in chosen_places(chance, n - 1, 4)]
+    pool = [code for parent in chosen for code in child_codes(parent)] or codes_of(0)[:6]
+    yield f"table {n}"
+    for at in range(many):
+        code = chance.choice(pool)
+        call = chance.choice(["take"] * 5 + ["set"] * 8 + ["clear"] * 3 + ["give"] * 2)
+        yield sounding_line(call, chance.choice(DESKS), any_form(chance, code), history_reading(chance))
+        yield f"coarse {any_form(chance, parent_code(code))}"
+        if at % 8 == 0:
+            yield "coarse"
+        if at % 60 == 59:
+            yield from ["work-out", "coarse"]
     yield from SHOWN
-    yield from any_calls(chance, n, [codes_of(n)[place] for place in places], many)
 
 
 def history_calls():
@@ -2800,6 +3131,8 @@ def history_calls():
     for n, many, again in ((0, 150, 12), (1, 150, 12), (2, 150, 8), (3, 120, 4), (4, 60, 2), (5, 50, 2), (6, 40, 2)):
         for _ in range(again):
             yield from history_from_elsewhere(chance, n, many)
+    for n, many in ((0, 60), (1, 400), (2, 400), (3, 400), (6, 60)):
+        yield from coarse_history(chance, n, many)
 
 
 # ==== The calls: a table of soundings, refusals
@@ -2808,19 +3141,45 @@ OUTSIDE_READINGS = [x for x in READING_BOUNDS if not is_reading(x)]
 BAD_READINGS = [-2, 100_001, -(2**31), 2**31 - 1, -3, -100_000, 100_002, 2**16 + 100_000, -(2**16) + 1]
 
 # The rows of document 01's table and of 02's that each call can give. A degree, "as field or argument", and a word are
-# given to all five, with a table and its list; only set is given a reading. All but get are given a desk and the list
-# of owners, and all but get and take are 27 on a free triangle.
+# given to all five, with a table and its list; only set is given a reading. All but get are given a desk and the lists
+# of owners, counts and sums, and all but get and take are 27 on a free triangle.
 SOUNDING_NUMBERS = {
-    "take": [1, 2, 3, 4, 20, 22, 23, 24, 25, 26],
-    "set": [1, 2, 3, 4, 20, 21, 22, 23, 24, 25, 26, 27],
-    "clear": [1, 2, 3, 4, 20, 22, 23, 24, 25, 26, 27],
-    "give": [1, 2, 3, 4, 20, 22, 23, 24, 25, 26, 27],
+    "take": [1, 2, 3, 4, 20, 22, 23, 24, 25, 26, 28, 29],
+    "set": [1, 2, 3, 4, 20, 21, 22, 23, 24, 25, 26, 27, 28, 29],
+    "clear": [1, 2, 3, 4, 20, 22, 23, 24, 25, 26, 27, 28, 29],
+    "give": [1, 2, 3, 4, 20, 22, 23, 24, 25, 26, 27, 28, 29],
     "get": [1, 2, 3, 4, 20, 22, 23],
 }
+# Likewise for the calls on the counts and sums. `coarse` is the one with a code here.
+COARSE_NUMBERS = {"coarse": [1, 2, 3, 4, 20, 28], "work-out": [1, 20, 22, 23, 28]}
+PARENT_LISTS = ["counts", "sums"]
+# What a stored number may be off by, modulo 2^64, so that MOST is one too few.
+OFF_BY = [1, 2, 4, 2**8, 2**16, 2**31, 2**32, 2**32 + 1, 2**63, MOST, MOST - 1, MOST - 3, 100_000, MOST - 99_999]
+
+
+def tallied(numbers):
+    """The counts and the sums of the readings among (place, number), by the place of the parent: the four children of
+    one lie side by side."""
+    found = {"counts": {}, "sums": {}}
+    for place, x in numbers:
+        if is_reading(x):
+            found["counts"][place // 4] = found["counts"].get(place // 4, 0) + 1
+            found["sums"][place // 4] = found["sums"].get(place // 4, 0) + x
+    return found
+
+
+def parents_laid(kind, length, fill, true, more=()):
+    """A list of counts or of sums: those that are true, as far as it goes, and with something more at some places."""
+    numbers = {place: x for place, x in true.items() if place < length}
+    for place, off in dict(more).items():
+        if place < length:
+            numbers[place] = (numbers.get(place, fill) + off) % 2**64
+    return f"{kind} {laid(length, fill, numbers.items())}"
 
 
 def good_trial(chance, n, call):
-    """A table with some readings and owners, a desk, a code and a reading: the call is not refused."""
+    """A table with some readings and owners, true counts and sums of the parent concerned, a desk, a code and a
+    reading: the call is not refused."""
     length, desk = 20 * 4**n, chance.choice(DESKS)
     readings = {place: chance.randint(0, 100_000) for place in chance.sample(range(length), 3)}
     own = chance.choice([*readings, chance.randrange(length)])
@@ -2830,6 +3189,15 @@ def good_trial(chance, n, call):
     trial.mm = chance.choice([0, 7, 100_000])
     trial.owners, trial.owner_length = owners, length
     trial.owner_fill = chance.choice([NOBODY, *DESKS]) if n <= 1 else NOBODY
+    parents = len(parents_of(n))
+    trial.parents, trial.parent_fill = dict.fromkeys(PARENT_LISTS, parents), dict.fromkeys(PARENT_LISTS, 0)
+    # Another parent does not matter.
+    others = [place for place in range(parents) if place != own // 4 and chance.randrange(parents) == 0]
+    trial.more = {kind: {place: chance.choice(OFF_BY) for place in others} for kind in PARENT_LISTS}
+    if call in COARSE_NUMBERS:
+        # Nor do the owners.
+        trial.owner_fill = chance.choice([NOBODY, 3])
+        trial.word = parents_of(n)[own // 4] if n > 0 else trial.word
     return trial
 
 
@@ -2841,13 +3209,15 @@ def on_word(break_one):
 
 
 def spoil_code_degree(trial, chance):
-    trial.word = random_code(chance, chance.choice([m for m in range(DEEPEST) if m != trial.n]))
+    trial.word = random_code(chance, chance.choice([m for m in range(DEEPEST) if m != degree_of(trial.word)]))
 
 
 def spoil_deep_table(trial, chance):
-    """A table degree of 7 to 23, and a code of that degree. No list that the console opens is long enough for it."""
+    """A table degree of 7 to 23, and a code of that degree, or of one up as before. No list that the console opens is
+    long enough for it."""
+    up = trial.n - degree_of(trial.word)
     trial.n = chance.randrange(TABLE_DEEPEST + 1, DEEPEST)
-    trial.word = random_code(chance, trial.n)
+    trial.word = random_code(chance, trial.n - up)
 
 
 def spoil_table_degree(trial, chance):
@@ -2931,10 +3301,34 @@ def spoil_owners(trial, chance):
         trial.owners[place] = chance.choice([3, 4, 255, chance.randrange(3, 256)])
 
 
+def on_parents(kind, spoil_one):
+    return lambda trial, chance: spoil_one(trial, chance, kind)
+
+
+def spoil_parents_length(trial, chance, kind):
+    right = trial.parents[kind]
+    lengths = [0, 1, max(right - 1, 0), right + 1, 20, 80, right * 4, LONGEST_PARENTS]
+    trial.parents[kind] = chance.choice([x for x in lengths if x != right])
+
+
+def spoil_stored(trial, chance, kind):
+    trial.more[kind][trial.own // 4] = chance.choice(OFF_BY)
+
+
+def spoil_all_stored(trial, chance):
+    """Every parent has a count and a sum that no readings can have, whatever parent the word might be taken to have."""
+    trial.parent_fill = {"counts": chance.choice([5, 6, MOST]), "sums": chance.choice([400_001, 2**32, MOST])}
+    trial.more = {kind: {} for kind in PARENT_LISTS}
+
+
 # The ways to make each refusal hold. 20 comes first since it takes another word, which 1 to 4 then spoil; 23 comes
 # after 22, and 25 last, since their places are those of a list whose length is fixed.
 SPOIL_WORD_DEGREE = on_word(break_degree)
+SPOIL_PARENTS_LENGTHS = [on_parents(kind, spoil_parents_length) for kind in PARENT_LISTS]
+SPOIL_STORED = [on_parents(kind, spoil_stored) for kind in PARENT_LISTS]
 WAYS = {
+    28: SPOIL_PARENTS_LENGTHS,
+    29: [*SPOIL_STORED, spoil_all_stored],
     20: [spoil_code_degree, spoil_deep_table],
     1: [SPOIL_WORD_DEGREE, spoil_table_degree],
     2: [on_word(break_a)],
@@ -2952,17 +3346,25 @@ FOR_ONE_PLACE = {spoil_others, spoil_free}
 FOR_OWNERS_LENGTH = {spoil_owners_short, spoil_owners_long, spoil_owners_length}
 
 
-def can_be(numbers, some):
+def can_be(call, numbers, some):
     """In a word with a degree above 24 no digit is beyond it, for 3. A word that is no code of the table's degree has
-    no place of its own, nor has any where the list of owners is too short."""
+    no place of its own, nor has any where the list of owners is too short; and no parent of its own, nor are there
+    children's readings where the list has the wrong length. To work out takes no word, and the table's degree is not 1
+    and 20 at once."""
     if 3 in numbers and SPOIL_WORD_DEGREE in some:
         return False
-    return not (FOR_ONE_PLACE & set(some) and ({1, 2, 3, 4, 20} & set(numbers) or FOR_OWNERS_LENGTH & set(some)))
+    if call == "work-out" and ({SPOIL_WORD_DEGREE, spoil_code_degree} & set(some) or {1, 20} <= set(numbers)):
+        return False
+    no_place = {1, 2, 3, 4, 20} & set(numbers)
+    if set(SPOIL_STORED) & set(some) and (no_place or {22, 28} & set(numbers)):
+        return False
+    return not (FOR_ONE_PLACE & set(some) and (no_place or FOR_OWNERS_LENGTH & set(some)))
 
 
-def ways_to(chance, numbers):
+def ways_to(chance, call, numbers):
     """Every way to make all the numbers hold; for more than two of them, some."""
-    ways = [some for some in itertools.product(*(WAYS[no] for no in WAYS if no in numbers)) if can_be(numbers, some)]
+    ways = itertools.product(*(WAYS[no] for no in WAYS if no in numbers))
+    ways = [some for some in ways if can_be(call, numbers, some)]
     return ways if len(numbers) <= 2 else chance.sample(ways, min(len(ways), 12))
 
 
@@ -2973,9 +3375,17 @@ def trial_calls(call, numbers, trial):
     lines.append(owned(trial.owner_length, trial.owner_fill, trial.owners.items()))
     table = Soundings(*read_table(parts_of(lines[0])[1:]))
     table.lay(*read_owners(parts_of(lines[1])[1:]))
+    # get looks at neither list.
+    for kind, true in tallied(trial.numbers.items()).items() if call != "get" else ():
+        if trial.parent_fill[kind]:
+            true = {}
+        if trial.n != 0 or trial.parents[kind]:
+            lines.append(parents_laid(kind, trial.parents[kind], trial.parent_fill[kind], true, trial.more[kind]))
+            table.lay_parents(kind, *read_parents(parts_of(lines[-1])[1:]))
     held = table.refusals(call, trial.desk, trial.word, trial.mm)
     must(set(numbers) <= held and first(held) == first(numbers), "meant to hold", call, numbers, held, trial)
-    yield from [*lines, sounding_line(call, trial.desk, word_text(trial.word), trial.mm), *SHOWN]
+    line = call if call == "work-out" else sounding_line(call, trial.desk, word_text(trial.word), trial.mm)
+    yield from [*lines, line, *SHOWN]
 
 
 def number_sets(numbers):
@@ -2989,10 +3399,11 @@ def number_sets(numbers):
 
 def table_refusal_calls():
     chance = random.Random(32)
-    for call, can_hold in SOUNDING_NUMBERS.items():
+    for call, can_hold in {**SOUNDING_NUMBERS, **COARSE_NUMBERS}.items():
         for numbers in number_sets(can_hold):
-            for ways in ways_to(chance, numbers):
-                for n in (0, chance.choice([1, 1, 1, 2, 2, 3])):
+            for ways in ways_to(chance, call, numbers):
+                # At degree 0 there are no triangles one degree up.
+                for n in [0] * (29 not in numbers and call != "coarse") + [chance.choice([1, 1, 1, 2, 2, 3])]:
                     trial = good_trial(chance, n, call)
                     for spoil in ways:
                         spoil(trial, chance)
@@ -3078,7 +3489,7 @@ def other_lengths():
             if n <= 4:
                 yield owned(right, chance.choice([NOBODY, 1, 2, 3]))
                 yield from asked_for(chance, [codes_of(n)[0]])
-        yield opened(n, right, NOTHING, [(right - 1, 1250)])
+        yield from [opened(n, right, NOTHING, [(right - 1, 1250)]), "work-out"]
         yield from asked_for(chance, [codes_of(n)[0], codes_of(n)[-1]])
 
 
@@ -3123,7 +3534,7 @@ def many_places():
         length = 20 * 4**n
         for values in ([0, 7, 100_000, NOTHING], [0, NOTHING, 5, 6, 7, 8, -2], [-2, 100_001, 3]):
             yield filled_line(opened(n, length, NOTHING), many_numbers(chance, length, values))
-            yield "readings"
+            yield from ["readings", "work-out", "coarse"]
             yield from asked_for(chance, [codes_of(n)[chance.choice([0, 1, 2, 3, length - 1])]])
         for values in ([0, 1, 2], [1, 2, 0, 1, 2, 3, 255], [3, 77, 255]):
             yield f"table {n}"
@@ -3139,19 +3550,19 @@ def many_places():
 
 
 def staying_calls():
-    """Tables that are refused or can not be read, and owners that can not be read, while another table stays open as it
-    is, good or bad; and a fresh table in place of one with readings and owners."""
+    """Tables that are refused or can not be read, and other lists that can not be read, while another table stays open
+    as it is, good or bad; and a fresh table in place of one with readings and owners."""
     chance = random.Random(37)
     codes = [read_triangle("100"), read_triangle("1001")]
-    unreadable = [line for line in written(UNREADABLE_ON_TABLE) if line.startswith("owners ")]
+    unreadable = [line for line in written(UNREADABLE_ON_TABLE) if line.startswith(("owners ", "counts ", "sums "))]
     for line in ("table 1 80 -1 1 1250", "table 0 20 -1 3 -2", "table 0 19 5", "table 7 3 500", "table 25 20 -1"):
-        yield from [line, chance.choice(["owners 80 0 1 1 2 2", "owners 20 2 1 0", "owners 20 1 0 3"])]
+        yield from [line, chance.choice(["owners 80 0 1 1 2 2", "owners 20 2 1 0", "owners 20 1 0 3"]), "work-out"]
         for n in ABOVE_TABLES + ABOVE_ALL:
             yield from [f"table {n}", *SHOWN, f"get {triangle_text(chance.choice(codes))}"]
         for other in written(UNREADABLE_ON_TABLE)[:12] + [filled("table 0 20 -1", 1001)]:
             yield from [other, *SHOWN]
-        for other in chance.sample(unreadable, 8) + [filled("owners 20 0", 1001)]:
-            yield from [other, "owners"]
+        for other in chance.sample(unreadable, 16) + [filled(f"{x} 20 0", 1001) for x in ("owners", "counts", "sums")]:
+            yield from [other, "owners", "coarse"]
         yield from asked_for(chance, codes)
     for n in range(TABLE_DEEPEST + 1):
         code = codes_of(n)[-1]
@@ -3163,7 +3574,8 @@ def staying_calls():
 def full_tables():
     """A reading, or a bad number, in every place of a table of degree 5 or 6; and an owner."""
     chance = random.Random(38)
-    yield from ["table 5 20480 1", "readings", "table 6 81920 0", "owners 81920 1", "readings"]
+    yield from ["table 5 20480 1", "readings", "work-out", "coarse"]
+    yield from ["table 6 81920 0", "owners 81920 1", "readings", "work-out", "coarse"]
     for place in chosen_places(chance, 6, 30):
         code = codes_of(6)[place]
         yield sounding_line(chance.choice(["clear", "set", "give"]), 1, any_form(chance, code), mm_of(place))
@@ -3196,6 +3608,8 @@ def desk_rights():
             place = places[at % len(places)]
             word = some_form(codes_of(n)[place], at)
             yield from [opened(n, length, NOTHING, [(place, mm)]), owned(length, NOBODY, [(place, owner)])]
+            if n > 0 and mm != NOTHING:
+                yield from ["work-out"] if n <= 4 else both_laid(n, tallied([(place, mm)]), {})
             yield from [sounding_line(call, desk, word, 700 + at), f"get {word}", *SHOWN[n // 5 :]]
 
 
@@ -3205,7 +3619,7 @@ def turns():
     for n in range(TABLE_DEEPEST + 1):
         for place in chosen_places(chance, n, 8 if n <= 3 else 2):
             word = some_form(codes_of(n)[place], place)
-            yield opened(n, 20 * 4**n, NOTHING, [(place, 9)])
+            yield from [opened(n, 20 * 4**n, NOTHING, [(place, 9)]), f"take 1 {word}", "work-out"]
             for desk, other in ((1, 2), (2, 1), (2, 1), (1, 2))[: 4 if n <= 4 else 2]:
                 yield from [f"take {desk} {word}", f"get {word}", f"take {other} {word}"]
                 yield from [f"set {desk} {word} {mm_of(place)}", f"set {other} {word} 5", f"take {desk} {word}"]
@@ -3221,7 +3635,7 @@ def no_desks():
         for n in (0, chance.choice([1, 2, 3])):
             place = chance.randrange(20 * 4**n)
             word = any_form(chance, codes_of(n)[place])
-            yield opened(n, 20 * 4**n, NOTHING, [(place, 1250)])
+            yield from [opened(n, 20 * 4**n, NOTHING, [(place, 1250)]), *mostly_worked_out(place)]
             for owner in dict.fromkeys([NOBODY, *DESKS, desk & 255]):
                 yield owned(20 * 4**n, NOBODY, [(place, owner)])
                 yield from (sounding_line(call, desk, word, 5) for call in CALLS)
@@ -3250,7 +3664,7 @@ def owner_lengths():
                 yield owned(length, fill, here)
                 yield from (sounding_line(call, desk, any_form(chance, codes_of(n)[place]), 9) for call in CALLS)
                 yield from SHOWN if length < 81919 or n == 6 else ["owners"]
-        yield owned(right, 2, [(0, 0)] if n <= 4 else [])
+        yield from [owned(right, 2, [(0, 0)] if n <= 4 else []), "work-out"]
         yield from all_calls(chance, [codes_of(n)[0], codes_of(n)[-1]])
 
 
@@ -3289,15 +3703,141 @@ def other_owners():
         yield from [owned(20, value, [(0, 1)]), sounding_line(chance.choice(CALLS[:4]), 1, "100", 5), "owners"]
 
 
+# ==== The calls: counts and sums
+
+
+def family(chance, n, place):
+    """Readings of a parent's four children, one of them none, and of some others; the place of a child with a reading
+    and of the one without."""
+    readings = [0, 100_000, chance.randint(1, 99_999), NOTHING]
+    numbers = dict(enumerate(chance.sample(readings, 4), 4 * place))
+    child = next(at for at, x in numbers.items() if x > 0)
+    empty = next(at for at, x in numbers.items() if x == NOTHING)
+    for other in chance.sample(range(20 * 4**n), 3):
+        numbers.setdefault(other, chance.randint(0, 100_000))
+    return numbers, child, empty
+
+
+def on_family(chance, n, numbers, child, empty, lists):
+    """A table with these readings and with lists of counts and of sums as given; and each call, on the child with a
+    reading or on the one without, by its owner. Then the sums are worked out, and a call is made again."""
+    length, desk = 20 * 4**n, chance.choice(DESKS)
+    calls = [("take", child), ("set", empty), ("set", child), ("get", child), ("clear", child), ("give", empty)]
+    yield from [opened(n, length, NOTHING, numbers.items()), owned(length, NOBODY, [(child, desk), (empty, desk)])]
+    yield from lists
+    for call, place in chance.sample(calls, 6) if n <= 4 else calls[:1] + calls[2:3] + calls[4:]:
+        yield sounding_line(call, desk, any_form(chance, codes_of(n)[place]), 700)
+    yield from [*SHOWN, "work-out", sounding_line("set", desk, any_form(chance, codes_of(n)[child]), 9), "coarse"]
+
+
+def both_laid(n, true, more):
+    """Both lists, true but for what there is more of counts and of sums at a place."""
+    length = len(parents_of(n))
+    return [parents_laid(kind, length, 0, true[kind], more.get(kind, {})) for kind in PARENT_LISTS]
+
+
+def stored_otherwise(chance, n, place, numbers, child):
+    """Lists of counts and of sums that differ from the readings, or that only look as if."""
+    true = tallied(numbers.items())
+    parents = len(parents_of(n))
+    # The parent concerned; another one, which does not matter; all others.
+    beside = [(place + 1) % parents], [(place - 1) % parents], *([set(range(parents)) - {place}] if n <= 2 else [])
+    for places, kinds in itertools.product(([place], *beside), (["counts"], ["sums"], PARENT_LISTS)):
+        yield both_laid(n, true, {kind: {at: chance.choice(OFF_BY[:5]) for at in places} for kind in kinds})
+    for off in OFF_BY:
+        yield both_laid(n, true, {chance.choice(PARENT_LISTS): {place: off}})
+    # As the lists will be when the reading is cleared or given back, when 700 is set there, and when 700 is set beside.
+    for count, sum_ in ((-1, -numbers[child]), (0, 700 - numbers[child]), (1, 700)):
+        yield both_laid(n, true, {"counts": {place: count}, "sums": {place: sum_}})
+    # As if -1 were a reading, the other way round, and as if a reading of 0 did not count.
+    for count, sum_ in ((1, -1), (-1, 1), (-1, 0)):
+        yield both_laid(n, true, {"counts": {place: count}, "sums": {place: sum_}})
+    # The one for the other, one place further, and none at all.
+    yield [parents_laid("counts", parents, 0, true["sums"]), parents_laid("sums", parents, 0, true["counts"])]
+    yield [parents_laid(kind, parents, 0, {(at + 1) % parents: x for at, x in true[kind].items()}) for kind in true]
+    yield []
+
+
+def off_calls():
+    chance = random.Random(71)
+    for n in range(1, TABLE_DEEPEST + 1):
+        last = len(parents_of(n)) - 1
+        for place in [0, last, chance.randint(1, last - 1)][: 3 if n <= 4 else 2]:
+            numbers, child, empty = family(chance, n, place)
+            some = list(stored_otherwise(chance, n, place, numbers, child))
+            for lists in some if n <= 3 else some[:3] + chance.sample(some[3:], 10 if n == 4 else 3):
+                yield from on_family(chance, n, numbers, child, empty, lists)
+
+
+def parent_lengths():
+    """Lists of counts or of sums of other lengths, the other one right or wrong too: none and one, one too short and
+    one too long, another degree's, the longest; with a table that is good. Then the right ones."""
+    chance = random.Random(72)
+    for n in range(TABLE_DEEPEST + 1):
+        right = len(parents_of(n))
+        place = chance.randrange(20 * 4**n)
+        code = codes_of(n)[place]
+        desk, word, parent = desk_of(place), triangle_text(code), triangle_text(parent_code(code))
+        lengths = [0, 1, 19, 20, 21, 79, 80, 81, right - 1, right + 1, right * 4, 20479, 20480, 20481]
+        lengths = [x for x in dict.fromkeys(lengths) if 0 <= x <= LONGEST_PARENTS]
+        yield from [f"table {n}", *own_lines("take set", code, place)]
+        for kind, length in itertools.product(PARENT_LISTS, [x for x in lengths if x != right]):
+            fill = chance.choice([0, 0, 1, MOST])
+            yield f"{kind} {laid(length, fill, [(length - 1, chance.choice(OFF_BY))] if length else [])}"
+            some = CALLS if n <= 4 or abs(length - right) == 1 else chance.sample(CALLS[:4], 1)
+            yield from (sounding_line(call, desk, word, 700) for call in some)
+            yield from [f"coarse {parent}", "coarse", f"get {word}", "work-out"]
+            yield from [f"coarse {parent}", *SHOWN[:2]] if n <= 2 else []
+            # Its right length again, so that the other list alone is wrong next; filled with 0, and so off.
+            yield f"{kind} {laid(right, 0)}"
+        for one, two in zip(chance.sample(lengths, 6), chance.sample(lengths, 6)):
+            yield from [f"counts {one} 0", f"sums {two} 0", "work-out", f"coarse {parent}"]
+            yield from [sounding_line(chance.choice(CALLS[:4]), desk, word, 7), f"coarse {parent}", "coarse"]
+        yield from [f"counts {right} 5", f"sums {right} 7", "coarse" if n <= 3 else f"coarse {parent}", "work-out"]
+        yield from ["coarse", *(sounding_line(call, desk, word, 701) for call in CALLS), *SHOWN]
+
+
+def parents_of_other_degrees():
+    """At the degrees that no table has: lists that would do for another degree."""
+    chance = random.Random(73)
+    for n in ABOVE_TABLES + ABOVE_ALL:
+        like = random_code(chance, n - 1) if n <= DEEPEST else with_degree(random_code(chance, 3), n - 1) & ~(2**54 - 1)
+        yield opened(n, chance.choice([0, 20, 80]), chance.choice([NOTHING, 5, -2]))
+        for length in chance.sample([0, 1, 20, 80, 20480, 20481], 2):
+            yield from [f"counts {length} 1", f"sums {length} 2", "coarse", "work-out"]
+            other = random_code(chance, chance.randrange(TABLE_DEEPEST + 1))
+            yield from (f"coarse {any_form(chance, x)}" for x in (like, other, break_a(like, chance)))
+            yield from (sounding_line(call, 1, any_form(chance, like), 5) for call in chance.sample(CALLS, 2))
+
+
+def many_parents():
+    # "of two for one PLACE the later holds"
+    chance = random.Random(74)
+    for n in range(1, TABLE_DEEPEST + 1):
+        length, numbers = len(parents_of(n)), [0, 1, 2, 3, 4, 5, 1250, 400_000, 2**32, MOST]
+        yield opened(n, 20 * 4**n, NOTHING, [(place, mm_of(place)) for place in chosen_places(chance, n, 12)])
+        for kind in PARENT_LISTS:
+            for fill in (0, 1) if n <= 3 else (0,):
+                yield from [filled_line(f"{kind} {length} {fill}", many_numbers(chance, length, numbers)), "coarse"]
+                yield from (f"coarse {any_form(chance, chance.choice(parents_of(n)))}" for _ in range(3))
+        yield from ["work-out", "coarse", *asked_parents(n)[:: 1 + length // 40]]
+        yield from all_calls(chance, chance.sample(codes_of(n), 2))
+    yield "table 1"
+    for kind, fill, one, two in itertools.product(PARENT_LISTS, (0, MOST), (0, 7, MOST), (0, 7, MOST)):
+        yield from [f"{kind} {laid(20, fill, [(5, one), (5, two)])}", "coarse 201", f"{kind} 20 0"]
+
+
 # ==== Internal checks of what the calls on a table are answered
 
-TABLE_LINE = re.compile(r"[ \t\r]*(table|take|set|clear|give|get|readings|owners)(?![^ \t\r])")
+TABLE_CALLS = "|".join(TABLE_FORMS)
+TABLE_LINE = re.compile(rf"[ \t\r]*({TABLE_CALLS})(?![^ \t\r])")
 UNREAD = ("error: write it as ", "error: a line has ")
 
 
 class Soundings:
-    """An open table as "a simple map from code to reading or nothing", and a map from code to the desk that has taken
-    it. No call changes what is wrong with its lists."""
+    """An open table as "a simple map from code to reading or nothing", a map from code to the desk that has taken it,
+    and maps from the code of a parent to the count and to the sum, which each call changes by its own reading. No call
+    changes what is wrong with the lists of readings and owners, or with a length."""
 
     def __init__(self, n, numbers=None):
         self.n = n
@@ -3307,6 +3847,9 @@ class Soundings:
         if numbers and self.right_length:
             self.map = {code: x for code, x in zip(codes_of(n), numbers) if x != -1}
         self.lay([0] * (20 * 4**n if numbers is None else len(numbers)))
+        self.stored, self.many_parents, self.beyond = {}, {}, {}
+        for kind in PARENT_LISTS:
+            self.lay_parents(kind, [0] * (len(parents_of(n)) if n <= TABLE_DEEPEST else 0))
 
     def has_right_length(self, numbers):
         return self.n <= TABLE_DEEPEST and len(numbers) == len(codes_of(self.n))
@@ -3322,6 +3865,42 @@ class Soundings:
         kinds = {x for x in owners if x <= 2}
         self.only_kind = kinds.pop() if len(kinds) == 1 else None
 
+    def lay_parents(self, kind, numbers):
+        """A list of counts or of sums; `stored` has those that are not 0, as far as there are codes for them. `beyond`:
+        no four readings come to any of them."""
+        self.many_parents[kind] = len(numbers)
+        self.stored[kind] = {}
+        if self.n <= TABLE_DEEPEST and any(numbers):
+            self.stored[kind] = {code: x for code, x in zip(parents_of(self.n), numbers) if x}
+        self.beyond[kind] = numbers != [] and min(numbers) > {"counts": 4, "sums": 4 * 100_000}[kind]
+
+    def right_parents(self):
+        return self.n <= TABLE_DEEPEST and set(self.many_parents.values()) == {len(parents_of(self.n))}
+
+    def stored_for(self, parent):
+        return tuple(self.stored[kind].get(parent, 0) for kind in PARENT_LISTS)
+
+    def off_by(self, code):
+        """How far what is stored for the code's parent is from its children's readings; nothing, where there is no such
+        parent or the lists are not those of a table."""
+        if self.n == 0 or not (self.right_length and self.right_parents()) or code not in place_of_each(self.n):
+            return None
+        count, sum_ = self.stored_for(parent_code(code))
+        for place in child_places(parent_code(code)):
+            x = self.map.get(codes_of(self.n)[place], -1)
+            if is_reading(x):
+                count, sum_ = count - 1, sum_ - x
+        return count, sum_
+
+    def is_off(self, code):
+        off = self.off_by(code)
+        return self.n > 0 and (any(self.beyond.values()) if off is None else off != (0, 0))
+
+    def add(self, code, count, sum_):
+        """One reading more or less, or another one, for the code's parent."""
+        for kind, more in zip(PARENT_LISTS, (count, sum_)) if self.n > 0 else ():
+            self.stored[kind][parent_code(code)] = self.stored[kind].get(parent_code(code), 0) + more
+
     def own_refusals(self):
         return when(1, self.n > 24) | when(20, 7 <= self.n <= 24)
 
@@ -3332,24 +3911,39 @@ class Soundings:
         return self.only_kind
 
     def refusals(self, call, desk, code, mm):
-        wrong = code_refusals(code) | self.own_refusals() | when(20, degree_of(code) != self.n)
-        wrong |= when(22, not self.right_length) | when(23, self.bad)
-        if call == "get":
+        wrong = self.own_refusals()
+        if call != "work-out":
+            wrong |= code_refusals(code) | when(20, degree_of(code) != self.n - (call == "coarse"))
+        if call != "coarse":
+            wrong |= when(22, not self.right_length) | when(23, self.bad)
+        if call != "get":
+            wrong |= when(28, not self.right_parents())
+        if call not in CALLS[:4]:
             return wrong
         owner = self.owner_of(code)
         wrong |= when(21, call == "set" and mm not in range(100_001)) | when(24, desk != 1 and desk != 2)
         wrong |= when(25, self.others or not self.right_owners) | when(26, owner not in (None, 0, desk))
-        return wrong | when(27, owner == 0 and call != "take")
+        return wrong | when(27, owner == 0 and call != "take") | when(29, self.is_off(code))
+
+    def work_out(self):
+        self.stored = {kind: {} for kind in PARENT_LISTS}
+        for code, x in self.map.items():
+            self.add(code, 1, x)
 
     def answer(self, call, desk, code, mm):
         if call == "get":
             return f"{self.map[code]} mm" if code in self.map else "no reading"
-        if call == "take":
+        if call == "coarse":
+            return coarse_text(*self.stored_for(code))
+        if call == "work-out":
+            self.work_out()
+        elif call == "take":
             self.desk[code], self.only_kind = desk, None
         elif call == "set":
+            self.add(code, code not in self.map, mm - self.map.get(code, 0))
             self.map[code] = mm
-        else:
-            self.map.pop(code, None)
+        elif code in self.map:
+            self.add(code, -1, -self.map.pop(code))
         if call == "give":
             del self.desk[code]
             self.only_kind = None
@@ -3364,11 +3958,16 @@ class Soundings:
         count = sum(x in (1, 2) for x in self.desk.values())
         return owners_text(count, [owner_text(code, x) for code, x in sorted(self.desk.items())])
 
+    def parents(self):
+        shown = sorted({code for numbers in self.stored.values() for code, x in numbers.items() if x})
+        return parents_text([f"{triangle_text(code)} {coarse_text(*self.stored_for(code))}" for code in shown])
+
 
 # What was asked, what holds, what the table had in the code's place before the call (a reading or nothing, and the
 # owner), the least bad place of the readings, and what is wrong with the owners: the first place with another number,
-# and how many there are.
-Sounded = namedtuple("Sounded", "call n no held desk code mm had owner bad other many_owners")
+# and how many there are; and how many counts and sums there are, and how far the parent's are off.
+SOUNDED = "call n no held desk code mm had owner bad other many_owners many_parents off"
+Sounded = namedtuple("Sounded", SOUNDED, defaults=[0, 0, 0, None, None, [], [], 0, (), None])
 
 
 def refused_text(no, bad):
@@ -3377,25 +3976,36 @@ def refused_text(no, bad):
 
 def read_sounding(call, words):
     """The desk, the code and the reading, zeros where there are none."""
-    desk, *words = [0] + words if call == "get" else [read_number(words[0])] + words[1:]
+    if call == "work-out":
+        return 0, 0, 0
+    desk, *words = [0] + words if call in ("get", "coarse") else [read_number(words[0])] + words[1:]
     return desk, read_code(words[0]), read_signed(words[1]) if call == "set" else 0
 
 
+def shown_refusals(table, call):
+    """Of a call that shows a whole list."""
+    wrong = {
+        "readings": when(22, not table.right_length),
+        "owners": when(25, not table.right_owners),
+        "parents": when(28, not table.right_parents()),
+    }
+    return table.own_refusals() | wrong[call]
+
+
 def watched_call(table, call, words, text):
-    """A call on the open table, compared with the map's answer."""
-    if call in SHOWN:
-        asked = (0, 0, 0)
-        held = table.own_refusals()
-        held |= when(22, not table.right_length) if call == "readings" else when(25, not table.right_owners)
-    else:
-        asked = read_sounding(call, words)
-        held = table.refusals(call, *asked)
+    """A call on the open table, compared with the map's answer. `coarse` without a code shows the parents."""
+    shows = call in SHOWN and not words
+    if shows:
+        call = "parents" if call == "coarse" else call
+    asked = (0, 0, 0) if shows else read_sounding(call, words)
+    held = shown_refusals(table, call) if shows else table.refusals(call, *asked)
     no, code = first(held), asked[1]
-    before = table.map.get(code), table.owner_of(code), table.bad[:1], table.others[:1], table.many_owners
+    before = [table.map.get(code), table.owner_of(code), table.bad[:1], table.others[:1], table.many_owners]
+    before += [tuple(table.many_parents.values()), table.off_by(code)]
     if no:
         found = refused_text(no, table.bad)
     else:
-        found = getattr(table, call)() if call in SHOWN else table.answer(call, *asked)
+        found = getattr(table, call)() if shows else table.answer(call, *asked)
     must(text == found, "as the map answers", call, words, text[:200], found[:200])
     return Sounded(call, table.n, no, frozenset(held), *asked, *before)
 
@@ -3413,12 +4023,16 @@ def watched_calls(calls, answers):
                 held = when(1, n > 24) | when(20, 7 <= n <= 24) if not numbers else set()
                 must(text.startswith(f"refused {first(held)}: " if held else f"degree {n}, "), "opened", line, text)
                 table = table if held else Soundings(n, *numbers)
-                yield Sounded(call, n, first(held), frozenset(held), 0, 0, 0, None, None, [], [], 0)
+                yield Sounded(call, n, first(held), frozenset(held))
             elif table is not None and call == "owners" and words:
                 (owners,) = read_owners(words)
                 must(text == f"{len(owners)} places", "laid", line, text)
                 table.lay(owners)
-                yield Sounded("lay", table.n, 0, frozenset(), 0, 0, 0, None, None, [], table.others[:1], len(owners))
+                yield Sounded("lay", table.n, 0, frozenset(), other=table.others[:1], many_owners=len(owners))
+            elif table is not None and call in PARENT_LISTS:
+                (numbers,) = read_parents(words)
+                must(text == f"{len(numbers)} places", "laid", line, text)
+                table.lay_parents(call, numbers)
             elif table is not None:
                 yield watched_call(table, call, words, text)
 
@@ -3426,15 +4040,17 @@ def watched_calls(calls, answers):
 def check_sounding_numbers(call, numbers, seen):
     """Each refusal that the call can give is given, and no other. Each is seen alone, and each two hold at once and the
     earlier one is answered, but for 26 and 27, which can not. All without a third, but for 1: where that holds the
-    code's degree is not the table's, for 20, or the lists are too short for the table's degree, for 22 and 25; and for
-    24: what is no desk owns nothing, for 26 and 27."""
+    code's degree is not the table's, for 20, or the lists are too short for the table's degree, for 22, 25 and 28; for
+    20, if only the table's degree is given; and for 24: what is no desk owns nothing, for 26 and 27."""
     must({x.no for x in seen} == {0, *numbers}, "just these refusals, and answers", call)
     held = {x.held for x in seen}
-    for some in [set(x) for x in alone_and_in_pairs(numbers) if x and x != (26, 27)]:
+    never = {(26, 27), (1, 20)} if call == "work-out" else {(26, 27)}
+    for some in [set(x) for x in alone_and_in_pairs(numbers) if x and x not in never]:
         must(any(x.held >= some and x.no == first(some) for x in seen), "at once", call, some)
-        may = ({20, 22, 25} if 1 in some else set()) | ({26, 27} if 24 in some and call != "take" else set())
+        may = {20, 22, 25, 28} if 1 in some else {22, 28} if 20 in some and call == "work-out" else set()
+        may |= {26, 27} if 24 in some and call != "take" else set()
         must(any(some <= x <= some | may for x in held), "without a third", call, some)
-    must(all(x & {20, 22} for x in held if 1 in x), "1 is not alone", call)
+    must(all(x & {20, 22, 28} for x in held if 1 in x), "1 is not alone", call)
     must(not any({26, 27} <= x for x in held), "26 and 27 at once", call)
 
 
@@ -3487,6 +4103,26 @@ def check_desks(call, seen):
         must(owners >= {NOBODY, *DESKS}, "no desk", call, desk)
 
 
+def check_parents(call, seen):
+    """29 is answered at every degree from 1 on, at the first place and the last, for the count alone, the sum alone and
+    both, too many and too few, and as far off as can be; 28 at every degree, for each list alone, at every length about
+    the right one."""
+    must(not any(29 in x.held for x in seen if x.n == 0), "no parents at degree 0", call)
+    for n in range(1, TABLE_DEEPEST + 1):
+        off = [x for x in seen if x.n == n and x.no == 29]
+        signs = {tuple((y > 0) - (y < 0) for y in x.off) for x in off}
+        must(n > 3 or signs >= {(1, 0), (-1, 0), (0, 1), (0, -1)}, "too many and too few", call, n, signs)
+        must(len({(x != 0, y != 0) for x, y in signs}) == 3, "the count, the sum and both", call, n, signs)
+        places = {place_of(parent_code(x.code)) for x in off}
+        must(places >= {0, len(parents_of(n)) - 1}, "the first and the last parent", call, n)
+    for n in range(TABLE_DEEPEST + 1):
+        right = len(parents_of(n))
+        wrong = {x.many_parents for x in seen if x.n == n and x.no == 28}
+        least = {max(right - 1, 0), right + 1, *((0, 1, 20480, LONGEST_PARENTS) if n <= 4 else ())} - {right}
+        must(wrong >= {(x, right) for x in least} | {(right, x) for x in least}, "lengths of counts and sums", call, n)
+    must(max(max(x.off) for x in seen if x.no == 29) > 2**63, "far off", call)
+
+
 def check_soundings(calls, answers):
     # "Any sequence of calls answers as a simple map from code to reading or nothing."
     seen = list(watched_calls(calls, answers))
@@ -3497,27 +4133,58 @@ def check_soundings(calls, answers):
         if call != "get":
             check_bad_places(call, 25, some)
             check_desks(call, some)
+            check_parents(call, some)
+    for call, numbers in COARSE_NUMBERS.items():
+        check_sounding_numbers(call, numbers, [x for x in seen if x.call == call])
     check_sounded_codes(seen)
     must({x.no for x in seen if x.call == "table"} == {0, 1, 20}, "tables refused")
     must({x.no for x in seen if x.call == "readings"} == {0, 1, 20, 22}, "readings refused")
     must({x.no for x in seen if x.call == "owners"} == {0, 1, 20, 25}, "owners refused")
+    must({x.no for x in seen if x.call == "parents"} == {0, 1, 20, 28}, "parents refused")
+
+
+def check_totals(calls, answers):
+    """The counts that `coarse` shows come to as many as there are readings by the answered calls since a fresh table,
+    and the sums to what these come to."""
+    # "the total over all parents equals the count and sum of readings present according to the history of calls from a
+    # fresh table (no readings, no owners, sums 0)"
+    compared = dict.fromkeys(range(TABLE_DEEPEST + 1), 0)
+    n, present = 0, None
+    for line, text in zip(calls, answers):
+        if not TABLE_LINE.match(line) or text.startswith(("error: ", "refused ")):
+            continue
+        call, *words = parts_of(line)
+        if call in ("table", "owners", "counts", "sums") and (words or call == "table"):
+            # Where a list is laid, it is no history of calls from a fresh table.
+            n, present = (read_number(words[0]), {}) if len(words) == 1 else (0, None)
+        elif present is not None and call == "set":
+            present[read_code(words[1])] = int(words[2])
+        elif present is not None and call in ("clear", "give"):
+            present.pop(read_code(words[1]), None)
+        elif present is not None and call == "coarse" and not words and n > 0:
+            shown = re.findall(r" count (\d+) sum (\d+)", text)
+            total = sum(int(count) for count, _ in shown), sum(int(sum_) for _, sum_ in shown)
+            told = len(present), sum(present.values())
+            must(total == told, "the totals are those of the calls", n, total, told, text[:200])
+            compared[n] += told[0] > 1
+    must(all(compared[n] > (100 if n <= 3 else 3) for n in range(1, TABLE_DEEPEST + 1)), "totals compared", compared)
 
 
 def kept_apart(chance, n):
     """A history; and for each time that desk 1 has a triangle, the same without the calls that desk 2 makes meanwhile:
     all that desk 1 is answered there, and that anyone is who asks for the triangle, stays the same."""
     pool = chance.sample(codes_of(n), 3)
-    first_line = opened(n, 20 * 4**n, NOTHING, [(place_of(pool[0]), 5), (place_of(pool[1]), 6)])
+    first_lines = [opened(n, 20 * 4**n, NOTHING, [(place_of(pool[0]), 5), (place_of(pool[1]), 6)]), "work-out"]
     asked = [(chance.choice(CALLS), chance.choice(DESKS), chance.choice(pool)) for _ in range(120)]
     lines = [sounding_line(call, desk, triangle_text(code), at) for at, (call, desk, code) in enumerate(asked)]
-    answers = answers_to([first_line] + lines)[1:]
+    answers = answers_to(first_lines + lines)[2:]
     count = 0
     for start, (call, desk, code) in enumerate(asked):
         if (call, desk, answers[start]) == ("take", 1, "ok"):
             gives = (at for at in range(start, len(asked)) if asked[at] == ("give", 1, code) and answers[at] == "ok")
             end = next(gives, len(asked))
             own = [at for at in range(start + 1, end) if asked[at][0] == "get" or asked[at][1] == 1]
-            found = answers_to([first_line] + lines[: start + 1] + [lines[at] for at in own])[start + 2 :]
+            found = answers_to(first_lines + lines[: start + 1] + [lines[at] for at in own])[start + 3 :]
             for at, text in zip(own, found):
                 must(asked[at][2] != code or text == answers[at], "apart from desk 2", asked, start, at)
             count += end - start - 1 - len(own)
@@ -5110,6 +5777,7 @@ SECTIONS = {
     "readable lines on a table": readable_on_table,
     "a day at the ice desk": ice_desk_calls,
     "a morning of both desks": both_desks_calls,
+    "the wide chart's counts and sums": coarse_story_calls,
     "every place of the tables of degree 0 to 3": every_place,
     "every place of a table of degree 4": every_place_of_four,
     "one place alone": lone_places,
@@ -5126,6 +5794,10 @@ SECTIONS = {
     "numbers that are no desks": no_desks,
     "other lengths of owners": owner_lengths,
     "other numbers among the owners": other_owners,
+    "counts and sums that are off": off_calls,
+    "other lengths of counts and sums": parent_lengths,
+    "counts and sums at other degrees": parents_of_other_degrees,
+    "many parents in one line": many_parents,
     "sweeps while a table is open": sweeps_on_table,
     "full tables": full_tables,
     "the last line": last_line,
@@ -5154,6 +5826,7 @@ def write_files(calls_path, answers_path):
     answers = answers_to(calls)
     check_answers(calls, answers)
     check_soundings(calls, answers)
+    check_totals(calls, answers)
     check_sweeps(calls, answers)
     write_bytes(calls_path, "\n".join(calls))
     write_bytes(answers_path, "".join(text + "\n" for text in answers))

@@ -22,17 +22,20 @@ __asm__(".text\n.globl nothing\n.type nothing, @function\nnothing:\n\tret\n");
 
 /* ---- counting */
 
+static uint64_t called(whole_function *function, const uint64_t *a) {
+    return function(a[0], a[1], a[2], a[3], a[4], a[5], a[6], a[7], a[8], a[9], a[10], a[11]);
+}
+
 __attribute__((noinline)) static void call_all(whole_function *function, const struct input *inputs, size_t count) {
     for (size_t k = 0; k < count; k++) {
-        const uint64_t *a = inputs[k].argument;
-        function(a[0], a[1], a[2], a[3], a[4], a[5], a[6], a[7]);
+        called(function, inputs[k].argument);
     }
 }
 
 /* ---- answers */
 
 static void write_float(const struct call *call, const uint64_t *a) {
-    double answer = ((float_function *)call->function)(a[0], a[1], a[2], a[3], a[4], a[5], a[6], a[7]);
+    double answer = ((float_function *)call->function)(a[0], a[1], a[2], a[3], a[4], a[5]);
     uint64_t bits;
     memcpy(&bits, &answer, sizeof bits);
     printf("0x%016" PRIX64 "\n", bits);
@@ -50,7 +53,7 @@ static void write_answer(const struct call *call, const uint64_t *a) {
         write_float(call, a);
         return;
     }
-    uint64_t answer = ((whole_function *)call->function)(a[0], a[1], a[2], a[3], a[4], a[5], a[6], a[7]);
+    uint64_t answer = called((whole_function *)call->function, a);
     if (call->answer == WORD || call->answer == LENT_WORD) {
         printf("0x%016" PRIX64 "\n", call->answer == WORD ? answer : lent[0]);
         return;

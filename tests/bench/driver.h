@@ -10,17 +10,19 @@
 extern "C" {
 #endif
 
-/* A call takes at most eight whole numbers or addresses. On x86-64 the first six go into registers, the last two onto
+/* A call takes at most twelve whole numbers or addresses. On x86-64 the first six go into registers, the others onto
  * the stack, and one that the function does not take does no harm: so one loop serves all calls. */
 struct input {
-    uint64_t argument[8];
+    uint64_t argument[12];
     /* Memory that an argument may point to. */
     uint64_t weights[12];
     double at[3];
 };
 
-typedef uint64_t whole_function(uint64_t, uint64_t, uint64_t, uint64_t, uint64_t, uint64_t, uint64_t, uint64_t);
-typedef double float_function(uint64_t, uint64_t, uint64_t, uint64_t, uint64_t, uint64_t, uint64_t, uint64_t);
+typedef uint64_t whole_function(uint64_t, uint64_t, uint64_t, uint64_t, uint64_t, uint64_t, uint64_t, uint64_t,
+                                uint64_t, uint64_t, uint64_t, uint64_t);
+/* Only calls of few arguments answer a float. */
+typedef double float_function(uint64_t, uint64_t, uint64_t, uint64_t, uint64_t, uint64_t);
 typedef void any_function(void);
 
 /* What a call answers: a word; a word in the lent list; a float; a count, and so many codes in the lent list; a

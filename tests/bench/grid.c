@@ -12,7 +12,7 @@ uint64_t bench_file(uint64_t degree, int32_t x, int32_t y, int32_t z);
 uint64_t bench_weights(uint64_t code, uint64_t corner, uint64_t *out, size_t places);
 any_function bench_parent, bench_child, bench_cross, bench_back, bench_name_weights,
     bench_ring, bench_exact, bench_name_exact, bench_t, bench_name_t, bench_drawn, bench_name_drawn,
-    bench_list, bench_sweep, bench_get, bench_take, bench_set, bench_clear, bench_give;
+    bench_list, bench_sweep, bench_get, bench_take, bench_set, bench_clear, bench_give, bench_work_out;
 
 /* ---- words */
 
@@ -128,11 +128,12 @@ static int give_direction_and_bytes(struct input *in, const char *kind, uint64_t
     return give_direction(in, kind, degree);
 }
 
-/* ---- a table of soundings: a list of numbers, each a reading or -1, and one of owners */
+/* ---- a table of soundings: a list of numbers, each a reading or -1, one of owners, and two of the coarse sums */
 
 #define PLACES_OF_DEGREE_6 81920
 static int32_t readings[PLACES_OF_DEGREE_6];
 static uint8_t owners[PLACES_OF_DEGREE_6];
+static uint64_t counts[PLACES_OF_DEGREE_6 / 4], sums[PLACES_OF_DEGREE_6 / 4];
 
 static int32_t random_reading(void) {
     return (int32_t)below(100001);
@@ -156,15 +157,33 @@ static int give_table(struct input *in, const char *kind, uint64_t degree) {
     return degree <= 6 && is_random(kind);
 }
 
-/* Both lists. Every triangle is the ice desk's, which makes the calls, so that each is answered. (Of a hundred that are
- * given back at degree 6 hardly one is given back twice.) */
-static void give_lists(struct input *in, int first, uint64_t degree) {
+/* With the owners. Every triangle is the ice desk's, which makes the calls, so that each is answered. (Of a hundred that
+ * are given back at degree 6 hardly one is given back twice.) */
+static void give_both(struct input *in, int first, uint64_t degree) {
     give_readings(in, first, degree);
     if (owners[0] == 0) {
         memset(owners, 1, sizeof owners);
     }
     in->argument[first + 2] = (uint64_t)owners;
     in->argument[first + 3] = in->argument[first + 1];
+}
+
+/* The coarse sums, as they are of the readings; at degree 0 there are none. */
+static void give_sums(struct input *in, int first, uint64_t degree) {
+    static int worked_out = 0;
+    for (size_t k = 0; !worked_out && k < PLACES_OF_DEGREE_6; k++) {
+        counts[k / 4] += readings[k] >= 0;
+        sums[k / 4] += readings[k] >= 0 ? (uint64_t)readings[k] : 0;
+    }
+    worked_out = 1;
+    size_t parents = degree == 0 ? 0 : (size_t)5 << (2 * degree);
+    give_list(in, first, counts, parents);
+    give_list(in, first + 2, sums, parents);
+}
+
+static void give_lists(struct input *in, int first, uint64_t degree) {
+    give_both(in, first, degree);
+    give_sums(in, first + 4, degree);
 }
 
 static int give_desk(struct input *in, const char *kind, uint64_t degree) {
@@ -189,13 +208,20 @@ static int give_readings_alone(struct input *in, const char *kind, uint64_t degr
     return degree <= 6 && is_random(kind);
 }
 
-static int give_lists_alone(struct input *in, const char *kind, uint64_t degree) {
-    give_lists(in, 0, degree);
+static int give_both_alone(struct input *in, const char *kind, uint64_t degree) {
+    give_both(in, 0, degree);
+    return degree <= 6 && is_random(kind);
+}
+
+static int give_readings_and_sums(struct input *in, const char *kind, uint64_t degree) {
+    in->argument[0] = degree;
+    give_readings(in, 1, degree);
+    give_sums(in, 3, degree);
     return degree <= 6 && is_random(kind);
 }
 
 /* What a call on a table is measured by: plain loops that add up the same memory, which the compiler may make as fast
- * as it can: the readings for get, both lists for the others. */
+ * as it can: the readings for get and for working the sums out, and the owners too for the others. */
 __attribute__((noinline, optimize("O3"))) static int64_t add_up(const int32_t *list, size_t places) {
     int64_t sum = 0;
     for (size_t k = 0; k < places; k++) {
@@ -326,8 +352,9 @@ const struct call calls[] = {
     {"table-set", bench_set, WORD, give_desk_and_reading},
     {"table-clear", bench_clear, WORD, give_desk},
     {"table-give", bench_give, WORD, give_desk},
+    {"table-work-out", bench_work_out, WORD, give_readings_and_sums},
     {"add-up", (any_function *)add_up, WORD, give_readings_alone},
-    {"add-up-both", (any_function *)add_up_both, WORD, give_lists_alone},
+    {"add-up-both", (any_function *)add_up_both, WORD, give_both_alone},
     {"host-cross", (any_function *)grid_cross, WEIGHTS, give_code_number_and_bytes},
     {"host-file", (any_function *)grid_file, WEIGHTS, give_direction_and_bytes},
     {"host-sweep", (any_function *)host_sweep, WORD, give_sweep_in_bytes},

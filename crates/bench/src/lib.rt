@@ -26,8 +26,9 @@ ghost use Rattle.directions.specs.Answers.{FileAnswer, ListAnswer};
 ghost use Rattle.sweeps.specs.Answers.{SweepResult};
 ghost use Rattle.sweeps.specs.declared.SweepAnswer.{SweepAnswer};
 ghost use Rattle.tables.specs.Owners.{shared};
-ghost use Rattle.tables.specs.Answers.{TakeAnswer, SetAnswer, ClearAnswer, GiveAnswer};
 ghost use Rattle.tables.specs.declared.TableAnswer.{TableAnswer};
+ghost use Rattle.coarse.specs.Sums.{coarse, chart};
+ghost use Rattle.coarse.specs.Answers.{TakeAnswer, SetAnswer, ClearAnswer, GiveAnswer, AfreshAnswer};
 
 // ---- words
 
@@ -218,15 +219,18 @@ pub extern "C" fn bench_take(
     code: u64,
     list: &mut [i32],
     owners: &mut [u8],
+    counts: &mut [u64],
+    sums: &mut [u64],
 ) -> u64
     ensures { λ r. ⌜
         ((a : TableAnswer)
-        × TakeAnswer desk degree (codeOf code) (shared (now (list .entry)) (now (owners .entry))) a
-        (shared (now (list .exit)) (now (owners .exit)))
+        × TakeAnswer desk degree (codeOf code) (chart (shared (now (list .entry)) (now (owners .entry)))
+        (coarse (now (counts .entry)) (now (sums .entry)))) a
+        (chart (shared (now (list .exit)) (now (owners .exit))) (coarse (now (counts .exit)) (now (sums .exit))))
         × (r ≡ bitXor (a .refusal) (a .place)))
         ⌝ }
 {
-    let r = soundings::take(desk, degree, TriangleCode(code), list, owners);
+    let r = soundings::take(desk, degree, TriangleCode(code), list, owners, counts, sums);
     r.refusal ^ r.place
 }
 
@@ -238,15 +242,27 @@ pub extern "C" fn bench_set(
     reading: i32,
     list: &mut [i32],
     owners: &mut [u8],
+    counts: &mut [u64],
+    sums: &mut [u64],
 ) -> u64
     ensures { λ r. ⌜
         ((a : TableAnswer)
-        × SetAnswer desk degree (codeOf code) reading (shared (now (list .entry)) (now (owners .entry))) a
-        (shared (now (list .exit)) (now (owners .exit)))
+        × SetAnswer desk degree (codeOf code) reading (chart (shared (now (list .entry)) (now (owners .entry)))
+        (coarse (now (counts .entry)) (now (sums .entry)))) a
+        (chart (shared (now (list .exit)) (now (owners .exit))) (coarse (now (counts .exit)) (now (sums .exit))))
         × (r ≡ bitXor (a .refusal) (a .place)))
         ⌝ }
 {
-    let r = soundings::set(desk, degree, TriangleCode(code), reading, list, owners);
+    let r = soundings::set(
+        desk,
+        degree,
+        TriangleCode(code),
+        reading,
+        list,
+        owners,
+        counts,
+        sums,
+    );
     r.refusal ^ r.place
 }
 
@@ -257,15 +273,18 @@ pub extern "C" fn bench_clear(
     code: u64,
     list: &mut [i32],
     owners: &mut [u8],
+    counts: &mut [u64],
+    sums: &mut [u64],
 ) -> u64
     ensures { λ r. ⌜
         ((a : TableAnswer)
-        × ClearAnswer desk degree (codeOf code) (shared (now (list .entry)) (now (owners .entry))) a
-        (shared (now (list .exit)) (now (owners .exit)))
+        × ClearAnswer desk degree (codeOf code) (chart (shared (now (list .entry)) (now (owners .entry)))
+        (coarse (now (counts .entry)) (now (sums .entry)))) a
+        (chart (shared (now (list .exit)) (now (owners .exit))) (coarse (now (counts .exit)) (now (sums .exit))))
         × (r ≡ bitXor (a .refusal) (a .place)))
         ⌝ }
 {
-    let r = soundings::clear(desk, degree, TriangleCode(code), list, owners);
+    let r = soundings::clear(desk, degree, TriangleCode(code), list, owners, counts, sums);
     r.refusal ^ r.place
 }
 
@@ -276,14 +295,35 @@ pub extern "C" fn bench_give(
     code: u64,
     list: &mut [i32],
     owners: &mut [u8],
+    counts: &mut [u64],
+    sums: &mut [u64],
 ) -> u64
     ensures { λ r. ⌜
         ((a : TableAnswer)
-        × GiveAnswer desk degree (codeOf code) (shared (now (list .entry)) (now (owners .entry))) a
-        (shared (now (list .exit)) (now (owners .exit)))
+        × GiveAnswer desk degree (codeOf code) (chart (shared (now (list .entry)) (now (owners .entry)))
+        (coarse (now (counts .entry)) (now (sums .entry)))) a
+        (chart (shared (now (list .exit)) (now (owners .exit))) (coarse (now (counts .exit)) (now (sums .exit))))
         × (r ≡ bitXor (a .refusal) (a .place)))
         ⌝ }
 {
-    let r = soundings::give(desk, degree, TriangleCode(code), list, owners);
+    let r = soundings::give(desk, degree, TriangleCode(code), list, owners, counts, sums);
+    r.refusal ^ r.place
+}
+
+#[no_mangle]
+pub extern "C" fn bench_work_out(
+    degree: u64,
+    list: &[i32],
+    counts: &mut [u64],
+    sums: &mut [u64],
+) -> u64
+    ensures { λ r. ⌜
+        ((a : TableAnswer)
+        × AfreshAnswer degree (now (list .entry)) (coarse (now (counts .entry)) (now (sums .entry))) a
+        (coarse (now (counts .exit)) (now (sums .exit)))
+        × (r ≡ bitXor (a .refusal) (a .place)))
+        ⌝ }
+{
+    let r = soundings::work_out(degree, list, counts, sums);
     r.refusal ^ r.place
 }

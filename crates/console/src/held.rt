@@ -1,22 +1,33 @@
-// What the console holds: a table of soundings that two desks share (document 02, 2026-03 and 2026-07). Its readings
-// and its owners stand in the first places of the console's two lists, which have 81,921: one more than the longest
-// table, so that a list that is too long can be tried.
+// What the console holds: a table of soundings (document 02, 2026-03, 2026-07 and 2026-08). Its four lists stand in the
+// first places of the console's: readings and owners in lists of 81,921 places, counts and sums in lists of 20,481. It
+// is one place more than the longest table needs, so that a list that is too long can be tried.
 ghost use mathlib.Core.Path.{_≡_};
 
-// One of the two lists of a table.
+// One of the four lists of a table.
 pub enum Which {
     Readings,
     Owners,
+    Counts,
+    Sums,
 }
 
-// What is held: whether a table is open, its degree, how many places of each list are its own, and which list the last
-// answer of many places shows.
+// What an answer of many places shows: readings, owners, or of the triangles one degree up counts and sums.
+pub enum Shown {
+    Readings,
+    Owners,
+    Coarse,
+}
+
+// What is held: whether a table is open, its degree, how many places of each list are its own, and what the last answer
+// of many places shows.
 pub struct Held {
     pub open: bool,
     pub degree: u64,
     pub readings: usize,
     pub owners: usize,
-    pub shown: Which,
+    pub counts: usize,
+    pub sums: usize,
+    pub shown: Shown,
 }
 
 // A part of an answer: how many bytes it takes, and how many places are still to be shown. An answer of many places is
@@ -43,17 +54,6 @@ pub fn whole(size: usize, held: Held) -> Reply
     }
 }
 
-// 1 and 20: of a degree that no table has; else 0.
-pub fn refuse_degree(degree: u64) -> u64 {
-    if 24 < degree {
-        return 1;
-    }
-    if 6 < degree {
-        return 20;
-    }
-    0
-}
-
 // How many places a table of a degree has; 0 where no table has it.
 pub fn places_of(degree: u64) -> usize {
     if 6 < degree {
@@ -62,46 +62,10 @@ pub fn places_of(degree: u64) -> usize {
     words::codes_of(degree) as usize
 }
 
-// ---- a place of either list
-
-// What it holds.
-pub enum Entry {
-    Reading(i32),
-    Owner(u8),
-}
-
-// Past the end of a list there is nothing.
-pub fn entry_at(which: Which, place: usize, list: &[i32], owners: &[u8]) -> Entry {
-    match which {
-        Which::Readings => {
-            if place < list.len() {
-                return Entry::Reading(list[place]);
-            }
-            Entry::Reading(-1)
-        }
-        Which::Owners => {
-            if place < owners.len() {
-                return Entry::Owner(owners[place]);
-            }
-            Entry::Owner(0)
-        }
+// How many triangles there are one degree up.
+pub fn parents_of(degree: u64) -> usize {
+    if degree == 0 {
+        return 0;
     }
-}
-
-// Past the end of its list nothing is put.
-pub fn put_entry(e: Entry, place: u64, list: &mut [i32], owners: &mut [u8]) {
-    match e {
-        Entry::Reading(x) => {
-            if place < list.len() as u64 {
-                let i = place as usize;
-                list[i] = x;
-            }
-        }
-        Entry::Owner(x) => {
-            if place < owners.len() as u64 {
-                let i = place as usize;
-                owners[i] = x;
-            }
-        }
-    }
+    places_of(degree) / 4
 }

@@ -3,7 +3,7 @@ use crate::arguments;
 ghost use Prim.Native.Nat.{_≤_};
 ghost use lib.ListN.{length};
 
-const HELP: [u8; 5610] = *b"The grid of the globe: one call to a line, and one line for its answer.
+const HELP: [u8; 6388] = *b"The grid of the globe: one call to a line, and one line for its answer.
 
   WORD     0x and 1 to 16 hexadecimal digits
   CODE     a triangle code, as 10003 for side 100 and digits 0 and 3; or a WORD
@@ -11,7 +11,7 @@ const HELP: [u8; 5610] = *b"The grid of the globe: one call to a line, and one l
   X Y Z    a direction: three whole numbers
   PLACES   0 to 16: how many places the lent list has. They hold 1, 2, 3 and so on before the call,
            and stand after the answer as the call leaves them
-  MM       millimetres, a whole number: a reading is 0 to 100000. FILL, VALUE and NUMBER are whole numbers too
+  MM       millimetres, a whole number: a reading is 0 to 100000. VALUE, FILL of table and NUMBER are whole numbers too
   DESK     1 for the ice desk, 2 for the pilotage desk. OWNER and FILL of owners: 0 for nobody, or any to 255
 
 Any other number is decimal, or a WORD. A line that begins with # is a remark.
@@ -85,7 +85,7 @@ sweep DEGREE PLACES [NUMBER]..      files many directions, three numbers each, i
 table DEGREE [LENGTH FILL [PLACE VALUE]..]
                                     opens a table of soundings with no readings, of degree 0 to 6; or any
                                     list of LENGTH numbers, FILL but at each PLACE its VALUE, to try refusals.
-                                    All its triangles are nobody's
+                                    All its triangles are nobody's, and all its counts and sums 0
   table 1                           degree 1, 80 places
 
 take DESK CODE                      makes a free triangle the desk's own, with the reading that it has
@@ -106,11 +106,25 @@ owners [LENGTH FILL [PLACE OWNER]..]
                                     LENGTH owners, FILL but at each PLACE its OWNER, to try refusals
   owners                            1 owned: 1001 desk 1
 
+coarse [CODE]                       of a triangle one degree up: how many of its children have a reading, and what
+                                    these come to in millimetres; or how many have either, and each with both
+  coarse 100                        count 1 sum 1250
+  coarse                            1 parent: 100 count 1 sum 1250
+
 clear DESK CODE                     leaves a triangle of the desk's with no reading
   clear 1 1001                      ok
 
 give DESK CODE                      gives a triangle of the desk's back: it is nobody's, and has no reading
   give 1 1001                       ok
+
+counts LENGTH FILL [PLACE N]..      lays any list of LENGTH counts, FILL but at each PLACE its N, to try refusals
+  counts 20 0 0 3                   20 places
+
+sums LENGTH FILL [PLACE N]..        the same of sums
+  sums 20 0                         20 places
+
+work-out                            works all counts and sums out afresh from the readings
+  work-out                          ok
 
 help                                these lines";
 

@@ -1,10 +1,20 @@
-// Laying a list of numbers: what a table line or an owners line says of it, and then the numbers themselves.
+// Laying a list of numbers: what a line says of it (table, owners, counts, sums), and then the numbers themselves.
 use crate::arguments;
+use crate::arguments::Found;
 use crate::held;
-use crate::held::Entry;
+use crate::held::Held;
 use crate::held::Which;
+ghost use mathlib.Core.Path.{_≡_};
 ghost use Prim.Native.Nat.{_≤_};
 ghost use lib.ListN.{length};
+
+// What a place of a list holds.
+pub enum Entry {
+    Reading(i32),
+    Owner(u8),
+    Count(u64),
+    Sum(u64),
+}
 
 // ---- reading
 
@@ -32,21 +42,13 @@ pub struct Listing {
     pub pairs: usize,
 }
 
-fn owner_at(line: &[u8], at: usize) -> FoundEntry
-    requires { ⌜ at ≤ length (now line) ⌝ }
-    ensures { λ r. ⌜ r .next ≤ length (now (line .entry)) ⌝ }
+// A number that was read or was not, as what a place holds.
+fn found(n: Found, entry: Entry) -> FoundEntry
+    ensures { λ r. ⌜ r .next ≡ n .next ⌝ }
 {
-    let n = arguments::number_at(line, at);
-    if 255 < n.value {
-        return FoundEntry {
-            read: false,
-            entry: Entry::Owner(0),
-            next: n.next,
-        };
-    }
     FoundEntry {
         read: n.read,
-        entry: Entry::Owner(n.value as u8),
+        entry,
         next: n.next,
     }
 }
@@ -63,6 +65,37 @@ fn reading_at(line: &[u8], at: usize) -> FoundEntry
     }
 }
 
+fn owner_at(line: &[u8], at: usize) -> FoundEntry
+    requires { ⌜ at ≤ length (now line) ⌝ }
+    ensures { λ r. ⌜ r .next ≤ length (now (line .entry)) ⌝ }
+{
+    let n = arguments::number_at(line, at);
+    if 255 < n.value {
+        return FoundEntry {
+            read: false,
+            entry: Entry::Owner(0),
+            next: n.next,
+        };
+    }
+    found(n, Entry::Owner(n.value as u8))
+}
+
+fn count_at(line: &[u8], at: usize) -> FoundEntry
+    requires { ⌜ at ≤ length (now line) ⌝ }
+    ensures { λ r. ⌜ r .next ≤ length (now (line .entry)) ⌝ }
+{
+    let n = arguments::number_at(line, at);
+    found(n, Entry::Count(n.value))
+}
+
+fn sum_at(line: &[u8], at: usize) -> FoundEntry
+    requires { ⌜ at ≤ length (now line) ⌝ }
+    ensures { λ r. ⌜ r .next ≤ length (now (line .entry)) ⌝ }
+{
+    let n = arguments::number_at(line, at);
+    found(n, Entry::Sum(n.value))
+}
+
 fn entry_at(which: Which, line: &[u8], at: usize) -> FoundEntry
     requires { ⌜ at ≤ length (now line) ⌝ }
     ensures { λ r. ⌜ r .next ≤ length (now (line .entry)) ⌝ }
@@ -70,6 +103,8 @@ fn entry_at(which: Which, line: &[u8], at: usize) -> FoundEntry
     match which {
         Which::Readings => reading_at(line, at),
         Which::Owners => owner_at(line, at),
+        Which::Counts => count_at(line, at),
+        Which::Sums => sum_at(line, at),
     }
 }
 
@@ -109,6 +144,16 @@ fn are_pairs(which: Which, line: &[u8], from: usize, n: u64) -> bool
     false
 }
 
+// How many places the console has for a list.
+fn room_of(which: Which) -> u64 {
+    match which {
+        Which::Readings => 81921,
+        Which::Owners => 81921,
+        Which::Counts => 20481,
+        Which::Sums => 20481,
+    }
+}
+
 pub fn listing_at(which: Which, line: &[u8], at: usize) -> Listing
     requires { ⌜ at ≤ length (now line) ⌝ }
 {
@@ -116,7 +161,10 @@ pub fn listing_at(which: Which, line: &[u8], at: usize) -> Listing
     let x = entry_at(which, line, n.next);
     let entry = x.entry;
     Listing {
-        read: n.read & (n.value <= 81921) & x.read & are_pairs(which, line, x.next, n.value),
+        read: n.read
+            & (n.value <= room_of(which))
+            & x.read
+            & are_pairs(which, line, x.next, n.value),
         which,
         length: n.value as usize,
         entry,
@@ -137,17 +185,66 @@ pub fn fresh(degree: u64, end: usize) -> Listing {
 
 // ---- laying
 
+fn put_number(x: u64, place: u64, list: &mut [u64]) {
+    if place < list.len() as u64 {
+        let i = place as usize;
+        list[i] = x;
+    }
+}
+
+// Past the end of its list nothing is put.
+fn put_entry(
+    e: Entry,
+    place: u64,
+    list: &mut [i32],
+    owners: &mut [u8],
+    counts: &mut [u64],
+    sums: &mut [u64],
+) {
+    match e {
+        Entry::Reading(x) => {
+            if place < list.len() as u64 {
+                let i = place as usize;
+                list[i] = x;
+            }
+        }
+        Entry::Owner(x) => {
+            if place < owners.len() as u64 {
+                let i = place as usize;
+                owners[i] = x;
+            }
+        }
+        Entry::Count(x) => put_number(x, place, counts),
+        Entry::Sum(x) => put_number(x, place, sums),
+    }
+}
+
 // The same at each of the first n places.
-fn fill(e: Entry, n: usize, list: &mut [i32], owners: &mut [u8]) {
+fn fill(
+    e: Entry,
+    n: usize,
+    list: &mut [i32],
+    owners: &mut [u8],
+    counts: &mut [u64],
+    sums: &mut [u64],
+) {
     let mut i = 0;
     while i < n {
-        held::put_entry(e, i as u64, list, owners);
+        put_entry(e, i as u64, list, owners, counts, sums);
         i += 1;
     }
 }
 
 // What each pair says, the later over the earlier.
-fn put_pairs(which: Which, line: &[u8], from: usize, list: &mut [i32], owners: &mut [u8])
+fn put_pairs(
+    which: Which,
+    line: &[u8],
+    from: usize,
+    list: &mut [i32],
+    owners: &mut [u8],
+    counts: &mut [u64],
+    sums: &mut [u64],
+)
     requires { ⌜ from ≤ length (now line) ⌝ }
 {
     let mut at = from;
@@ -158,28 +255,47 @@ fn put_pairs(which: Which, line: &[u8], from: usize, list: &mut [i32], owners: &
         }
         let p = pair_at(which, line, at);
         let entry = p.entry;
-        held::put_entry(entry, p.place, list, owners);
+        put_entry(entry, p.place, list, owners, counts, sums);
         at = p.next;
         pairs -= 1;
     }
 }
 
-// With readings come as many owners, all nobody's.
-fn fill_beside(which: Which, n: usize, list: &mut [i32], owners: &mut [u8]) {
+// With readings come the other lists: all is nobody's, and all counts and sums are 0.
+fn fill_beside(
+    which: Which,
+    held: Held,
+    list: &mut [i32],
+    owners: &mut [u8],
+    counts: &mut [u64],
+    sums: &mut [u64],
+) {
     match which {
-        Which::Readings => fill(Entry::Owner(0), n, list, owners),
-        Which::Owners => {}
+        Which::Readings => {
+            fill(Entry::Owner(0), held.owners, list, owners, counts, sums);
+            fill(Entry::Count(0), held.counts, list, owners, counts, sums);
+            fill(Entry::Sum(0), held.sums, list, owners, counts, sums);
+        }
+        _ => {}
     }
 }
 
-// A list that was read from this line.
-pub fn lay(l: Listing, line: &[u8], list: &mut [i32], owners: &mut [u8]) {
+// A list that was read from this line; `held` is what is held then.
+pub fn lay(
+    l: Listing,
+    held: Held,
+    line: &[u8],
+    list: &mut [i32],
+    owners: &mut [u8],
+    counts: &mut [u64],
+    sums: &mut [u64],
+) {
     let which = l.which;
     let entry = l.entry;
     let from = l.pairs;
-    fill_beside(which, l.length, list, owners);
-    fill(entry, l.length, list, owners);
+    fill_beside(which, held, list, owners, counts, sums);
+    fill(entry, l.length, list, owners, counts, sums);
     if from <= line.len() {
-        put_pairs(which, line, from, list, owners);
+        put_pairs(which, line, from, list, owners, counts, sums);
     }
 }

@@ -1,12 +1,14 @@
 // The console: one line of text to its answer. The first word names a call, the others are its arguments (texts). It
-// holds a table of soundings, which the caller keeps for it: `Held`, and two lists of 81,921 places, of readings and of
-// owners.
+// holds a table of soundings, which the caller keeps for it: `Held`, and four lists, of readings and of owners with
+// 81,921 places each, and of counts and of sums with 20,481.
 mod answers;
 mod arguments;
+mod asking;
 mod calls;
 mod desks;
 mod held;
 mod help;
+mod items;
 mod laying;
 mod lists;
 mod showing;
@@ -18,7 +20,7 @@ ghost use lib.ListN.{length};
 pub use held::Held;
 pub use held::Part;
 pub use held::Reply;
-pub use held::Which;
+pub use held::Shown;
 
 // The answer of many places goes on.
 pub use showing::go_on;
@@ -30,7 +32,9 @@ pub fn none_held() -> Held {
         degree: 0,
         readings: 0,
         owners: 0,
-        shown: Which::Readings,
+        counts: 0,
+        sums: 0,
+        shown: Shown::Readings,
     }
 }
 
@@ -96,7 +100,15 @@ fn plain_answer(call: u64, line: &[u8], at: usize, out: &mut [u8]) -> usize
 
 // One line to its answer, without the line end: how many bytes of the buffer it takes, and what is held then. No word,
 // or a first word that begins with #: none. Where `rest` is not 0, `go_on` has the next part of the answer.
-pub fn answer(line: &[u8], held: Held, list: &mut [i32], owners: &mut [u8], out: &mut [u8]) -> Reply
+pub fn answer(
+    line: &[u8],
+    held: Held,
+    list: &mut [i32],
+    owners: &mut [u8],
+    counts: &mut [u64],
+    sums: &mut [u64],
+    out: &mut [u8],
+) -> Reply
     requires { ⌜ 8192 ≤ length (now out) ⌝ }
     ensures { λ r. ⌜ r .size ≤ 8000 ⌝ }
 {
@@ -111,7 +123,7 @@ pub fn answer(line: &[u8], held: Held, list: &mut [i32], owners: &mut [u8], out:
     }
     let call = texts::call_named(&line[from..end]);
     match call {
-        22..=29 => desks::answer(call, line, end, held, list, owners, out),
+        22..=33 => desks::answer(call, line, end, held, list, owners, counts, sums, out),
         _ => held::whole(plain_answer(call, line, end, out), held),
     }
 }

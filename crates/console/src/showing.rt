@@ -1,86 +1,18 @@
-// Showing a list of the table: the answers of `readings`, and of `owners` without arguments, part by part.
+// Showing a list of the table: the answers of `readings`, and of `owners` and `coarse` without arguments, part by part.
 use crate::answers;
 use crate::held;
-use crate::held::Entry;
 use crate::held::Held;
 use crate::held::Part;
 use crate::held::Reply;
-use crate::held::Which;
+use crate::held::Shown;
+use crate::items;
+use crate::items::Item;
+use grid::TriangleCode;
 ghost use Prim.Native.Nat.{_+_, _-_, _<_, _≤_};
 ghost use lib.ListN.{length};
 ghost use Rattle.tables.specs.Tables.{places};
 
 // ---- one place
-
-fn wide(x: i32) -> i64 {
-    x as i64
-}
-
-fn wide_owner(x: u8) -> u64 {
-    x as u64
-}
-
-pub fn put_millimetres(x: i32, out: &mut [u8], at: usize) -> usize
-    requires { ⌜ at + 24 ≤ length (now out) ⌝ }
-    ensures { λ r. ⌜ r ≤ at + 24 ⌝ }
-{
-    let unit = lines::put_signed(wide(x), out, at);
-    lines::put_bytes(b" mm", out, unit)
-}
-
-// No reading, or nobody's.
-fn is_nothing(e: Entry) -> bool {
-    match e {
-        Entry::Reading(x) => x == -1,
-        Entry::Owner(x) => x == 0,
-    }
-}
-
-// A reading, or a desk's.
-fn is_counted(e: Entry) -> bool {
-    match e {
-        Entry::Reading(x) => tables::is_reading(x),
-        Entry::Owner(x) => tables::is_desk(wide_owner(x)),
-    }
-}
-
-fn put_counted(e: Entry, out: &mut [u8], at: usize) -> usize
-    requires { ⌜ at + 40 ≤ length (now out) ⌝ }
-    ensures { λ r. ⌜ r ≤ at + 40 ⌝ }
-{
-    match e {
-        Entry::Reading(x) => {
-            let number = lines::put_byte(b' ', out, at);
-            put_millimetres(x, out, number)
-        }
-        Entry::Owner(x) => {
-            let number = lines::put_bytes(b" desk ", out, at);
-            lines::put_decimal(wide_owner(x), out, number)
-        }
-    }
-}
-
-// A bad number.
-fn put_bad(e: Entry, out: &mut [u8], at: usize) -> usize
-    requires { ⌜ at + 40 ≤ length (now out) ⌝ }
-    ensures { λ r. ⌜ r ≤ at + 40 ⌝ }
-{
-    let number = lines::put_bytes(b" holds ", out, at);
-    match e {
-        Entry::Reading(x) => lines::put_signed(wide(x), out, number),
-        Entry::Owner(x) => lines::put_decimal(wide_owner(x), out, number),
-    }
-}
-
-fn put_entry(e: Entry, out: &mut [u8], at: usize) -> usize
-    requires { ⌜ at + 40 ≤ length (now out) ⌝ }
-    ensures { λ r. ⌜ r ≤ at + 40 ⌝ }
-{
-    if is_counted(e) {
-        return put_counted(e, out, at);
-    }
-    put_bad(e, out, at)
-}
 
 // What stands before a place that is shown: the first, or a later one.
 fn put_separator(later: bool, out: &mut [u8], at: usize) -> usize
@@ -93,43 +25,79 @@ fn put_separator(later: bool, out: &mut [u8], at: usize) -> usize
     lines::put_bytes(b": ", out, at)
 }
 
-// A place: its triangle and what it holds. Nothing where that is nothing.
-fn put_place(degree: u64, place: usize, e: Entry, later: bool, out: &mut [u8], at: usize) -> usize
-    requires { ⌜ (degree ≤ 6) × (place < places degree) × (at + 80 ≤ length (now out)) ⌝ }
-    ensures { λ r. ⌜ r ≤ at + 80 ⌝ }
+// A place of the triangles of a degree: its triangle and what is shown of it, if anything.
+fn put_place(degree: u64, place: usize, i: Item, later: bool, out: &mut [u8], at: usize) -> usize
+    requires { ⌜ (degree ≤ 6) × (place < places degree) × (at + 90 ≤ length (now out)) ⌝ }
+    ensures { λ r. ⌜ r ≤ at + 90 ⌝ }
 {
-    if is_nothing(e) {
-        return at;
+    match i {
+        Item::Nothing => at,
+        _ => {
+            let code = put_separator(later, out, at);
+            let t = words::code_at(degree, place as u64);
+            let next = answers::put_digits(t.0, out, code);
+            items::put_item(i, out, next)
+        }
     }
-    let code = put_separator(later, out, at);
-    let t = words::code_at(degree, place as u64);
-    let number = answers::put_digits(t.0, out, code);
-    put_entry(e, out, number)
 }
 
 // ---- the answer
 
-// 1, 20, and 22 or 25: where the places are not those of the triangles of a degree from 0 to 6; else 0.
-fn refuse(which: Which, held: Held) -> u64 {
-    let f = held::refuse_degree(held.degree);
+// The degree of the triangles that are shown. (A table of degree 0 has none one degree up to show.)
+fn degree_shown(shown: Shown, degree: u64) -> u64 {
+    match shown {
+        Shown::Coarse => {
+            if degree == 0 {
+                return 0;
+            }
+            degree - 1
+        }
+        _ => degree,
+    }
+}
+
+// How many places are to be shown, or looked at.
+fn places_shown(shown: Shown, degree: u64) -> usize {
+    match shown {
+        Shown::Coarse => held::parents_of(degree),
+        _ => held::places_of(degree),
+    }
+}
+
+fn refuse_if(is: bool, f: u64) -> u64 {
+    if is { f } else { 0 }
+}
+
+// 1, 20, and 22, 25 or 28: where the places are not those of the triangles of a degree from 0 to 6, or of those one
+// degree up; else 0.
+fn refuse(shown: Shown, held: Held) -> u64 {
+    let f = refusing::refuse_degree(held.degree);
     if f != 0 {
         return f;
     }
-    let n = held::places_of(held.degree);
-    match which {
-        Which::Readings => {
-            if held.readings != n {
-                return 22;
-            }
-            0
-        }
-        Which::Owners => {
-            if held.owners != n {
-                return 25;
-            }
-            0
-        }
+    let n = places_shown(shown, held.degree);
+    match shown {
+        Shown::Readings => refuse_if(held.readings != n, 22),
+        Shown::Owners => refuse_if(held.owners != n, 25),
+        Shown::Coarse => refuse_if((held.counts != n) | (held.sums != n), 28),
     }
+}
+
+// What `coarse` refuses, and of the code 1 to 4 and 20.
+pub fn refuse_parent(held: Held, t: TriangleCode) -> u64 {
+    let f = refuse(Shown::Coarse, held);
+    if f == 1 {
+        return 1;
+    }
+    let of_code = t.check();
+    if of_code != 0 {
+        return of_code;
+    }
+    let w = t.0;
+    if words::degree_of(w) + 1 != held.degree {
+        return 20;
+    }
+    f
 }
 
 fn one_if(is: bool) -> usize
@@ -139,49 +107,66 @@ fn one_if(is: bool) -> usize
 }
 
 // How many of the first n places are counted.
-fn count(which: Which, n: usize, list: &[i32], owners: &[u8]) -> usize {
+fn count(
+    shown: Shown,
+    n: usize,
+    list: &[i32],
+    owners: &[u8],
+    counts: &[u64],
+    sums: &[u64],
+) -> usize {
     let mut count = 0;
     let mut i = 0;
     while i < n {
-        let e = held::entry_at(which, i, list, owners);
-        count += one_if(is_counted(e));
+        let item = items::item_at(shown, i, list, owners, counts, sums);
+        count += one_if(items::is_counted(item));
         i += 1;
     }
     count
 }
 
-fn put_count(which: Which, count: usize, out: &mut [u8]) -> usize
+// A word of at most 8 bytes for one, with an s after it for any other count.
+fn put_unit(word: &[u8], count: usize, out: &mut [u8], at: usize) -> usize
+    requires { ⌜ (length (now word) ≤ 8) × (at + 9 ≤ length (now out)) ⌝ }
+    ensures { λ r. ⌜ r ≤ at + 9 ⌝ }
+{
+    let end = lines::put_bytes(word, out, at);
+    if count == 1 {
+        return end;
+    }
+    lines::put_byte(b's', out, end)
+}
+
+fn put_count(shown: Shown, count: usize, out: &mut [u8]) -> usize
     requires { ⌜ 8192 ≤ length (now out) ⌝ }
     ensures { λ r. ⌜ r ≤ 100 ⌝ }
 {
     let unit = lines::put_decimal(count as u64, out, 0);
-    match which {
-        Which::Readings => {
-            if count == 1 {
-                return lines::put_bytes(b" reading", out, unit);
-            }
-            lines::put_bytes(b" readings", out, unit)
-        }
-        Which::Owners => lines::put_bytes(b" owned", out, unit),
+    match shown {
+        Shown::Readings => put_unit(b" reading", count, out, unit),
+        Shown::Owners => lines::put_bytes(b" owned", out, unit),
+        Shown::Coarse => put_unit(b" parent", count, out, unit),
     }
 }
 
-// The last `rest` places of a table, as many as there is room for, and how many are left. `later`: places were shown
-// before.
+// The last `rest` places of the triangles of a degree, as many as there is room for, and how many are left. `later`:
+// places were shown before.
 fn put_places(
-    which: Which,
+    shown: Shown,
     degree: u64,
     rest: usize,
     later: bool,
     list: &[i32],
     owners: &[u8],
+    counts: &[u64],
+    sums: &[u64],
     out: &mut [u8],
     start: usize,
 ) -> Part
     requires { ⌜ (start ≤ 100) × (8192 ≤ length (now out)) ⌝ }
     ensures { λ r. ⌜ (r .size ≤ 8000) × (r .rest ≤ rest - 1) ⌝ }
 {
-    // Neither can be: such a degree is refused before the first part, and no more is left than the table has.
+    // Neither can be: such a degree is refused before the first part, and no more is left than there are triangles.
     if 6 < degree {
         return Part {
             size: start,
@@ -205,31 +190,53 @@ fn put_places(
             };
         }
         let place = n - left;
-        let e = held::entry_at(which, place, list, owners);
-        at = put_place(degree, place, e, later | (start < at), out, at);
+        let item = items::item_at(shown, place, list, owners, counts, sums);
+        at = put_place(degree, place, item, later | (start < at), out, at);
         left -= 1;
     }
     Part { size: at, rest: 0 }
 }
 
 // The first part.
-pub fn show(which: Which, held: Held, list: &[i32], owners: &[u8], out: &mut [u8]) -> Reply
+pub fn show(
+    shown: Shown,
+    held: Held,
+    list: &[i32],
+    owners: &[u8],
+    counts: &[u64],
+    sums: &[u64],
+    out: &mut [u8],
+) -> Reply
     requires { ⌜ 8192 ≤ length (now out) ⌝ }
     ensures { λ r. ⌜ r .size ≤ 8000 ⌝ }
 {
-    let f = refuse(which, held);
+    let f = refuse(shown, held);
     if f != 0 {
         return held::whole(answers::refused(f, out), held);
     }
-    let n = held::places_of(held.degree);
-    let start = put_count(which, count(which, n, list, owners), out);
-    let p = put_places(which, held.degree, n, false, list, owners, out, start);
+    let n = places_shown(shown, held.degree);
+    let start = put_count(shown, count(shown, n, list, owners, counts, sums), out);
+    let degree = degree_shown(shown, held.degree);
+    let p = put_places(
+        shown,
+        degree,
+        n,
+        false,
+        list,
+        owners,
+        counts,
+        sums,
+        out,
+        start,
+    );
     let held = Held {
         open: held.open,
         degree: held.degree,
         readings: held.readings,
         owners: held.owners,
-        shown: which,
+        counts: held.counts,
+        sums: held.sums,
+        shown,
     };
     Reply {
         size: p.size,
@@ -239,10 +246,30 @@ pub fn show(which: Which, held: Held, list: &[i32], owners: &[u8], out: &mut [u8
 }
 
 // The next part, where `rest` places are still to be shown.
-pub fn go_on(held: Held, rest: usize, list: &[i32], owners: &[u8], out: &mut [u8]) -> Part
+pub fn go_on(
+    held: Held,
+    rest: usize,
+    list: &[i32],
+    owners: &[u8],
+    counts: &[u64],
+    sums: &[u64],
+    out: &mut [u8],
+) -> Part
     requires { ⌜ (0 < rest) × (8192 ≤ length (now out)) ⌝ }
     ensures { λ r. ⌜ (r .size ≤ 8000) × (r .rest < rest) ⌝ }
 {
-    let which = held.shown;
-    put_places(which, held.degree, rest, true, list, owners, out, 0)
+    let shown = held.shown;
+    let degree = degree_shown(shown, held.degree);
+    put_places(
+        shown,
+        degree,
+        rest,
+        true,
+        list,
+        owners,
+        counts,
+        sums,
+        out,
+        0,
+    )
 }

@@ -3,7 +3,7 @@ ghost use Prim.Native.Nat.{_+_, _≤_};
 ghost use lib.ListN.{length};
 
 // How each call is written. A call is known by the number of its row, from 0.
-const CALLS: [u8; 551] = *b"help
+const CALLS: [u8; 634] = *b"help
 check CODE
 parent CODE
 check-name NAME
@@ -32,7 +32,11 @@ give DESK CODE
 set DESK CODE MM
 get CODE
 readings
-owners [LENGTH FILL [PLACE OWNER]..]";
+owners [LENGTH FILL [PLACE OWNER]..]
+coarse [CODE]
+work-out
+counts LENGTH FILL [PLACE N]..
+sums LENGTH FILL [PLACE N]..";
 
 // Document 01, 'Refusal numbers': when each is given, from 1.
 const REASONS: [u8; 559] = *b"a degree, as field or argument, is above 24
@@ -48,14 +52,16 @@ a word passes 1 to 4 as a corner name and is not the canonical one
 no corner of the degree has the twelve weights";
 
 // Document 02: the same, from 20.
-const REASONS_FROM_20: [u8; 225] = *b"wrong degree
+const REASONS_FROM_20: [u8; 356] = *b"wrong degree
 reading out of range
 the list's length isn't 20*4^degree
 the list holds a number that is neither a reading nor -1
 not a desk
 owner list malformed (wrong length or another number)
 owned by the other desk
-not owned";
+not owned
+a list of counts or sums has the wrong length
+the stored count or sum of the parent concerned differs from its children's readings";
 
 // Where the row ends that a place stands in.
 fn row_end(table: &[u8], at: usize) -> usize
@@ -153,9 +159,9 @@ fn row_named(table: &[u8], rows: u64, word: &[u8]) -> u64 {
     rows
 }
 
-// The call that a word names; 30 where it names none.
+// The call that a word names; 34 where it names none.
 pub fn call_named(word: &[u8]) -> u64 {
-    row_named(&CALLS, 30, word)
+    row_named(&CALLS, 34, word)
 }
 
 // The form of a call.

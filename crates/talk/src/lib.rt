@@ -1,6 +1,6 @@
 // The talk at the console: reads lines from standard input, and writes the answer of each to standard output, until the
 // input ends. Where a read or a write fails it stops there, and says so on standard error. It keeps the table that the
-// console holds: `held`, and two lists with room for every table, of readings and of owners.
+// console holds: `held`, and four lists with room for every table, of readings, owners, counts and sums.
 //
 // No contract can say what is read or written. Proved is that it returns, given that each read and write does, that it
 // stays in its buffers, and that it uses the console by its contract.
@@ -62,6 +62,8 @@ fn line_answer(
     held: Held,
     list: &mut [i32],
     owners: &mut [u8],
+    counts: &mut [u64],
+    sums: &mut [u64],
     out: &mut [u8],
 ) -> Reply
     requires { ⌜ 8192 ≤ length (now out) ⌝ }
@@ -73,13 +75,15 @@ fn line_answer(
     if line.len() < n {
         return console::nothing(held);
     }
-    console::answer(&line[..n], held, list, owners, out)
+    console::answer(&line[..n], held, list, owners, counts, sums, out)
 }
 
 // The other parts of an answer that has them, to the first write that fails.
 fn put_rest(
     list: &[i32],
     owners: &[u8],
+    counts: &[u64],
+    sums: &[u64],
     answers: &mut [u8],
     before: Progress,
     rest: usize,
@@ -96,7 +100,7 @@ fn put_rest(
         }
         let at = room.filled;
         let held = room.held;
-        let r = console::go_on(held, left, list, owners, &mut answers[at..]);
+        let r = console::go_on(held, left, list, owners, counts, sums, &mut answers[at..]);
         let filled = at + r.size;
         p = Progress {
             length: room.length,
@@ -114,6 +118,8 @@ fn put_answer(
     line: &[u8],
     list: &mut [i32],
     owners: &mut [u8],
+    counts: &mut [u64],
+    sums: &mut [u64],
     answers: &mut [u8],
     p: Progress,
 ) -> Progress
@@ -122,7 +128,16 @@ fn put_answer(
 {
     let at = p.filled;
     let before = p.held;
-    let r = line_answer(line, p.length, before, list, owners, &mut answers[at..]);
+    let r = line_answer(
+        line,
+        p.length,
+        before,
+        list,
+        owners,
+        counts,
+        sums,
+        &mut answers[at..],
+    );
     let held = r.held;
     let first = Progress {
         length: p.length,
@@ -130,7 +145,7 @@ fn put_answer(
         lost: p.lost,
         held,
     };
-    put_rest(list, owners, answers, first, r.rest)
+    put_rest(list, owners, counts, sums, answers, first, r.rest)
 }
 
 // The line end after an answer, and no byte yet of the next line.
@@ -155,6 +170,8 @@ fn end_line(
     line: &[u8],
     list: &mut [i32],
     owners: &mut [u8],
+    counts: &mut [u64],
+    sums: &mut [u64],
     answers: &mut [u8],
     p: Progress,
 ) -> Progress
@@ -162,7 +179,7 @@ fn end_line(
     ensures { λ r. ⌜ r .filled ≤ 65536 ⌝ }
 {
     let room = make_room(answers, p);
-    let answered = put_answer(line, list, owners, answers, room);
+    let answered = put_answer(line, list, owners, counts, sums, answers, room);
     end_answer(answers, answered)
 }
 
@@ -184,6 +201,8 @@ fn take_byte(
     line: &mut [u8],
     list: &mut [i32],
     owners: &mut [u8],
+    counts: &mut [u64],
+    sums: &mut [u64],
     answers: &mut [u8],
     p: Progress,
 ) -> Progress
@@ -191,7 +210,7 @@ fn take_byte(
     ensures { λ r. ⌜ r .filled ≤ 65536 ⌝ }
 {
     if b == b'\n' {
-        return end_line(line, list, owners, answers, p);
+        return end_line(line, list, owners, counts, sums, answers, p);
     }
     let held = p.held;
     Progress {
@@ -208,6 +227,8 @@ fn take(
     line: &mut [u8],
     list: &mut [i32],
     owners: &mut [u8],
+    counts: &mut [u64],
+    sums: &mut [u64],
     answers: &mut [u8],
     before: Progress,
 ) -> Progress
@@ -217,7 +238,7 @@ fn take(
     let mut p = before;
     let mut i = 0;
     while i < chunk.len() {
-        p = take_byte(chunk[i], line, list, owners, answers, p);
+        p = take_byte(chunk[i], line, list, owners, counts, sums, answers, p);
         if p.lost {
             return p;
         }
@@ -259,13 +280,24 @@ fn answer_chunk(
     line: &mut [u8],
     list: &mut [i32],
     owners: &mut [u8],
+    counts: &mut [u64],
+    sums: &mut [u64],
     answers: &mut [u8],
     n: usize,
     held: Held,
 ) -> Outcome
     requires { ⌜ (1000 ≤ length (now line)) × (65536 ≤ length (now answers)) ⌝ }
 {
-    let p = take(chunk, line, list, owners, answers, begun(n, held));
+    let p = take(
+        chunk,
+        line,
+        list,
+        owners,
+        counts,
+        sums,
+        answers,
+        begun(n, held),
+    );
     flush(answers, p)
 }
 
@@ -274,6 +306,8 @@ fn finish(
     line: &[u8],
     list: &mut [i32],
     owners: &mut [u8],
+    counts: &mut [u64],
+    sums: &mut [u64],
     answers: &mut [u8],
     n: usize,
     held: Held,
@@ -283,7 +317,7 @@ fn finish(
     if n == 0 {
         return Outcome::End;
     }
-    let p = end_line(line, list, owners, answers, begun(n, held));
+    let p = end_line(line, list, owners, counts, sums, answers, begun(n, held));
     let last = flush(answers, p);
     let Outcome::Line(_, _) = last else {
         return last;
@@ -297,6 +331,8 @@ fn turn(
     line: &mut [u8],
     list: &mut [i32],
     owners: &mut [u8],
+    counts: &mut [u64],
+    sums: &mut [u64],
     answers: &mut [u8],
     n: usize,
     held: Held,
@@ -309,9 +345,19 @@ fn turn(
     }
     let got = io::count(read, chunk);
     if got == 0 {
-        return finish(line, list, owners, answers, n, held);
+        return finish(line, list, owners, counts, sums, answers, n, held);
     }
-    answer_chunk(&chunk[..got], line, list, owners, answers, n, held)
+    answer_chunk(
+        &chunk[..got],
+        line,
+        list,
+        owners,
+        counts,
+        sums,
+        answers,
+        n,
+        held,
+    )
 }
 
 // Turn after turn, to the end of the input or to what failed.
@@ -320,6 +366,8 @@ fn all_turns(
     line: &mut [u8],
     list: &mut [i32],
     owners: &mut [u8],
+    counts: &mut [u64],
+    sums: &mut [u64],
     answers: &mut [u8],
 ) -> Outcome
     requires { ⌜ (1000 ≤ length (now line)) × (65536 ≤ length (now answers)) ⌝ }
@@ -329,7 +377,7 @@ fn all_turns(
     // No input lasts for so many.
     let mut turns: u64 = 18446744073709551615;
     while 0 < turns {
-        let t = turn(chunk, line, list, owners, answers, n, held);
+        let t = turn(chunk, line, list, owners, counts, sums, answers, n, held);
         let Outcome::Line(so_far, now_held) = t else {
             return t;
         };
@@ -359,7 +407,17 @@ pub fn answer_lines() {
     let mut line = io::buffer();
     let mut list = [0i32; 81921];
     let mut owners = [0u8; 81921];
+    let mut counts = [0u64; 20481];
+    let mut sums = [0u64; 20481];
     let mut answers = io::large_buffer();
-    let last = all_turns(&mut chunk, &mut line, &mut list, &mut owners, &mut answers);
+    let last = all_turns(
+        &mut chunk,
+        &mut line,
+        &mut list,
+        &mut owners,
+        &mut counts,
+        &mut sums,
+        &mut answers,
+    );
     tell(last);
 }

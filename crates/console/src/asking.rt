@@ -75,7 +75,7 @@ fn table_at(call: u64, line: &[u8], at: usize) -> Asked
     if_read(call, d.read & l.read, true, opening(d.value, l))
 }
 
-// What is held with another list.
+// What is held when this list is laid beside the others.
 fn with_list(before: Held, l: Listing) -> Held {
     let mut held = before;
     let which = l.which;
@@ -96,7 +96,7 @@ fn with_list(before: Held, l: Listing) -> Held {
     held
 }
 
-// Another list for the table.
+// Another list of its kind for the table.
 fn list_at(call: u64, which: Which, line: &[u8], at: usize, held: Held) -> Asked
     requires { ⌜ at ≤ length (now line) ⌝ }
 {
@@ -184,6 +184,7 @@ fn alone_at(call: u64, line: &[u8], at: usize, open: bool, asked: Asked) -> Aske
     if_read(call, arguments::at_end(line, at), open, asked)
 }
 
+// By its row of CALLS; its arguments stand from a place of a line on.
 pub fn asked_at(call: u64, line: &[u8], at: usize, held: Held) -> Asked
     requires { ⌜ at ≤ length (now line) ⌝ }
 {

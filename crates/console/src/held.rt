@@ -1,6 +1,6 @@
 // What the console holds: a table of soundings (document 02, 2026-03, 2026-07 and 2026-08). Its four lists stand in the
-// first places of the console's: readings and owners in lists of 81,921 places, counts and sums in lists of 20,481. It
-// is one place more than the longest table needs, so that a list that is too long can be tried.
+// first places of the console's: readings and owners in lists of 81,921 places, counts and sums in lists of 20,481, one
+// more than the longest table needs, so that a list that is too long can be tried.
 ghost use mathlib.Core.Path.{_≡_};
 
 // One of the four lists of a table.

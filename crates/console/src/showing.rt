@@ -8,8 +8,10 @@ use crate::held::Shown;
 use crate::items;
 use crate::items::Item;
 use grid::TriangleCode;
+ghost use mathlib.Core.Path.{_≡_};
 ghost use Prim.Native.Nat.{_+_, _-_, _<_, _≤_};
 ghost use lib.ListN.{length};
+ghost use Rattle.words.specs.Refusals.{checkCode};
 ghost use Rattle.tables.specs.Tables.{places};
 
 // ---- one place
@@ -43,7 +45,7 @@ fn put_place(degree: u64, place: usize, i: Item, later: bool, out: &mut [u8], at
 
 // ---- the answer
 
-// The degree of the triangles that are shown. (A table of degree 0 has none one degree up to show.)
+// The degree of the triangles that are shown. (A table of degree 0 has none one degree up, and shows none.)
 fn degree_shown(shown: Shown, degree: u64) -> u64 {
     match shown {
         Shown::Coarse => {
@@ -56,7 +58,7 @@ fn degree_shown(shown: Shown, degree: u64) -> u64 {
     }
 }
 
-// How many places are to be shown, or looked at.
+// How many these triangles are.
 fn places_shown(shown: Shown, degree: u64) -> usize {
     match shown {
         Shown::Coarse => held::parents_of(degree),
@@ -84,7 +86,9 @@ fn refuse(shown: Shown, held: Held) -> u64 {
 }
 
 // What `coarse` refuses, and of the code 1 to 4 and 20.
-pub fn refuse_parent(held: Held, t: TriangleCode) -> u64 {
+pub fn refuse_parent(held: Held, t: TriangleCode) -> u64
+    ensures { λ r. ⌜ (r ≡ 0 → checkCode t ≡ 0) ⌝ }
+{
     let f = refuse(Shown::Coarse, held);
     if f == 1 {
         return 1;

@@ -8,11 +8,11 @@ use Rattle.talk.proofs.put_rest.Statement.{statement}
 use Rattle.talk.proofs.put_rest.Tie as tie
 
 abbrev Inv-loop : tie.InvT-loop
-Inv-loop list owners answers₀ rest p₀ left₀ answers p left =
+Inv-loop list owners counts sums answers₀ rest p₀ left₀ answers p left =
     (p .filled ≤ 65536) × (length answers ≡ length answers₀)
 
 abbrev μ-loop : tie.MeasureT-loop
-μ-loop list owners answers₀ rest p₀ left₀ answers p left = left
+μ-loop list owners counts sums answers₀ rest p₀ left₀ answers p left = left
 
 loop-holds : tie.Need-loop-holds Inv-loop μ-loop
 loop-holds c = search needs

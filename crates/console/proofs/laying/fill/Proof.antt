@@ -8,11 +8,12 @@ use Rattle.console.proofs.laying.fill.Statement.{statement}
 use Rattle.console.proofs.laying.fill.Tie as tie
 
 abbrev Inv-loop : tie.InvT-loop
-Inv-loop e n list₀ owners₀ i₀ list owners i =
-    (length list ≡ length list₀) × (length owners ≡ length owners₀)
+Inv-loop e n list₀ owners₀ counts₀ sums₀ i₀ list owners counts sums i =
+    (length list ≡ length list₀) × (length owners ≡ length owners₀) × (length counts ≡ length counts₀)
+    × (length sums ≡ length sums₀)
 
 abbrev μ-loop : tie.MeasureT-loop
-μ-loop e n list₀ owners₀ i₀ list owners i = n - i
+μ-loop e n list₀ owners₀ counts₀ sums₀ i₀ list owners counts sums i = n - i
 
 loop-holds : tie.Need-loop-holds Inv-loop μ-loop
 loop-holds c = search needs
@@ -35,6 +36,12 @@ same-length c = search needs
 same-length-2 : tie.Need-same-length-2 Inv-loop μ-loop
 same-length-2 c = search needs
 
+same-length-3 : tie.Need-same-length-3 Inv-loop μ-loop
+same-length-3 c = search needs
+
+same-length-4 : tie.Need-same-length-4 Inv-loop μ-loop
+same-length-4 c = search needs
+
 returns : tie.Need-returns Inv-loop μ-loop
 returns c = search needs
 
@@ -51,4 +58,6 @@ fill-spec =
     loop-again
     same-length
     same-length-2
+    same-length-3
+    same-length-4
     returns)

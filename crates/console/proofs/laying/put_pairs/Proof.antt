@@ -8,11 +8,12 @@ use Rattle.console.proofs.laying.put_pairs.Statement.{statement}
 use Rattle.console.proofs.laying.put_pairs.Tie as tie
 
 abbrev Inv-loop : tie.InvT-loop
-Inv-loop which line from list₀ owners₀ at₀ pairs₀ list owners at pairs =
+Inv-loop which line from list₀ owners₀ counts₀ sums₀ at₀ pairs₀ list owners counts sums at pairs =
     (at ≤ length line) × (length list ≡ length list₀) × (length owners ≡ length owners₀)
+    × (length counts ≡ length counts₀) × (length sums ≡ length sums₀)
 
 abbrev μ-loop : tie.MeasureT-loop
-μ-loop which line from list₀ owners₀ at₀ pairs₀ list owners at pairs = pairs
+μ-loop which line from list₀ owners₀ counts₀ sums₀ at₀ pairs₀ list owners counts sums at pairs = pairs
 
 loop-holds : tie.Need-loop-holds Inv-loop μ-loop
 loop-holds c = search needs
@@ -25,6 +26,12 @@ same-length c = search needs
 
 same-length-2 : tie.Need-same-length-2 Inv-loop μ-loop
 same-length-2 c = search needs
+
+same-length-3 : tie.Need-same-length-3 Inv-loop μ-loop
+same-length-3 c = search needs
+
+same-length-4 : tie.Need-same-length-4 Inv-loop μ-loop
+same-length-4 c = search needs
 
 returns : tie.Need-returns Inv-loop μ-loop
 returns c = search needs
@@ -44,11 +51,17 @@ loop-less c = search needs
 loop-again : tie.Need-loop-again Inv-loop μ-loop
 loop-again c = search needs
 
-same-length-3 : tie.Need-same-length-3 Inv-loop μ-loop
-same-length-3 c = search needs
+same-length-5 : tie.Need-same-length-5 Inv-loop μ-loop
+same-length-5 c = search needs
 
-same-length-4 : tie.Need-same-length-4 Inv-loop μ-loop
-same-length-4 c = search needs
+same-length-6 : tie.Need-same-length-6 Inv-loop μ-loop
+same-length-6 c = search needs
+
+same-length-7 : tie.Need-same-length-7 Inv-loop μ-loop
+same-length-7 c = search needs
+
+same-length-8 : tie.Need-same-length-8 Inv-loop μ-loop
+same-length-8 c = search needs
 
 returns-2 : tie.Need-returns-2 Inv-loop μ-loop
 returns-2 c = search needs
@@ -63,12 +76,16 @@ put-pairs-spec =
     at-end-requires
     same-length
     same-length-2
+    same-length-3
+    same-length-4
     returns
     pair-at-requires
     put-entry-requires
     sub-pairs
     loop-less
     loop-again
-    same-length-3
-    same-length-4
+    same-length-5
+    same-length-6
+    same-length-7
+    same-length-8
     returns-2)

@@ -6,16 +6,16 @@ use Rattle.console.proofs.showing.count.Statement.{statement}
 use Rattle.console.proofs.showing.count.Tie as tie
 
 abbrev Inv-loop : tie.InvT-loop
-Inv-loop which n list owners count₀ i₀ count i = (count ≤ i) × (i ≤ n)
+Inv-loop shown n list owners counts sums count₀ i₀ count i = (count ≤ i) × (i ≤ n)
 
 abbrev μ-loop : tie.MeasureT-loop
-μ-loop which n list owners count₀ i₀ count i = n - i
+μ-loop shown n list owners counts sums count₀ i₀ count i = n - i
 
 loop-holds : tie.Need-loop-holds Inv-loop μ-loop
 loop-holds c = search needs
 
-entry-at-requires : tie.Need-entry-at-requires Inv-loop μ-loop
-entry-at-requires c κs = search needs
+item-at-requires : tie.Need-item-at-requires Inv-loop μ-loop
+item-at-requires c κs = search needs
 
 is-counted-requires : tie.Need-is-counted-requires Inv-loop μ-loop
 is-counted-requires c κs = search needs
@@ -45,7 +45,7 @@ count-spec =
     Inv-loop
     μ-loop
     loop-holds
-    entry-at-requires
+    item-at-requires
     is-counted-requires
     one-if-requires
     add-count

@@ -1,4 +1,4 @@
--- `console::showing::put_places` is safe and ends. The loop's invariant: each place shown takes at most 80 bytes, and
+-- `console::showing::put_places` is safe and ends. The loop's invariant: each place shown takes at most 90 bytes, and
 -- the buffer has its length. The measure is how many are left. Assumes nothing.
 use mathlib.Core.Path.{_≡_}
 use Prim.Native.Nat.{_+_, _*_, _≤_}
@@ -9,12 +9,12 @@ use Rattle.console.proofs.showing.put_places.Statement.{statement}
 use Rattle.console.proofs.showing.put_places.Tie as tie
 
 abbrev Inv-loop : tie.InvT-loop
-Inv-loop which degree rest later list owners out₀ start n left₀ at₀ out left at =
-    (degree ≤ 6) × (n ≡ places degree) × (rest ≤ n) × (left ≤ rest) × (at ≤ 7980)
-    × (at + 80 * left ≤ 100 + 80 * rest) × (length out ≡ length out₀)
+Inv-loop shown degree rest later list owners counts sums out₀ start n left₀ at₀ out left at =
+    (degree ≤ 6) × (n ≡ places degree) × (rest ≤ n) × (left ≤ rest) × (at ≤ 7990)
+    × (at + 90 * left ≤ 100 + 90 * rest) × (length out ≡ length out₀)
 
 abbrev μ-loop : tie.MeasureT-loop
-μ-loop which degree rest later list owners out₀ start n left₀ at₀ out left at = left
+μ-loop shown degree rest later list owners counts sums out₀ start n left₀ at₀ out left at = left
 
 returns : tie.Need-returns Inv-loop μ-loop
 returns c = search needs
@@ -37,8 +37,8 @@ returns-3 c = search needs
 sub-place : tie.Need-sub-place Inv-loop μ-loop
 sub-place c = search needs
 
-entry-at-requires : tie.Need-entry-at-requires Inv-loop μ-loop
-entry-at-requires c κs = search needs
+item-at-requires : tie.Need-item-at-requires Inv-loop μ-loop
+item-at-requires c κs = search needs
 
 put-place-requires : tie.Need-put-place-requires Inv-loop μ-loop
 put-place-requires c κs = search needs
@@ -71,7 +71,7 @@ put-places-spec =
     same-length
     returns-3
     sub-place
-    entry-at-requires
+    item-at-requires
     put-place-requires
     sub-left
     loop-less

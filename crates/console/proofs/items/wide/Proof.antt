@@ -1,10 +1,10 @@
--- `console::showing::wide` is safe: what fits 32 bits fits 64. Assumes nothing.
+-- `console::items::wide` is safe: what fits 32 bits fits 64. Assumes nothing.
 use mir.Syntax.{w32}
 use mir.Facts.{sfits-widen}
 use mir.ValLaws.{toZ-ofZ}
 use borrow.Author.Needs.{needs}
-use Rattle.console.proofs.showing.wide.Statement.{statement}
-use Rattle.console.proofs.showing.wide.Tie as tie
+use Rattle.console.proofs.items.wide.Statement.{statement}
+use Rattle.console.proofs.items.wide.Tie as tie
 
 cast-result : tie.Need-cast-result
 cast-result c = rw (toZ-ofZ w32 (c .args .x) (c .fits .x)) (sfits-widen {w = w32} tt (c .fits .x))

@@ -1,12 +1,13 @@
 #!/usr/bin/env python3
-"""Every example of README.md, docs/CONSOLE.md, docs/DESKS.md and of the console's help is compared by the gate.
+"""Every example of README.md, of CONSOLE.md, DESKS.md and COARSE.md in docs/, and of the console's help is compared by
+the gate.
 
 `rt ci` runs the console on the calls of crates/plot_main/stdin and holds what it writes to crates/plot_main/stdout. The
 first call is help; every line after it has one line as its answer. Here each example must stand there with just that
 answer, or, where a document cuts the answer short by ` ..`, with one that begins so. Calls on a table of soundings work
 on what the calls before them left: those of one example must stand there one after the other, and so must all calls of
-docs/DESKS.md. Each call must have one form, in the console's table, in the help and in the table of docs/CONSOLE.md,
-and all but help an example in the help.
+docs/DESKS.md and all of docs/COARSE.md. Each call must have one form, in the console's table, in the help and in the
+table of docs/CONSOLE.md, and all but help an example in the help.
 """
 import pathlib
 import re
@@ -26,7 +27,9 @@ def constant(file, name):
 HELP = constant("help.rt", "HELP")
 FORMS = constant("texts.rt", "CALLS").splitlines()
 NAMES = [form.split()[0] for form in FORMS]
-ON_TABLE = ("table", "take", "set", "get", "readings", "owners", "clear", "give")
+# How a document may write a form that has optional parts: without them, and with them.
+SPELLED = {form.split(" [")[0] for form in FORMS} | {form.replace("[", "").replace("]", "") for form in FORMS}
+ON_TABLE = NAMES[NAMES.index("table") :]
 
 
 def stored():
@@ -112,7 +115,8 @@ def check_console():
     for call, answer in examples:
         compare(place, call, answer)
     # No call and no answer stands there in another way, where nothing would compare it.
-    compared = {part for example in examples for part in example} | set(FORMS) | {text for _, text in STORED}
+    compared = {part for example in examples for part in example} | {text for _, text in STORED}
+    compared |= set(FORMS) | SPELLED
     for code in re.findall(r"`([^`\n]+)`", text):
         is_call = code.split()[:1] and code.split()[0] in NAMES
         is_answer = re.match(r"(refused|error:) .", code) and not code.endswith(" ")
@@ -122,10 +126,9 @@ def check_console():
     return len(examples) + check_lines(place, day.splitlines())
 
 
-# ---- docs/DESKS.md: one morning, in several blocks. What is indented by more than four is a picture.
+# ---- docs/DESKS.md and docs/COARSE.md: calls in several blocks. What is indented by more than four is a picture.
 
-def check_desks():
-    place = "docs/DESKS.md"
+def check_row(place):
     return check_lines(place, re.findall(r"^    \S.*", (ROOT / place).read_text(), re.M))
 
 
@@ -161,7 +164,8 @@ def check_table():
 counts = {
     "help": check_help(),
     "docs/CONSOLE.md": check_console(),
-    "docs/DESKS.md": check_desks(),
+    "docs/DESKS.md": check_row("docs/DESKS.md"),
+    "docs/COARSE.md": check_row("docs/COARSE.md"),
     "README.md": check_readme(),
 }
 check_table()

@@ -157,8 +157,8 @@ static int give_table(struct input *in, const char *kind, uint64_t degree) {
     return degree <= 6 && is_random(kind);
 }
 
-/* With the owners. Every triangle is the ice desk's, which makes the calls, so that each is answered. (Of a hundred that
- * are given back at degree 6 hardly one is given back twice.) */
+/* With the owners. Every triangle is the ice desk's, which makes the calls, so that each is answered. (Of a hundred
+ * that are given back at degree 6 hardly one is given back twice.) */
 static void give_both(struct input *in, int first, uint64_t degree) {
     give_readings(in, first, degree);
     if (owners[0] == 0) {

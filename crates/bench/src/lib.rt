@@ -28,7 +28,7 @@ ghost use Rattle.sweeps.specs.declared.SweepAnswer.{SweepAnswer};
 ghost use Rattle.tables.specs.Owners.{shared};
 ghost use Rattle.tables.specs.declared.TableAnswer.{TableAnswer};
 ghost use Rattle.coarse.specs.Sums.{coarse, chart};
-ghost use Rattle.coarse.specs.Answers.{TakeAnswer, SetAnswer, ClearAnswer, GiveAnswer, AfreshAnswer};
+ghost use Rattle.coarse.specs.Answers.{TakeAnswer, SetAnswer, ClearAnswer, GiveAnswer, WorkOutAnswer};
 
 // ---- words
 
@@ -319,7 +319,7 @@ pub extern "C" fn bench_work_out(
 ) -> u64
     ensures { λ r. ⌜
         ((a : TableAnswer)
-        × AfreshAnswer degree (now (list .entry)) (coarse (now (counts .entry)) (now (sums .entry))) a
+        × WorkOutAnswer degree (now (list .entry)) (coarse (now (counts .entry)) (now (sums .entry))) a
         (coarse (now (counts .exit)) (now (sums .exit)))
         × (r ≡ bitXor (a .refusal) (a .place)))
         ⌝ }

@@ -12,7 +12,7 @@ use Rattle.frame.specs.Lists.{below}
 use Rattle.net.specs.Division.{sum}
 use Rattle.tables.specs.Tables.{none}
 use Rattle.coarse.specs.Sums.{present}
-use Rattle.coarse.specs.Means.{presentFrom}
+use Rattle.coarse.specs.Means.Fours.{presentFrom}
 
 pub record Additive (g : List ℕ → ℕ) : Type 0 where
   pub nothing : g [] ≡ 0

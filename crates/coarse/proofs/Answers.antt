@@ -8,8 +8,8 @@ use Rattle.tables.specs.Answers.{refused}
 use Rattle.tables.specs.declared.Deed.{Deed}
 use Rattle.tables.specs.declared.Deed.the-variants.{Taking, Setting, Clearing, Giving}
 use Rattle.coarse.specs.Sums.{Chart}
-use Rattle.coarse.specs.Refusals.{refuseKept, refuseAfresh}
-use Rattle.coarse.specs.Answers.{keptOut, refusedKept, KeptAnswer, workedOut, refusedAfresh}
+use Rattle.coarse.specs.Refusals.{refuseKept, refuseWorkOut}
+use Rattle.coarse.specs.Answers.{keptOut, refusedKept, KeptAnswer, workedOut, refusedWorkOut}
 use Rattle.coarse.specs.Promises.{OneAnswer}
 
 -- of a call that writes
@@ -25,5 +25,5 @@ one-answer = record {
   clear = each-kept Clearing;
   give = each-kept Giving;
   workOut = λ n list c.
-      keeps-known (refuseAfresh n list c) (workedOut n list) (refusedAfresh list c) (λ x. x .0 .refusal) refl refl;
+      keeps-known (refuseWorkOut n list c) (workedOut n list) (refusedWorkOut list c) (λ x. x .0 .refusal) refl refl;
 }

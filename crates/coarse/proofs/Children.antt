@@ -2,22 +2,24 @@
 -- are. Assumes nothing.
 use mathlib.Core.Path.{_≡_, _∙_, refl, sym, ap}
 use mathlib.Core.List.{List, [], _∷_}
-use Prim.Native.Nat.{ℕ, zero, suc, _+_, _-_, _*_, _/_, _≤_, _<_}
+use Prim.Native.Nat.{ℕ, zero, suc, _+_, _-_, _*_, _^_, _/_, _≤_, _<_}
 use native.Mathlib.Nat.{pow-suc}
 use native.Mathlib.Omega.{arith}
 use lib.IntN.{ℤ}
 use lib.ListN.{length, getD, set}
 use Rattle.frame.specs.Lists.{below}
 use Rattle.frame.proofs.Below.{below-same}
-use Rattle.words.specs.Refusals.{IsCode}
+use Rattle.words.specs.Words.{degreeOf}
+use Rattle.words.specs.Refusals.{checkCode, IsCode}
 use Rattle.words.specs.Family.{parentOf, childOf}
 use Rattle.words.specs.Counting.{codeAt, placeOf}
 use Rattle.words.specs.declared.TriangleCode.{TriangleCode}
-use Rattle.words.proofs.CodeCount.{place-below, code-at, place-at}
+use Rattle.words.proofs.Codes.{is-code, code-degree}
+use Rattle.words.proofs.CodeCount.{place-below, place-fits, code-at, place-at}
 use Rattle.words.proofs.ChildPlaces.{child-place, up}
 use Rattle.tables.specs.Tables.{places, none, numberAt}
 use Rattle.coarse.specs.Sums.{present, presentIn, parents, everyParent, kept}
-use Rattle.coarse.specs.Means.{presentFrom}
+use Rattle.coarse.specs.Means.Fours.{presentFrom}
 
 pub from-children : {n : ℕ} {q : TriangleCode} (list : List ℤ) → IsCode n q → n < 24
     → presentFrom (4 * placeOf q) list ≡ presentIn q list
@@ -31,6 +33,14 @@ from-children {n} {q} list c l =
         → getD list x none ≡ numberAt (childOf q k) list
     at k h e = ap (λ (i : ℕ). getD list i none) (e ∙ sym (child-place c l k h))
 
+-- where the four children have the same numbers
+pub same-in : (q : TriangleCode) (list list′ : List ℤ)
+    → ((k : ℕ) → k ≤ 3 → numberAt (childOf q k) list ≡ numberAt (childOf q k) list′)
+    → presentIn q list ≡ presentIn q list′
+same-in q list list′ at =
+    λ i. present (at 0 (omega arith) i ∷ at 1 (omega arith) i ∷ at 2 (omega arith) i
+    ∷ at 3 (omega arith) i ∷ [])
+
 -- ---- one degree up
 
 pub parents-above : (n : ℕ) → (n ≡ 0 → ⊥) → places (n - 1) ≡ parents n
@@ -42,24 +52,32 @@ pub four-each : (n : ℕ) {m l : ℕ} → m ≡ parents n → l ≡ places n →
 four-each zero e f = omega (arith, e, f)
 four-each (suc n) e f = omega (arith, e, f, pow-suc 4 n)
 
+-- the place of the parent, by that of the triangle
+pub parent-place : (t : TriangleCode) {k : ℕ} → checkCode t ≡ 0 → 1 ≤ degreeOf (t .0) → k ≡ placeOf t
+    → k / 4 ≡ placeOf (parentOf t)
+parent-place t {k} z l w = go (degreeOf (t .0)) (is-code t z) l
+  where
+    go : (n : ℕ) → IsCode n t → 1 ≤ n → k / 4 ≡ placeOf (parentOf t)
+    go zero c l = absurd (omega (arith, l))
+    go (suc n) c l = let u = up c (omega (arith, code-degree c)) in omega (arith, w, u .place, u .small)
+
 -- What a call knows of the parent of its triangle, whose place is i.
 pub record Above (n : ℕ) (t : TriangleCode) (list : List ℤ) (i : ℕ) : Type 0 where
-  pub place : i ≡ placeOf (parentOf t)
+  pub fits : i < 2 ^ 53
   pub here : i < parents n
   pub four : 4 * i + 3 < length list
   pub present-is : presentFrom (4 * i) list ≡ presentIn (parentOf t) list
 
-pub above : (n : ℕ) {t : TriangleCode} (list : List ℤ) {k : ℕ} → k ≡ placeOf t → (n ≡ 0 → ⊥)
-    → n ≤ 6 → IsCode n t → length list ≡ places n → Above n t list (k / 4)
-above zero list w z l c e = absurd (z refl)
-above (suc n) {t} list {k} w z l c e =
+pub above : (n : ℕ) {t : TriangleCode} (list : List ℤ) {i : ℕ} → i ≡ placeOf (parentOf t)
+    → (n ≡ 0 → ⊥) → n ≤ 6 → IsCode n t → length list ≡ places n → Above n t list i
+above zero list q z l c e = absurd (z refl)
+above (suc n) {t} list q z l c e =
     let u = up c (omega arith) in
-    let q : k / 4 ≡ placeOf (parentOf t) = omega (arith, w, u .place, u .small) in
-    let i = place-below (u .code) in
+    let b = place-below (u .code) in
     record {
-      place = q;
-      here = omega (arith, q, i);
-      four = omega (arith, q, i, e, pow-suc 4 n);
+      fits = omega (arith, q, place-fits (u .code));
+      here = omega (arith, q, b);
+      four = omega (arith, q, b, e, pow-suc 4 n);
       present-is = ap (λ (j : ℕ). presentFrom (4 * j) list) q ∙ from-children list (u .code) (omega arith);
     }
 

@@ -15,13 +15,13 @@ use Rattle.tables.specs.Histories.{answers, after}
 use Rattle.tables.specs.declared.TableAnswer.{TableAnswer}
 use Rattle.tables.proofs.Examples.{wrong, refusal}
 use Rattle.coarse.specs.Sums.{Coarse, everyParent, Chart}
-use Rattle.coarse.specs.Refusals.{refuseKept, refuseAfresh}
+use Rattle.coarse.specs.Refusals.{refuseKept, refuseWorkOut}
 use Rattle.coarse.specs.Histories.{toldBy, presentBy}
 use Rattle.coarse.specs.Examples.{Examples, Bounds, Mistakes}
 
 pub examples : Examples
-unfolding placeOf codeAt parentOf childOf some firstPlace below firstOf sum refuseCall refuseKept refuseAfresh everyParent
-    answers after toldBy presentBy decimals written path wordOf digits
+unfolding placeOf codeAt parentOf childOf some firstPlace below firstOf sum refuseCall refuseKept refuseWorkOut
+    everyParent answers after toldBy presentBy decimals written path wordOf digits
 examples = record {
   counted = refl;
   again = refl;
@@ -34,15 +34,18 @@ examples = record {
   set-again = known-gives refl;
   clear-0 = known-gives refl;
   give = known-gives refl;
-  mended = refl;
+  take-free = known-gives refl;
+  off = refl;
+  degree-2 = refl;
   afresh = known-gives refl;
+  afresh-miscounted = known-gives refl;
   degree-0 = refl;
   afresh-0 = known-gives refl;
 }
 
 pub bounds : Bounds
-unfolding placeOf codeAt parentOf childOf some firstPlace below firstOf sum refuseCall refuseKept refuseAfresh everyParent
-    decimals written path wordOf digits
+unfolding placeOf codeAt parentOf childOf some firstPlace below firstOf sum refuseCall refuseKept refuseWorkOut
+    everyParent decimals written path wordOf digits
 bounds = record {
   counts-19 = refl;
   counts-21 = refl;
@@ -59,8 +62,12 @@ bounds = record {
   last-child = refl;
   other-parent = refl;
   other-sum = refl;
+  degree-2 = refl;
+  degree-2-other = refl;
   twentyone-before-28 = refl;
+  twentytwo-before-28 = refl;
   twentythree-before-28 = refl;
+  twentyfour-before-28 = refl;
   twentyfive-before-28 = refl;
   twentysix-before-28 = refl;
   twentyseven-before-28 = refl;
@@ -73,6 +80,7 @@ bounds = record {
   afresh-bad = known-gives refl;
   afresh-counts = known-gives refl;
   afresh-sums = known-gives refl;
+  afresh-21 = refl;
   afresh-1 = refl;
 }
 
@@ -87,8 +95,8 @@ abbrev counted : TableAnswer × Coarse → ℕ
 counted x = getD (x .1 .counts) 0 0
 
 pub mistakes : Mistakes
-unfolding placeOf codeAt parentOf childOf some firstPlace below firstOf sum refuseCall refuseKept refuseAfresh everyParent
-    decimals written path wordOf digits
+unfolding placeOf codeAt parentOf childOf some firstPlace below firstOf sum refuseCall refuseKept refuseWorkOut
+    everyParent decimals written path wordOf digits
 mistakes = record {
   counted-twice = wrong (count 0) refl;
   not-lowered = wrong (total 0) refl;
@@ -98,8 +106,10 @@ mistakes = record {
   mended-by-taking = wrong refusal refl;
   all-looked-at = wrong refusal refl;
   left = wrong (count 0) refl;
+  left-on-giving = wrong (count 0) refl;
   own-place = wrong (count 0) refl;
   touched = wrong (count 0) refl;
+  touched-on-29 = wrong (count 0) refl;
   touched-afresh = wrong counted refl;
   not-afresh = wrong counted refl;
 }

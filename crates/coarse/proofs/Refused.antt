@@ -19,23 +19,25 @@ use Rattle.tables.specs.declared.Deed.{Deed}
 use Rattle.tables.proofs.Refused.{large, list-good}
 use Rattle.tables.proofs.Deeds.{Owned, deed-passed}
 use Rattle.coarse.specs.Sums.{countIn, sumIn, parents, Coarse, storedFor, Chart}
-use Rattle.coarse.specs.Refusals.{sumOrder, coarseRows, differs, parentRows, keptRows, refuseKept, refuseAfresh}
+use Rattle.coarse.specs.Refusals.{sumOrder, lengthRows, differs, storedRows, coarseRows}
+use Rattle.coarse.specs.Refusals.{refuseKept, refuseWorkOut}
 
 -- ---- of the lengths
 
 module _ (n : ℕ) (c : Coarse) where
-  pub wrong-counts : (length (c .counts) ≡ parents n → ⊥) → 28 ≡ firstOf sumOrder (coarseRows n c)
+  pub wrong-counts : (length (c .counts) ≡ parents n → ⊥) → 28 ≡ firstOf sumOrder (lengthRows n c)
   wrong-counts k =
-      refuse-first sumOrder (coarseRows n c) tt (here (rw (ne-eqb (length (c .counts)) (parents n) k)))
+      refuse-first sumOrder (lengthRows n c) tt (here (rw (ne-eqb (length (c .counts)) (parents n) k)))
 
-  pub wrong-sums : (length (c .sums) ≡ parents n → ⊥) → 28 ≡ firstOf sumOrder (coarseRows n c)
+  pub wrong-sums : (length (c .sums) ≡ parents n → ⊥) → 28 ≡ firstOf sumOrder (lengthRows n c)
   wrong-sums k =
-      refuse-first sumOrder (coarseRows n c) tt
+      refuse-first sumOrder (lengthRows n c) tt
       (here (either-right (not (eqb (length (c .counts)) (parents n))) _
       (rw (ne-eqb (length (c .sums)) (parents n) k))))
 
-  pub coarse-good : NoneSo (coarseRows n c) ↔ ((length (c .counts) ≡ parents n) × (length (c .sums) ≡ parents n))
-  coarse-good = (
+  pub lengths-good : NoneSo (lengthRows n c)
+      ↔ ((length (c .counts) ≡ parents n) × (length (c .sums) ≡ parents n))
+  lengths-good = (
     λ z.
         let k = either-false (not (eqb (length (c .counts)) (parents n))) _ .0 (z .0) in
         (eqb-true _ _ (not-false _ (k .0)), eqb-true _ _ (not-false _ (k .1))),
@@ -43,15 +45,15 @@ module _ (n : ℕ) (c : Coarse) where
   )
 
   pub right-lengths : length (c .counts) ≡ parents n → length (c .sums) ≡ parents n
-      → 0 ≡ firstOf sumOrder (coarseRows n c)
-  right-lengths e g = sym (none-so sumOrder (coarseRows n c) tt .1 (coarse-good .1 (e, g)))
+      → 0 ≡ firstOf sumOrder (lengthRows n c)
+  right-lengths e g = sym (none-so sumOrder (lengthRows n c) tt .1 (lengths-good .1 (e, g)))
 
-  pub lengths-good : firstOf sumOrder (coarseRows n c) ≡ 0
+  pub right-long : firstOf sumOrder (lengthRows n c) ≡ 0
       → (length (c .counts) ≡ parents n) × (length (c .sums) ≡ parents n)
-  lengths-good z = coarse-good .0 (none-so sumOrder (coarseRows n c) tt .0 z)
+  right-long z = lengths-good .0 (none-so sumOrder (lengthRows n c) tt .0 z)
 
-  pub coarse-not-23 : firstOf sumOrder (coarseRows n c) ≡ 23 → ⊥
-  coarse-not-23 = not-given sumOrder (coarseRows n c) 22 tt
+  pub lengths-not-23 : firstOf sumOrder (lengthRows n c) ≡ 23 → ⊥
+  lengths-not-23 = not-given sumOrder (lengthRows n c) 22 tt
 
 -- ---- of the parent
 
@@ -63,10 +65,10 @@ pub record Stored (n : ℕ) (t : TriangleCode) (list : List ℤ) (c : Coarse) : 
   pub total : (n ≡ 0 → ⊥) → storedFor (parentOf t) (c .sums) ≡ sumIn (parentOf t) list
 
 module _ (n : ℕ) (t : TriangleCode) (list : List ℤ) (c : Coarse) where
-  pub stored : NoneSo (keptRows n t list c) ↔ Stored n t list c
+  pub stored : NoneSo (coarseRows n t list c) ↔ Stored n t list c
   stored = (
     λ z.
-        let g = coarse-good n c .0 (z .0, tt) in
+        let g = lengths-good n c .0 (z .0, tt) in
         let same : (n ≡ 0 → ⊥)
         → (not (eqb (storedFor (parentOf t) (c .counts)) (countIn (parentOf t) list)) ≡ false)
         × (not (eqb (storedFor (parentOf t) (c .sums)) (sumIn (parentOf t) list)) ≡ false) =
@@ -78,7 +80,7 @@ module _ (n : ℕ) (t : TriangleCode) (list : List ℤ) (c : Coarse) where
           count = λ some. eqb-true _ _ (not-false _ (same some .0));
           total = λ some. eqb-true _ _ (not-false _ (same some .1));
         },
-    λ s. (coarse-good n c .1 (s .counts-long, s .sums-long) .0, (row s (eqb n 0) refl, tt)),
+    λ s. (lengths-good n c .1 (s .counts-long, s .sums-long) .0, (row s (eqb n 0) refl, tt)),
   )
     where
       row : Stored n t list c → (b : Bool) → eqb n 0 ≡ b
@@ -92,31 +94,31 @@ module _ (n : ℕ) (t : TriangleCode) (list : List ℤ) (c : Coarse) where
             eq-eqb (storedFor (parentOf t) (c .sums)) (sumIn (parentOf t) list) (s .total some),
           ) refl
 
-  pub lengths-first : {f : ℕ} → f ≡ firstOf sumOrder (coarseRows n c) → (f ≡ 0 → ⊥)
-      → f ≡ firstOf sumOrder (keptRows n t list c)
-  lengths-first = refuse-before sumOrder sumOrder (coarseRows n c) (parentRows n t list c) tt tt
+  pub lengths-first : {f : ℕ} → f ≡ firstOf sumOrder (lengthRows n c) → (f ≡ 0 → ⊥)
+      → f ≡ firstOf sumOrder (coarseRows n t list c)
+  lengths-first = refuse-before sumOrder sumOrder (lengthRows n c) (storedRows n t list c) tt tt
 
-  module _ (z : firstOf sumOrder (coarseRows n c) ≡ 0) where
+  module _ (z : firstOf sumOrder (lengthRows n c) ≡ 0) where
     module _ (some : n ≡ 0 → ⊥) where
       pub other-count : (storedFor (parentOf t) (c .counts) ≡ countIn (parentOf t) list → ⊥)
-          → 29 ≡ firstOf sumOrder (keptRows n t list c)
+          → 29 ≡ firstOf sumOrder (coarseRows n t list c)
       other-count k =
-          refuse-after sumOrder sumOrder (coarseRows n c) (parentRows n t list c) tt tt z
+          refuse-after sumOrder sumOrder (lengthRows n c) (storedRows n t list c) tt tt z
           (here (rw (ne-eqb n 0 some, ne-eqb (storedFor (parentOf t) (c .counts)) (countIn (parentOf t) list) k)))
 
       pub other-sum : (storedFor (parentOf t) (c .sums) ≡ sumIn (parentOf t) list → ⊥)
-          → 29 ≡ firstOf sumOrder (keptRows n t list c)
+          → 29 ≡ firstOf sumOrder (coarseRows n t list c)
       other-sum k =
-          refuse-after sumOrder sumOrder (coarseRows n c) (parentRows n t list c) tt tt z
+          refuse-after sumOrder sumOrder (lengthRows n c) (storedRows n t list c) tt tt z
           (here (rw (ne-eqb n 0 some)
           (either-right (not (eqb (storedFor (parentOf t) (c .counts)) (countIn (parentOf t) list))) _
           (rw (ne-eqb (storedFor (parentOf t) (c .sums)) (sumIn (parentOf t) list) k)))))
 
-  pub none-kept : Stored n t list c → 0 ≡ firstOf sumOrder (keptRows n t list c)
-  none-kept s = sym (none-so sumOrder (keptRows n t list c) tt .1 (stored .1 s))
+  pub none-kept : Stored n t list c → 0 ≡ firstOf sumOrder (coarseRows n t list c)
+  none-kept s = sym (none-so sumOrder (coarseRows n t list c) tt .1 (stored .1 s))
 
-  pub kept-not-23 : firstOf sumOrder (keptRows n t list c) ≡ 23 → ⊥
-  kept-not-23 = not-given sumOrder (keptRows n t list c) 22 tt
+  pub coarse-not-23 : firstOf sumOrder (coarseRows n t list c) ≡ 23 → ⊥
+  coarse-not-23 = not-given sumOrder (coarseRows n t list c) 22 tt
 
 -- ---- a call's, after those of 2026-07
 
@@ -126,21 +128,21 @@ module _ (e : Deed) (d n : ℕ) (t : TriangleCode) (c : Chart) where
   unfolding refuseDeed refuseKept
   kept-first =
       refuse-before deskOrder sumOrder (deedRows e d n t (c .shared))
-      (keptRows n t (c .shared .readings) (c .coarse)) tt tt
+      (coarseRows n t (c .shared .readings) (c .coarse)) tt tt
 
   pub kept-then : refuseDeed e d n t (c .shared) ≡ 0
-      → firstOf sumOrder (keptRows n t (c .shared .readings) (c .coarse)) ≡ refuseKept e d n t c
+      → firstOf sumOrder (coarseRows n t (c .shared .readings) (c .coarse)) ≡ refuseKept e d n t c
   unfolding refuseDeed refuseKept
   kept-then =
       refuse-rest deskOrder sumOrder sumOrder (deedRows e d n t (c .shared))
-      (keptRows n t (c .shared .readings) (c .coarse)) tt tt tt
+      (coarseRows n t (c .shared .readings) (c .coarse)) tt tt tt
 
   pub kept-passed : (refuseKept e d n t c ≡ 0)
-      ↔ ((refuseDeed e d n t (c .shared) ≡ 0) × NoneSo (keptRows n t (c .shared .readings) (c .coarse)))
+      ↔ ((refuseDeed e d n t (c .shared) ≡ 0) × NoneSo (coarseRows n t (c .shared .readings) (c .coarse)))
   unfolding refuseDeed refuseKept
   kept-passed =
       none-after deskOrder sumOrder (deedRows e d n t (c .shared))
-      (keptRows n t (c .shared .readings) (c .coarse)) tt tt
+      (coarseRows n t (c .shared .readings) (c .coarse)) tt tt
 
 -- What an answered call that writes knows.
 pub record Kept (e : Deed) (d n : ℕ) (t : TriangleCode) (c : Chart) : Type 0 where
@@ -158,7 +160,7 @@ kept-known e d n t c z =
 -- ---- of working out afresh
 
 -- What it knows when it is answered.
-pub record Afresh (n : ℕ) (list : List ℤ) (c : Coarse) : Type 0 where
+pub record WorkedOut (n : ℕ) (list : List ℤ) (c : Coarse) : Type 0 where
   pub degree : n ≤ 6
   pub long : length list ≡ places n
   pub counts-long : length (c .counts) ≡ parents n
@@ -166,30 +168,30 @@ pub record Afresh (n : ℕ) (list : List ℤ) (c : Coarse) : Type 0 where
 
 module _ (n : ℕ) (list : List ℤ) (c : Coarse) where
   pub degree-first : {f : ℕ} → f ≡ firstOf tableOrder (largeRows n) → (f ≡ 0 → ⊥)
-      → f ≡ refuseAfresh n list c
-  unfolding refuseAfresh
-  degree-first = refuse-before tableOrder sumOrder (largeRows n) (tableRows n list ++ coarseRows n c) tt tt
+      → f ≡ refuseWorkOut n list c
+  unfolding refuseWorkOut
+  degree-first = refuse-before tableOrder sumOrder (largeRows n) (tableRows n list ++ lengthRows n c) tt tt
 
   module _ (z : firstOf tableOrder (largeRows n) ≡ 0) where
-    rest : firstOf sumOrder (tableRows n list ++ coarseRows n c) ≡ refuseAfresh n list c
-    unfolding refuseAfresh
-    rest = refuse-rest tableOrder sumOrder sumOrder (largeRows n) (tableRows n list ++ coarseRows n c) tt tt tt z
+    rest : firstOf sumOrder (tableRows n list ++ lengthRows n c) ≡ refuseWorkOut n list c
+    unfolding refuseWorkOut
+    rest = refuse-rest tableOrder sumOrder sumOrder (largeRows n) (tableRows n list ++ lengthRows n c) tt tt tt z
 
     pub list-first : {f : ℕ} → f ≡ firstOf tableOrder (tableRows n list) → (f ≡ 0 → ⊥)
-        → f ≡ refuseAfresh n list c
-    list-first e some = refuse-before tableOrder sumOrder (tableRows n list) (coarseRows n c) tt tt e some ∙ rest
+        → f ≡ refuseWorkOut n list c
+    list-first e some = refuse-before tableOrder sumOrder (tableRows n list) (lengthRows n c) tt tt e some ∙ rest
 
     pub lengths-last : firstOf tableOrder (tableRows n list) ≡ 0
-        → firstOf sumOrder (coarseRows n c) ≡ refuseAfresh n list c
+        → firstOf sumOrder (lengthRows n c) ≡ refuseWorkOut n list c
     lengths-last y =
-        refuse-rest tableOrder sumOrder sumOrder (tableRows n list) (coarseRows n c) tt tt tt y ∙ rest
+        refuse-rest tableOrder sumOrder sumOrder (tableRows n list) (lengthRows n c) tt tt tt y ∙ rest
 
-  pub afresh-passed : refuseAfresh n list c ≡ 0 → Afresh n list c
-  unfolding refuseAfresh
-  afresh-passed q =
-      let z = none-after tableOrder sumOrder (largeRows n) (tableRows n list ++ coarseRows n c) tt tt .0 q in
+  pub work-out-passed : refuseWorkOut n list c ≡ 0 → WorkedOut n list c
+  unfolding refuseWorkOut
+  work-out-passed q =
+      let z = none-after tableOrder sumOrder (largeRows n) (tableRows n list ++ lengthRows n c) tt tt .0 q in
       let g = list-good n list .0 (z .1 .0, (z .1 .1 .0, tt)) in
-      let k = coarse-good n c .0 (z .1 .1 .1) in
+      let k = lengths-good n c .0 (z .1 .1 .1) in
       record {
         degree = large n refl .small (z .0);
         long = g .0;

@@ -32,10 +32,6 @@ pub sum-one : (x : ℕ) → x ≡ sum (x ∷ [])
 unfolding sum
 sum-one x = omega arith
 
-pub sum-nothing : 0 ≡ sum []
-unfolding sum
-sum-nothing = refl
-
 -- what is said of a number that was read, whatever stands past the end of the list
 pub read : {A : Type 0} (f : ℤ → A) (list : List ℤ) (i : ℕ) {r : A} → i < length list
     → r ≡ f (getD list i (pos 0)) → r ≡ f (getD list i none)

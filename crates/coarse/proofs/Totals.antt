@@ -1,9 +1,9 @@
 -- The total over all parents is that of the list's readings, and these are the ones that the history of calls tells.
 -- Assumes nothing.
 use mathlib.Core.Path.{_≡_, _∙_, refl, sym, ap}
-use mathlib.Core.Bool.{Bool, true, false, _&&_, cond}
+use mathlib.Core.Bool.{Bool, true, false, cond}
 use mathlib.Core.List.{List, [], _∷_}
-use Prim.Native.Nat.{ℕ, zero, suc, _*_, _^_, _≤_, _<_}
+use Prim.Native.Nat.{ℕ, zero, suc, _*_, _≤_}
 use native.Mathlib.Nat.{pow-suc}
 use native.Mathlib.Omega.{arith}
 use borrow.Author.Tests.{eqb-true}
@@ -12,7 +12,6 @@ use lib.IntN.{ℤ}
 use lib.ListN.{length, getD, getD-replicate}
 use lib.Seq.{take-all}
 use Rattle.frame.specs.Answers.{settled}
-use Rattle.frame.specs.Lists.{below}
 use Rattle.frame.proofs.Below.{is-below}
 use Rattle.words.specs.Refusals.{IsCode}
 use Rattle.words.specs.Counting.{codeAt, placeOf}
@@ -20,28 +19,26 @@ use Rattle.words.specs.declared.TriangleCode.{TriangleCode}
 use Rattle.words.proofs.CodeCount.{place-below, code-at, place-at}
 use Rattle.net.specs.Division.{sum}
 use Rattle.tables.specs.Tables.{places, none, said, number, numberAt}
-use Rattle.tables.specs.Owners.{Shared, IsShared, freshShared, Held, held, heldAt, heldAfter, soundingAfter}
+use Rattle.tables.specs.Owners.{Shared, IsShared, freshShared, Held, heldAt, heldAfter, soundingAfter}
 use Rattle.tables.specs.Answers.{tableAnswer}
-use Rattle.tables.specs.Histories.{Call, asks, does, Answered, done, doing, answers, after, onTable, triangleOf}
-use Rattle.tables.specs.Histories.{refuseDeedOnMap, onHeld}
-use Rattle.tables.specs.declared.Sounding.{Sounding}
-use Rattle.tables.specs.declared.Sounding.the-variants.{Nothing}
+use Rattle.tables.specs.Histories.{Call, asks, does, Answered, done, answers, after, onTable, triangleOf}
+use Rattle.tables.specs.Histories.{refuseDeedOnMap}
 use Rattle.tables.specs.declared.Deed.{Deed}
 use Rattle.tables.specs.declared.TableAnswer.{TableAnswer}
 use Rattle.tables.proofs.Numbers.{number-said}
 use Rattle.tables.proofs.Holding.{begun}
 use Rattle.tables.proofs.SimpleMaps.{turned}
 use Rattle.coarse.specs.Sums.{present, presentIn, everyParent, Coarse, Chart, freshChart}
-use Rattle.coarse.specs.Histories.{onChart, Soundings, noReadings, told, toldBy, presentBy}
+use Rattle.coarse.specs.Histories.{onChart, Told, noReadings, told, toldBy, presentBy}
 use Rattle.coarse.specs.Promises.{AreTrue, Totals}
 use Rattle.coarse.proofs.Adding.{Additive, counting, summing, of-fours}
-use Rattle.coarse.proofs.Children.{four-each, every-parent}
+use Rattle.coarse.proofs.Children.{every-parent}
 use Rattle.coarse.proofs.Truths.{after-beside, answers-beside, fresh-true}
 
 -- ---- over all parents
 
-over-parents : {g : List ℕ → ℕ} → Additive g → (n : ℕ) (list : List ℤ) → 1 ≤ n → n ≤ 6 → length list ≡ places n
-    → sum (everyParent n (λ p. g (presentIn p list))) ≡ g (present list)
+over-parents : {g : List ℕ → ℕ} → Additive g → (n : ℕ) (list : List ℤ) → 1 ≤ n → n ≤ 6
+    → length list ≡ places n → sum (everyParent n (λ p. g (presentIn p list))) ≡ g (present list)
 over-parents add zero list o l e = absurd (omega (arith, o))
 over-parents {g} add (suc n) list o l e =
     let w : 4 * places n ≡ length list = omega (arith, e, pow-suc 4 n) in
@@ -62,11 +59,11 @@ module _ (n : ℕ) (c : Chart) (o : 1 ≤ n) (is : IsShared n (c .shared)) (tr :
 
 -- ---- what the history tells
 
-abbrev Tells : ℕ → Shared → Soundings → Type 0
+abbrev Tells : ℕ → Shared → Told → Type 0
 Tells n s map = (u : TriangleCode) → IsCode n u → said (numberAt u (s .readings)) ≡ map u
 
 -- what is left for u, and what is told of it
-told-left : (e : Deed) (d m : ℕ) (t u : TriangleCode) (s : Shared) (map : Soundings) (f : ℕ)
+told-left : (e : Deed) (d m : ℕ) (t u : TriangleCode) (s : Shared) (map : Told) (f : ℕ)
     → said (numberAt u (s .readings)) ≡ map u
     → (let h = heldAt t s in
     let x = settled {A = TableAnswer × Held} f (tableAnswer 0 0, heldAfter e d h) (λ k. (tableAnswer k 0, h)) in
@@ -88,7 +85,7 @@ told-left e d m t u s map f a = go f (eqb (u .0) (t .0)) refl
     go (suc f) false b = rw (b, eqb·suc-zero f) a
 
 -- one call
-tells-next : {n : ℕ} (x : Call) (s : Shared) (map : Soundings) → IsShared n s → Tells n s map
+tells-next : {n : ℕ} (x : Call) (s : Shared) (map : Told) → IsShared n s → Tells n s map
     → Tells n (onTable x s .1) (told x (onTable x s .0) map)
 tells-next (asks d m t) s map is a = a
 tells-next {n} (does e d m t) s map is a = λ u cu.
@@ -99,7 +96,7 @@ tells-next {n} (does e d m t) s map is a = λ u cu.
     ∙ ap (λ (r : Answered). told (does e d m t) r map u) (sym (w .answer))
 
 -- any calls
-tells-after : {n : ℕ} (cs : List Call) (s : Shared) (map : Soundings) → IsShared n s → Tells n s map
+tells-after : {n : ℕ} (cs : List Call) (s : Shared) (map : Told) → IsShared n s → Tells n s map
     → Tells n (after onTable cs s) (toldBy cs (answers onTable cs s) map)
 unfolding after answers toldBy
 tells-after [] s map is a = a
@@ -108,7 +105,7 @@ tells-after (x ∷ cs) s map is a =
     (turned is x (heldAt (triangleOf x) s) (λ _. refl) .is) (tells-next x s map is a)
 
 -- the readings in the list are those
-present-told : {n : ℕ} (s : Shared) (map : Soundings) → IsShared n s → Tells n s map
+present-told : {n : ℕ} (s : Shared) (map : Told) → IsShared n s → Tells n s map
     → present (s .readings) ≡ presentBy n map
 unfolding presentBy
 present-told {n} s map is a =
@@ -127,7 +124,8 @@ module _ (n : ℕ) (l : n ≤ 6) (cs : List Call) where
       present-told (after onTable cs (freshShared n)) _ (rw (sym (b .same)) (b .is))
       (tells-after cs (freshShared n) noReadings (begun n l)
       (λ u cu. ap said (getD-replicate (places n) (placeOf u) none none (place-below cu))))
-      ∙ ap (λ (rs : List Answered). presentBy n (toldBy cs rs noReadings)) (sym (answers-beside (begun n l) (fresh-true n l) cs))
+      ∙ ap (λ (rs : List Answered). presentBy n (toldBy cs rs noReadings))
+      (sym (answers-beside (begun n l) (fresh-true n l) cs))
 
 pub totals : Totals
 totals = record {

@@ -4,6 +4,7 @@ use mathlib.Core.Bool.{Bool, true, false, not, _&&_}
 use mathlib.Core.Logic.{⊎-elim}
 use mathlib.Core.List.{List, [], _∷_}
 use Prim.Native.Nat.{ℕ, zero, suc, _≤_, _<_}
+use native.Mathlib.Nat.{pos-of-ne-zero}
 use native.Mathlib.Omega.{arith}
 use borrow.Author.Tests.{eq-eqb, eqb-true}
 use lib.Dec.{eqb}
@@ -26,23 +27,26 @@ use Rattle.net.specs.Division.{sum}
 use Rattle.tables.specs.Tables.{places, none, said, number, numberAt, fresh}
 use Rattle.tables.specs.Owners.{Shared, IsShared, heldAt, soundingAfter, sharedAfter}
 use Rattle.tables.specs.Refusals.{deskOrder, deedRows, refuseDeed}
-use Rattle.tables.specs.Answers.{tableAnswer, carriedOut, refusedDeed, DeedAnswer}
-use Rattle.tables.specs.Histories.{Call, asks, does, done, answers, after, doing, onTable, seen}
+use Rattle.tables.specs.Answers.{carriedOut, refusedDeed, DeedAnswer}
+use Rattle.tables.specs.Histories.{Call, asks, does, answers, after, doing, onTable, seen}
 use Rattle.tables.specs.declared.Deed.{Deed}
 use Rattle.tables.specs.declared.TableAnswer.{TableAnswer}
 use Rattle.tables.proofs.Places.{same-places}
 use Rattle.tables.proofs.Deeds.{Owned, deed-passed}
-use Rattle.tables.proofs.Holding.{begun}
+use Rattle.tables.proofs.Holding.{same-degree, begun}
 use Rattle.tables.proofs.Alike.{alike-answers, alike-after, alike-seen}
 use Rattle.tables.proofs.SimpleMaps.{turned}
 use Rattle.coarse.specs.Sums.{present, presentIn, parents, Coarse, coarse, storedFor, everyParent, trueCoarse}
-use Rattle.coarse.specs.Sums.{Chart, chart, freshChart, kept, coarseAfter, chartAfter}
-use Rattle.coarse.specs.Refusals.{sumOrder, differs, keptRows, refuseKept}
+use Rattle.coarse.specs.Sums.{Chart, freshChart, kept, coarseAfter, chartAfter}
+use Rattle.coarse.specs.Refusals.{sumOrder, lengthRows, differs, coarseRows, refuseKept}
 use Rattle.coarse.specs.Answers.{keptOut, refusedKept, KeptAnswer}
 use Rattle.coarse.specs.Histories.{onChart}
-use Rattle.coarse.specs.Promises.{AreTrue, SumsKept, AsBefore}
-use Rattle.coarse.proofs.Tallying.{sum-nothing}
+use Rattle.coarse.specs.Promises.{AreTrue, SumsKept, Concerned, AsBefore}
+use Rattle.coarse.proofs.Adding.{summing}
+use Rattle.coarse.proofs.Children.{same-in}
 use Rattle.coarse.proofs.Refused.{Stored, stored, kept-first, kept-then, kept-passed, kept-known}
+use Rattle.coarse.proofs.Refused.{wrong-counts, wrong-sums, right-lengths, lengths-first}
+use Rattle.coarse.proofs.Refused.{other-count, other-sum, none-kept}
 use Rattle.coarse.proofs.Answers.{one-answer, each-kept}
 
 -- ---- the list of what f says of every parent
@@ -74,12 +78,6 @@ true-stored n t list c l = record {
     same zero c l g some = absurd (some refl)
     same (suc n) c l g some = stored-parent n (λ p. g (presentIn p list)) (up c (omega (arith, l)) .code)
 
--- the degree that an answered call names is the table's
-pub same-degree : {m n : ℕ} {s : Shared} → IsShared m s → IsShared n s → m ≡ n
-same-degree {m} {n} a b =
-    eqb-true m n
-    (sym (same-places m n) ∙ eq-eqb (places n) (places m) (sym (b .table .long) ∙ a .table .long))
-
 module _ {n : ℕ} {c : Chart} (is : IsShared n (c .shared)) where
   -- a call is refused as in 2026-07 where its own parent's count and sum are those of its children
   pub as-deed : (e : Deed) (d m : ℕ) (t : TriangleCode)
@@ -93,8 +91,9 @@ module _ {n : ℕ} {c : Chart} (is : IsShared n (c .shared)) where
       answered z =
           let o = deed-passed e d m t (c .shared) z in
           let q : m ≡ n = same-degree (o .is) is in
+          let code : IsCode n t = rw q at (o .passed .code) in
           let k : Stored m t (c .shared .readings) (c .coarse) =
-          subst (λ (j : ℕ). Stored j t (c .shared .readings) (c .coarse)) (sym q) (right (rw q at (o .passed .code))) in
+          subst (λ (j : ℕ). Stored j t (c .shared .readings) (c .coarse)) (sym q) (right code) in
           kept-passed e d m t c .1 (z, stored m t (c .shared .readings) (c .coarse) .1 k)
 
   module _ (tr : AreTrue n c) where
@@ -114,14 +113,11 @@ pub same-children : {n : ℕ} {q t : TriangleCode} (e : Deed) (d : ℕ) (s : Sha
     → n < 24 → (placeOf q ≡ placeOf (parentOf t) → ⊥)
     → presentIn q (sharedAfter e d t s .readings) ≡ presentIn q (s .readings)
 same-children {n} {q} {t} e d s c k l f =
-    λ i. present (at 0 (omega arith) i ∷ at 1 (omega arith) i ∷ at 2 (omega arith) i ∷ at 3 (omega arith) i ∷ [])
-  where
-    at : (j : ℕ) → j ≤ 3
-        → numberAt (childOf q j) (sharedAfter e d t s .readings) ≡ numberAt (childOf q j) (s .readings)
-    at j h =
-        getD-set-other (s .readings) (placeOf t) (placeOf (childOf q j))
-        (number (soundingAfter e (said (numberAt t (s .readings))))) none
-        (λ w. f (omega (arith, w, child-place c l j h, up k l .place, up k l .small, h)))
+    same-in q (sharedAfter e d t s .readings) (s .readings)
+    (λ j h.
+    getD-set-other (s .readings) (placeOf t) (placeOf (childOf q j))
+    (number (soundingAfter e (said (numberAt t (s .readings))))) none
+    (λ w. f (omega (arith, w, child-place c l j h, up k l .place, up k l .small, h))))
 
 kept-true : (g : List ℕ → ℕ) (e : Deed) (d n : ℕ) (t : TriangleCode) (s : Shared) → IsCode n t → n ≤ 6
     → (let list = sharedAfter e d t s .readings in
@@ -226,10 +222,8 @@ module _ {n : ℕ} {c : Chart} (is : IsShared n (c .shared)) (tr : AreTrue n c) 
 
 fresh-in : {n : ℕ} {q : TriangleCode} → IsCode n q → n < 24 → presentIn q (fresh (suc n)) ≡ []
 fresh-in {n} {q} c l =
-    λ i. present (at 0 (omega arith) i ∷ at 1 (omega arith) i ∷ at 2 (omega arith) i ∷ at 3 (omega arith) i ∷ [])
-  where
-    at : (j : ℕ) → j ≤ 3 → numberAt (childOf q j) (fresh (suc n)) ≡ none
-    at j h = getD-replicate (places (suc n)) (placeOf (childOf q j)) none none (place-below (child-code c l j h))
+    same-in q (fresh (suc n)) []
+    (λ j h. getD-replicate (places (suc n)) (placeOf (childOf q j)) none none (place-below (child-code c l j h)))
 
 fresh-list : (g : List ℕ → ℕ) → g [] ≡ 0 → (n : ℕ) → n ≤ 6
     → replicate (parents n) 0 ≡ everyParent n (λ p. g (presentIn p (fresh n)))
@@ -240,7 +234,7 @@ fresh-list g z (suc n) l =
     (λ i k. ap g (fresh-in (code-at n i (omega arith) k) (omega arith)) ∙ z)
 
 pub fresh-true : (n : ℕ) → n ≤ 6 → AreTrue n (freshChart n)
-fresh-true n l = λ i. coarse (fresh-list length refl n l i) (fresh-list sum (sym sum-nothing) n l i)
+fresh-true n l = λ i. coarse (fresh-list length refl n l i) (fresh-list sum (summing .nothing) n l i)
 
 -- ---- what is promised
 
@@ -248,7 +242,11 @@ pub sums-kept : SumsKept
 sums-kept = record {
   deed = λ e d n t c r new p.
       ap doing (sym (known-settled (refuseKept e d n t c) (keptOut e d n t c) (refusedKept c) (r, new) p));
-  keeps = λ n c is tr cs. after-beside is tr cs .tr;
+  keeps = λ n c is tr cs. let b = after-beside is tr cs in (b .is, b .tr);
+  each = λ n c tr p k. (
+    ap (λ (x : Coarse). storedFor p (x .counts)) tr ∙ stored-parent n _ k,
+    ap (λ (x : Coarse). storedFor p (x .sums)) tr ∙ stored-parent n _ k,
+  );
   begun = λ n l. (begun n l, fresh-true n l);
   opened = λ n s c new r p z.
       ap (λ (x : TableAnswer × Coarse). x .1)
@@ -258,15 +256,16 @@ sums-kept = record {
 
 -- one call that is neither 28 nor 29 is refused as in 2026-07
 module _ (e : Deed) (d n : ℕ) (t : TriangleCode) (c : Chart) where
-  kept-only : (f : ℕ) → f ≡ firstOf sumOrder (keptRows n t (c .shared .readings) (c .coarse))
+  kept-only : (f : ℕ) → f ≡ firstOf sumOrder (coarseRows n t (c .shared .readings) (c .coarse))
       → (f ≡ 28 → ⊥) → (f ≡ 29 → ⊥) → f ≡ 0
   kept-only f q =
       let x = c .coarse in
       go (not (eqb (length (x .counts)) (parents n)) either not (eqb (length (x .sums)) (parents n)))
       (not (eqb n 0) && differs (parentOf t) (c .shared .readings) x)
-      (q ∙ in-turn sumOrder (keptRows n t (c .shared .readings) x) tt)
+      (q ∙ in-turn sumOrder (coarseRows n t (c .shared .readings) x) tt)
     where
-      go : (a b : Bool) → f ≡ inTurn (28 when a ∷ 29 when b ∷ []) → (f ≡ 28 → ⊥) → (f ≡ 29 → ⊥) → f ≡ 0
+      go : (a b : Bool) → f ≡ inTurn (28 when a ∷ 29 when b ∷ []) → (f ≡ 28 → ⊥) → (f ≡ 29 → ⊥)
+          → f ≡ 0
       go true b q k l = absurd (k q)
       go false true q k l = absurd (l q)
       go false false q k l = q
@@ -289,8 +288,38 @@ module _ (e : Deed) (d n : ℕ) (t : TriangleCode) (c : Chart) where
             ap seen-of (p .refused (λ z. some (sym same ∙ z))) ∙ ap (refusedDeed (c .shared)) same;
       }
 
+-- by the lengths and the parent concerned
+concerned : (e : Deed) (d n : ℕ) (t : TriangleCode) (c : Chart) → Concerned e d n t c
+concerned e d n t c = record {
+  before = λ some. sym (kept-first e d n t c refl some);
+  counts = λ z k. by-length z (wrong-counts n (c .coarse) k);
+  sums = λ z k. by-length z (wrong-sums n (c .coarse) k);
+  count = λ z l m o k.
+      sym (other-count n t list (c .coarse) (sym (right-lengths n (c .coarse) l m)) (λ q. omega (arith, o, q)) k
+      ∙ kept-then e d n t c z);
+  total = λ z l m o k.
+      sym (other-sum n t list (c .coarse) (sym (right-lengths n (c .coarse) l m)) (λ q. omega (arith, o, q)) k
+      ∙ kept-then e d n t c z);
+  answered = λ z l m p q.
+      sym (none-kept n t list (c .coarse) (record {
+        counts-long = l;
+        sums-long = m;
+        count = λ some. p (pos-of-ne-zero some);
+        total = λ some. q (pos-of-ne-zero some);
+      })
+      ∙ kept-then e d n t c z);
+}
+  where
+    list : List ℤ
+    list = c .shared .readings
+
+    by-length : refuseDeed e d n t (c .shared) ≡ 0 → 28 ≡ firstOf sumOrder (lengthRows n (c .coarse))
+        → refuseKept e d n t c ≡ 28
+    by-length z q = sym (lengths-first n t list (c .coarse) q (λ w. omega (arith, w)) ∙ kept-then e d n t c z)
+
 pub as-before : AsBefore
 as-before = record {
+  refusal = concerned;
   call = called;
   answered = λ n c is tr cs. answers-beside is tr cs;
   left = λ n c is tr cs. after-beside is tr cs .same;

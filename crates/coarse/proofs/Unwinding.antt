@@ -4,7 +4,7 @@ use mathlib.Core.Path.{_≡_, _∙_, refl, sym, ap, subst}
 use mathlib.Core.Bool.{Bool, true, false}
 use mathlib.Core.Logic.{⊎-elim}
 use mathlib.Core.List.{List, [], _∷_, _++_}
-use Prim.Native.Nat.{ℕ, zero, suc, _≤_, _<_}
+use Prim.Native.Nat.{ℕ, zero, suc, _≤_}
 use native.Mathlib.Omega.{arith}
 use borrow.Author.Tests.{eqb-true, eqb-false}
 use lib.Dec.{eqb}
@@ -19,14 +19,13 @@ use Rattle.words.specs.declared.TriangleCode.{TriangleCode}
 use Rattle.words.proofs.CodeCount.{place-below, at-place}
 use Rattle.words.proofs.ChildPlaces.{up}
 use Rattle.net.specs.Division.{sum}
-use Rattle.tables.specs.Tables.{places}
 use Rattle.tables.specs.Owners.{isDesk, ownerAt, Shared, IsShared, Held, heldAt, sharedAfter}
-use Rattle.tables.specs.Refusals.{refuseDeed}
-use Rattle.tables.specs.Histories.{Call, asks, does, after, onTable, onHeld, triangleOf}
+use Rattle.tables.specs.Histories.{Call, asks, does, after, onHeld}
 use Rattle.tables.specs.Histories.{isAbout, callsAbout, seen}
 use Rattle.tables.specs.declared.Deed.{Deed}
 use Rattle.tables.specs.declared.Deed.the-variants.{Taking}
 use Rattle.tables.proofs.Deeds.{Owned}
+use Rattle.tables.proofs.Holding.{same-degree}
 use Rattle.tables.proofs.Alike.{after-append}
 use Rattle.tables.proofs.SimpleMaps.{turned}
 use Rattle.tables.proofs.Unwinding as tables
@@ -35,8 +34,8 @@ use Rattle.coarse.specs.Refusals.{refuseKept}
 use Rattle.coarse.specs.Answers.{keptOut, refusedKept}
 use Rattle.coarse.specs.Histories.{onChart}
 use Rattle.coarse.specs.Promises.{Apart}
-use Rattle.coarse.proofs.Refused.{Stored, Kept, kept-passed, kept-known}
-use Rattle.coarse.proofs.Truths.{as-deed, same-children, same-degree, same-turn}
+use Rattle.coarse.proofs.Refused.{Stored, kept-passed, kept-known}
+use Rattle.coarse.proofs.Truths.{as-deed, same-children, same-turn}
 
 -- ---- what is stored for t's parent, when a call about u is answered
 
@@ -47,7 +46,8 @@ length-kept (suc n) t f list = length-set list (placeOf (parentOf t)) (f (parent
 
 stays : (g : List ℕ → ℕ) (n : ℕ) (t u : TriangleCode) (e : Deed) (d : ℕ) (s : Shared) (list : List ℕ)
     → IsCode n t → IsCode n u → n ≤ 6 → length list ≡ parents n
-    → ((n ≡ 0 → ⊥) → storedFor (parentOf t) list ≡ g (presentIn (parentOf t) (s .readings))) → (n ≡ 0 → ⊥)
+    → ((n ≡ 0 → ⊥) → storedFor (parentOf t) list ≡ g (presentIn (parentOf t) (s .readings)))
+    → (n ≡ 0 → ⊥)
     → (let new = sharedAfter e d u s .readings in
     storedFor (parentOf t) (kept n u (λ p. g (presentIn p new)) list) ≡ g (presentIn (parentOf t) new))
 stays g zero t u e d s list ct cu l long right some = absurd (some refl)
@@ -67,8 +67,9 @@ stays g (suc n) t u e d s list ct cu l long right some =
         let w = eqb-true (placeOf (parentOf t)) (placeOf (parentOf u)) b in
         let same : parentOf u ≡ parentOf t = sym (at-place q) ∙ ap (codeAt n) (sym w) ∙ at-place p in
         let new = sharedAfter e d u s .readings in
-        ap (λ (x : TriangleCode). storedFor x (set list (placeOf (parentOf u)) (g (presentIn (parentOf u) new)))) (sym same)
-        ∙ getD-set-same list (placeOf (parentOf u)) (g (presentIn (parentOf u) new)) 0 (rw long (place-below q))
+        let v = g (presentIn (parentOf u) new) in
+        ap (λ (x : TriangleCode). storedFor x (set list (placeOf (parentOf u)) v)) (sym same)
+        ∙ getD-set-same list (placeOf (parentOf u)) v 0 (rw long (place-below q))
         ∙ ap (λ (x : TriangleCode). g (presentIn x new)) same
     go false b =
         let w = eqb-false (placeOf (parentOf t)) (placeOf (parentOf u)) b in
@@ -90,7 +91,8 @@ right-after {n} {t} (does e d m u) c is ct k = go (refuseKept e d m u c) (λ z. 
         let q : m ≡ n = same-degree (o .is) is in
         let cu : IsCode n u = rw q at (o .passed .code) in
         let l = is .table .degree in
-        subst (λ (j : ℕ). (let new = chartAfter e d j u c in Stored n t (new .shared .readings) (new .coarse))) (sym q)
+        subst
+        (λ (j : ℕ). (let new = chartAfter e d j u c in Stored n t (new .shared .readings) (new .coarse))) (sym q)
         (record {
           counts-long = length-kept n u _ (c .coarse .counts) ∙ k .counts-long;
           sums-long = length-kept n u _ (c .coarse .sums) ∙ k .sums-long;
@@ -155,7 +157,8 @@ module _ (n d : ℕ) (t : TriangleCode) (ct : IsCode n t) (k : isDesk d ≡ true
       → Stored n t (c .shared .readings) (c .coarse)
       → seen onChart d t cs c ≡ seen (onHeld n) d t (callsAbout d t cs) (heldAt t (c .shared))
   seen-is cs c is o right =
-      tables.unwound d n t onChart Has own other cs c (heldAt t (c .shared)) (record { held = (is, refl); right = right }) o
+      tables.unwound d n t onChart Has own other cs c (heldAt t (c .shared))
+      (record { held = (is, refl); right = right }) o
 
 -- ---- after taking
 

@@ -11,7 +11,7 @@ use Rattle.tables.specs.declared.Deed.{Deed}
 use Rattle.tables.specs.declared.Deed.the-variants.{Taking, Setting, Clearing, Giving}
 use Rattle.tables.specs.declared.TableAnswer.{TableAnswer}
 use Rattle.coarse.specs.Sums.{Coarse, trueCoarse, Chart, chartAfter}
-use Rattle.coarse.specs.Refusals.{refuseKept, refuseAfresh}
+use Rattle.coarse.specs.Refusals.{refuseKept, refuseWorkOut}
 
 -- ---- the calls that write: the answer together with all four lists
 
@@ -43,8 +43,8 @@ GiveAnswer = KeptAnswer Giving
 abbrev pub workedOut : (degree : ℕ) → List ℤ → TableAnswer × Coarse
 workedOut n list = (tableAnswer 0 0, trueCoarse n list)
 
-abbrev pub refusedAfresh : List ℤ → Coarse → (refusal : ℕ) → TableAnswer × Coarse
-refusedAfresh list c f = (refused list f, c)
+abbrev pub refusedWorkOut : List ℤ → Coarse → (refusal : ℕ) → TableAnswer × Coarse
+refusedWorkOut list c f = (refused list f, c)
 
-abbrev pub AfreshAnswer : (degree : ℕ) → List ℤ → Coarse → TableAnswer → Coarse → Type 0
-AfreshAnswer n list c r new = Known (refuseAfresh n list c) (workedOut n list) (refusedAfresh list c) (r, new)
+abbrev pub WorkOutAnswer : (degree : ℕ) → List ℤ → Coarse → TableAnswer → Coarse → Type 0
+WorkOutAnswer n list c r new = Known (refuseWorkOut n list c) (workedOut n list) (refusedWorkOut list c) (r, new)

@@ -14,8 +14,8 @@ use Rattle.tables.specs.Examples.{takes, sets, clears, gets, ok, millimetres, b
 use Rattle.tables.specs.DeskExamples.{givesBack, no}
 use Rattle.tables.specs.declared.Deed.the-variants.{Taking, Setting, Clearing, Giving}
 use Rattle.coarse.specs.Sums.{Coarse, coarse, Chart, chart, freshChart}
-use Rattle.coarse.specs.Refusals.{refuseKept, refuseAfresh}
-use Rattle.coarse.specs.Answers.{TakeAnswer, SetAnswer, ClearAnswer, GiveAnswer, AfreshAnswer}
+use Rattle.coarse.specs.Refusals.{refuseKept, refuseWorkOut}
+use Rattle.coarse.specs.Answers.{TakeAnswer, SetAnswer, ClearAnswer, GiveAnswer, WorkOutAnswer}
 use Rattle.coarse.specs.Histories.{onChart, noReadings, toldBy, presentBy}
 
 -- ---- how examples are written
@@ -76,17 +76,26 @@ pub record Examples : Type 0 where
         tableAnswer 0 0,
         chart (shared (none ∷ pos 0 ∷ pos 7 ∷ replicate 77 none) (0 ∷ replicate 79 1)) (two 2 0 7 0),
       )
-  -- 29 until the sums are worked out, and other parents do not matter
-  pub mended :
+  -- a free triangle that has a reading is taken with it
+  pub take-free : TakeAnswer 2 1 (written 1000)
+      (chart (shared (pos 5 ∷ replicate 79 none) (replicate 80 0)) (two 1 0 5 0))
+      leaves (tableAnswer 0 0, chart (shared (pos 5 ∷ replicate 79 none) (2 ∷ replicate 79 0)) (two 1 0 5 0))
+  -- 29 where the parent's count is off; a call on another parent's child, and get, are answered
+  pub off :
       answers onChart (sets 1 1 1000 5 ∷ sets 1 1 1010 5 ∷ gets 1 1 1000 ∷ []) miscounted
       ≡ no 29 ∷ ok ∷ millimetres 100 ∷ []
+  -- the parent has all digits but the last
+  pub degree-2 : after onChart (takes 1 2 10012 ∷ sets 1 2 10012 7 ∷ []) (freshChart 2) .coarse
+      ≡ coarse (0 ∷ 1 ∷ replicate 78 0) (0 ∷ 7 ∷ replicate 78 0)
   -- worked out afresh they come to the same, whatever lay there
-  pub afresh : AfreshAnswer 1 (three .shared .readings) (coarse (replicate 20 9) (replicate 20 9))
+  pub afresh : WorkOutAnswer 1 (three .shared .readings) (coarse (replicate 20 9) (replicate 20 9))
       leaves (tableAnswer 0 0, two 3 0 107 0)
+  pub afresh-miscounted : WorkOutAnswer 1 (miscounted .shared .readings) (miscounted .coarse)
+      leaves (tableAnswer 0 0, three .coarse)
   -- "For tables of degree 0 the lists are empty."
   pub degree-0 : after onChart (takes 1 0 100 ∷ sets 1 0 100 5 ∷ []) (freshChart 0)
       ≡ chart (shared (pos 5 ∷ replicate 19 none) (1 ∷ replicate 19 0)) (coarse [] [])
-  pub afresh-0 : AfreshAnswer 0 (pos 5 ∷ replicate 19 none) (coarse [] []) leaves (tableAnswer 0 0, coarse [] [])
+  pub afresh-0 : WorkOutAnswer 0 (pos 5 ∷ replicate 19 none) (coarse [] []) leaves (tableAnswer 0 0, coarse [] [])
 
 pub record Bounds : Type 0 where
   -- "Lists of wrong length are refusal 28": either of them
@@ -111,11 +120,19 @@ pub record Bounds : Type 0 where
   pub last-child : refuseKept Taking 1 1 (written 1003) missummed ≡ 29
   pub other-parent : refuseKept Taking 1 1 (written 1010) miscounted ≡ 0
   pub other-sum : refuseKept Giving 1 1 (written 5113) missummed ≡ 0
+  pub degree-2 :
+      refuseKept Taking 1 2 (written 10012)
+      (chart (freshShared 2) (coarse (0 ∷ 1 ∷ replicate 78 0) (replicate 80 0))) ≡ 29
+  pub degree-2-other :
+      refuseKept Taking 1 2 (written 10012)
+      (chart (freshShared 2) (coarse (1 ∷ replicate 79 0) (replicate 80 0))) ≡ 0
   -- "checked after 27", "checked last"
   pub twentyone-before-28 :
       refuseKept (Setting (pos 100001)) 1 1 (written 1000) (chart (three .shared) (coarse [] [])) ≡ 21
+  pub twentytwo-before-28 : refuseKept Taking 1 1 (written 1000) (chart (shared [] []) (coarse [] [])) ≡ 22
   pub twentythree-before-28 :
       refuseKept Taking 1 1 (written 1000) (chart (shared (replicate 80 bad) []) (coarse [] [])) ≡ 23
+  pub twentyfour-before-28 : refuseKept Taking 3 1 (written 1000) (chart (freshShared 1) (coarse [] [])) ≡ 24
   pub twentyfive-before-28 :
       refuseKept Taking 1 1 (written 1000) (chart (shared (fresh 1) []) (coarse [] [])) ≡ 25
   pub twentysix-before-28 : refuseKept Taking 2 1 (written 1000) (chart (three .shared) (coarse [] [])) ≡ 26
@@ -126,17 +143,18 @@ pub record Bounds : Type 0 where
   pub twentyeight-before-29 :
       refuseKept Taking 1 1 (written 1000) (chart (three .shared) (coarse (replicate 20 0) [])) ≡ 28
   -- working them out afresh: 1, 20, 22, 23 with its place, 28, and nothing of the owners
-  pub afresh-25 : refuseAfresh 25 [] (coarse [] []) ≡ 1
-  pub afresh-24 : refuseAfresh 24 [] (coarse [] []) ≡ 20
-  pub afresh-7 : refuseAfresh 7 [] (coarse [] []) ≡ 20
-  pub afresh-19 : refuseAfresh 0 (replicate 19 none) (coarse (0 ∷ []) []) ≡ 22
-  pub afresh-bad : AfreshAnswer 0 (none ∷ bad ∷ replicate 18 none) (coarse (7 ∷ []) [])
+  pub afresh-25 : refuseWorkOut 25 [] (coarse [] []) ≡ 1
+  pub afresh-24 : refuseWorkOut 24 [] (coarse [] []) ≡ 20
+  pub afresh-7 : refuseWorkOut 7 [] (coarse [] []) ≡ 20
+  pub afresh-19 : refuseWorkOut 0 (replicate 19 none) (coarse (0 ∷ []) []) ≡ 22
+  pub afresh-bad : WorkOutAnswer 0 (none ∷ bad ∷ replicate 18 none) (coarse (7 ∷ []) [])
       leaves (tableAnswer 23 1, coarse (7 ∷ []) [])
-  pub afresh-counts : AfreshAnswer 1 (fresh 1) (coarse (replicate 19 7) (replicate 20 7))
+  pub afresh-counts : WorkOutAnswer 1 (fresh 1) (coarse (replicate 19 7) (replicate 20 7))
       leaves (tableAnswer 28 0, coarse (replicate 19 7) (replicate 20 7))
-  pub afresh-sums : AfreshAnswer 1 (fresh 1) (coarse (replicate 20 7) (replicate 19 7))
+  pub afresh-sums : WorkOutAnswer 1 (fresh 1) (coarse (replicate 20 7) (replicate 19 7))
       leaves (tableAnswer 28 0, coarse (replicate 20 7) (replicate 19 7))
-  pub afresh-1 : refuseAfresh 0 (fresh 0) (coarse (0 ∷ []) []) ≡ 28
+  pub afresh-21 : refuseWorkOut 1 (fresh 1) (coarse (replicate 21 0) (replicate 20 0)) ≡ 28
+  pub afresh-1 : refuseWorkOut 0 (fresh 0) (coarse (0 ∷ []) []) ≡ 28
 
 -- Wrong answers that the promises refuse.
 pub record Mistakes : Type 0 where
@@ -149,7 +167,7 @@ pub record Mistakes : Type 0 where
   -- a reading of 0 not counted
   pub zero-not-counted : SetAnswer 1 1 (written 1003) (pos 0) three (tableAnswer 0 0)
       (four (pos 100) (pos 0) (pos 7) (pos 0) (two 3 0 107 0)) → ⊥
-  pub zero-afresh : AfreshAnswer 1 (three .shared .readings) (two 3 0 107 0) (tableAnswer 0 0) (two 2 0 107 0) → ⊥
+  pub zero-afresh : WorkOutAnswer 1 (three .shared .readings) (two 3 0 107 0) (tableAnswer 0 0) (two 2 0 107 0) → ⊥
   -- wrong sums mended in silence
   pub mended : SetAnswer 1 1 (written 1003) (pos 9) miscounted (tableAnswer 0 0)
       (four (pos 100) (pos 0) (pos 7) (pos 9) (two 4 0 116 0)) → ⊥
@@ -159,13 +177,16 @@ pub record Mistakes : Type 0 where
   -- the sums left as they were
   pub left : ClearAnswer 1 1 (written 1000) three (tableAnswer 0 0)
       (four none (pos 0) (pos 7) none (two 3 0 107 0)) → ⊥
+  pub left-on-giving : GiveAnswer 1 1 (written 1000) three (tableAnswer 0 0)
+      (chart (shared (none ∷ pos 0 ∷ pos 7 ∷ replicate 77 none) (0 ∷ replicate 79 1)) (two 3 0 107 0)) → ⊥
   -- the parent's place taken for the triangle's own
   pub own-place : ClearAnswer 1 1 (written 1001) three (tableAnswer 0 0)
       (four (pos 100) none (pos 7) none (two 3 2 107 107)) → ⊥
-  -- a list touched on 28
+  -- a list touched on 28, or on 29
   pub touched : TakeAnswer 1 1 (written 1000) (chart (three .shared) (coarse (replicate 20 0) [])) (tableAnswer 28 0)
       (chart (three .shared) (coarse (3 ∷ replicate 19 0) [])) → ⊥
-  pub touched-afresh : AfreshAnswer 1 (three .shared .readings) (coarse (replicate 20 0) []) (tableAnswer 28 0)
+  pub touched-on-29 : TakeAnswer 1 1 (written 1003) miscounted (tableAnswer 29 0) three → ⊥
+  pub touched-afresh : WorkOutAnswer 1 (three .shared .readings) (coarse (replicate 20 0) []) (tableAnswer 28 0)
       (coarse (3 ∷ replicate 19 0) []) → ⊥
   -- nothing worked out
-  pub not-afresh : AfreshAnswer 1 (three .shared .readings) (two 2 0 107 0) (tableAnswer 0 0) (two 2 0 107 0) → ⊥
+  pub not-afresh : WorkOutAnswer 1 (three .shared .readings) (two 2 0 107 0) (tableAnswer 0 0) (two 2 0 107 0) → ⊥

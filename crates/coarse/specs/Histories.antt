@@ -25,24 +25,24 @@ onChart (does e d n t) c = doing (settled (refuseKept e d n t c) (keptOut e d n 
 
 -- ---- "according to the history of calls": by the calls and their answers alone, with no list
 
-abbrev pub Soundings : Type 0
-Soundings = TriangleCode → Sounding
+abbrev pub Told : Type 0
+Told = TriangleCode → Sounding
 
 -- a fresh table has no readings
-abbrev pub noReadings : Soundings
+abbrev pub noReadings : Told
 noReadings t = Nothing
 
 -- an answered call leaves its triangle what it is to leave; one that is refused tells nothing
-abbrev pub told : Call → Answered → Soundings → Soundings
+abbrev pub told : Call → Answered → Told → Told
 told (does e d n t) (done r) s u = cond (eqb (r .refusal) 0 && eqb (u .0) (t .0)) (soundingAfter e (s u)) (s u)
 told (does e d n t) (got r) s u = s u
 told (asks d n t) r s u = s u
 
-unfoldable pub toldBy : List Call → List Answered → Soundings → Soundings
+unfoldable pub toldBy : List Call → List Answered → Told → Told
 toldBy [] rs s = s
 toldBy (c ∷ cs) [] s = s
 toldBy (c ∷ cs) (r ∷ rs) s = toldBy cs rs (told c r s)
 
 -- the readings that are present then, of all triangles of the degree
-unfoldable pub presentBy : (degree : ℕ) → Soundings → List ℕ
+unfoldable pub presentBy : (degree : ℕ) → Told → List ℕ
 presentBy n s = present (below (places n) (λ i. number (s (codeAt n i))))

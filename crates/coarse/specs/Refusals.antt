@@ -17,8 +17,8 @@ abbrev pub sumOrder : List ℕ
 sumOrder = deskOrder ++ (28 ∷ 29 ∷ [])
 
 -- "Lists of wrong length are refusal 28": either of them
-abbrev pub coarseRows : (degree : ℕ) → Coarse → List Row
-coarseRows n c =
+abbrev pub lengthRows : (degree : ℕ) → Coarse → List Row
+lengthRows n c =
     28 when (not (eqb (length (c .counts)) (parents n)) either not (eqb (length (c .sums)) (parents n))) ∷ []
 
 -- "Where the stored count or sum of the parent concerned differs from its children's readings"
@@ -27,17 +27,17 @@ differs p list c =
     not (eqb (storedFor p (c .counts)) (countIn p list)) either not (eqb (storedFor p (c .sums)) (sumIn p list))
 
 -- a triangle of degree 0 has no parent
-abbrev pub parentRows : (degree : ℕ) → TriangleCode → List ℤ → Coarse → List Row
-parentRows n t list c = 29 when (not (eqb n 0) && differs (parentOf t) list c) ∷ []
+abbrev pub storedRows : (degree : ℕ) → TriangleCode → List ℤ → Coarse → List Row
+storedRows n t list c = 29 when (not (eqb n 0) && differs (parentOf t) list c) ∷ []
 
-abbrev pub keptRows : (degree : ℕ) → TriangleCode → List ℤ → Coarse → List Row
-keptRows n t list c = coarseRows n c ++ parentRows n t list c
+abbrev pub coarseRows : (degree : ℕ) → TriangleCode → List ℤ → Coarse → List Row
+coarseRows n t list c = lengthRows n c ++ storedRows n t list c
 
 -- "these four calls": set, clear, take and give back
 unfoldable pub refuseKept : Deed → (desk degree : ℕ) → TriangleCode → Chart → ℕ
 refuseKept e d n t c =
-    firstOf sumOrder (deedRows e d n t (c .shared) ++ keptRows n t (c .shared .readings) (c .coarse))
+    firstOf sumOrder (deedRows e d n t (c .shared) ++ coarseRows n t (c .shared .readings) (c .coarse))
 
 -- working the sums out afresh, which is handed a degree, the readings and the two lists
-unfoldable pub refuseAfresh : (degree : ℕ) → List ℤ → Coarse → ℕ
-refuseAfresh n list c = firstOf sumOrder (largeRows n ++ tableRows n list ++ coarseRows n c)
+unfoldable pub refuseWorkOut : (degree : ℕ) → List ℤ → Coarse → ℕ
+refuseWorkOut n list c = firstOf sumOrder (largeRows n ++ tableRows n list ++ lengthRows n c)

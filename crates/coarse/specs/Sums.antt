@@ -82,7 +82,8 @@ kept (suc n) t f list = set list (placeOf (parentOf t)) (f (parentOf t))
 -- both lists, when the readings are those of `list`
 abbrev pub coarseAfter : (degree : ℕ) → TriangleCode → List ℤ → Coarse → Coarse
 coarseAfter n t list c =
-    coarse (kept n t (λ p. countIn p list) (c .counts)) (kept n t (λ p. sumIn p list) (c .sums))
+    coarse (kept n t (λ p. countIn p list) (c .counts))
+    (kept n t (λ p. sumIn p list) (c .sums))
 
 abbrev pub chartAfter : Deed → (desk degree : ℕ) → TriangleCode → Chart → Chart
 chartAfter e d n t c =

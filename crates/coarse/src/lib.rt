@@ -8,12 +8,15 @@ ghost use Prim.Native.Nat.{_+_, _*_, _<_, _≤_};
 ghost use lib.ListN.{length, set};
 ghost use Rattle.frame.specs.Refusals.{firstOf};
 ghost use Rattle.frame.specs.Lists.{below};
-ghost use Rattle.words.specs.Refusals.{IsCode};
+ghost use Rattle.words.specs.Words.{degreeOf};
+ghost use Rattle.words.specs.Refusals.{checkCode, IsCode};
+ghost use Rattle.words.specs.Family.{parentOf};
+ghost use Rattle.words.specs.Counting.{placeOf};
 ghost use Rattle.net.specs.Division.{sum};
 ghost use Rattle.tables.specs.Tables.{places};
 ghost use Rattle.coarse.specs.Sums.{present, parents, coarse, coarseAfter};
-ghost use Rattle.coarse.specs.Refusals.{sumOrder, coarseRows, keptRows};
-ghost use Rattle.coarse.specs.Means.{presentFrom};
+ghost use Rattle.coarse.specs.Refusals.{sumOrder, lengthRows, coarseRows};
+ghost use Rattle.coarse.specs.Means.Fours.{presentFrom};
 
 // ---- four readings
 
@@ -74,7 +77,7 @@ fn parents_of(degree: u64) -> u64
 pub fn refuse_lengths(degree: u64, counts: &[u64], sums: &[u64]) -> u64
     requires { ⌜ degree ≤ 6 ⌝ }
     ensures { λ r. ⌜
-        r ≡ firstOf sumOrder (coarseRows degree (coarse (now (counts .entry)) (now (sums .entry))))
+        r ≡ firstOf sumOrder (lengthRows degree (coarse (now (counts .entry)) (now (sums .entry))))
         ⌝ }
 {
     let n = parents_of(degree);
@@ -85,6 +88,14 @@ pub fn refuse_lengths(degree: u64, counts: &[u64], sums: &[u64]) -> u64
         return 28;
     }
     0
+}
+
+// The place of a triangle's parent.
+fn parent_place(t: TriangleCode) -> usize
+    requires { ⌜ (checkCode t ≡ 0) × (1 ≤ degreeOf (t .0)) ⌝ }
+    ensures { λ r. ⌜ r ≡ placeOf (parentOf t) ⌝ }
+{
+    words::place_of(t) as usize / 4
 }
 
 // 28 and 29: of the lengths, and of what is stored for the triangle's parent.
@@ -98,7 +109,7 @@ pub fn refuse_coarse(
     requires { ⌜ (degree ≤ 6) × IsCode degree t × (length (now list) ≡ places degree) ⌝ }
     ensures { λ r. ⌜
         r ≡ firstOf sumOrder
-        (keptRows degree t (now (list .entry)) (coarse (now (counts .entry)) (now (sums .entry))))
+        (coarseRows degree t (now (list .entry)) (coarse (now (counts .entry)) (now (sums .entry))))
         ⌝ }
 {
     let f = refuse_lengths(degree, counts, sums);
@@ -108,12 +119,12 @@ pub fn refuse_coarse(
     if degree == 0 {
         return 0;
     }
-    let p = words::place_of(t) as usize / 4;
-    let now = tally_from(list, 4 * p);
-    if counts[p] != now.count {
+    let p = parent_place(t);
+    let right = tally_from(list, 4 * p);
+    if counts[p] != right.count {
         return 29;
     }
-    if sums[p] != now.sum {
+    if sums[p] != right.sum {
         return 29;
     }
     0
@@ -148,11 +159,11 @@ pub fn keep(degree: u64, t: TriangleCode, list: &[i32], counts: &mut [u64], sums
     if degree == 0 {
         return;
     }
-    store(words::place_of(t) as usize / 4, list, counts, sums);
+    store(parent_place(t), list, counts, sums);
 }
 
 // For every triangle one degree up, in one pass.
-pub fn keep_all(list: &[i32], counts: &mut [u64], sums: &mut [u64])
+pub fn store_all(list: &[i32], counts: &mut [u64], sums: &mut [u64])
     requires { ⌜
         (4 * length (now counts) ≤ length (now list)) × (length (now sums) ≡ length (now counts))
         ⌝ }

@@ -188,7 +188,7 @@ fn refuse_shared(deed: Deed, desk: u64, degree: u64, t: TriangleCode, owners: &[
     refuse_owner(deed, desk, owners[i] as u64)
 }
 
-// All refusals of a call that writes.
+// 1 to 27: the first refusals of a call that writes, before those of the coarse sums.
 pub fn refuse_deed(
     deed: Deed,
     desk: u64,

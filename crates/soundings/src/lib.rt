@@ -15,8 +15,8 @@ ghost use Rattle.words.specs.Counting.{placeOf};
 ghost use Rattle.tables.specs.Owners.{shared, sharedAfter};
 ghost use Rattle.tables.specs.Answers.{refused, GetAnswer};
 ghost use Rattle.coarse.specs.Sums.{coarse, chart};
-ghost use Rattle.coarse.specs.Refusals.{refuseKept, refuseAfresh};
-ghost use Rattle.coarse.specs.Answers.{KeptAnswer, TakeAnswer, SetAnswer, ClearAnswer, GiveAnswer, AfreshAnswer};
+ghost use Rattle.coarse.specs.Refusals.{refuseKept, refuseWorkOut};
+ghost use Rattle.coarse.specs.Answers.{KeptAnswer, TakeAnswer, SetAnswer, ClearAnswer, GiveAnswer, WorkOutAnswer};
 pub use tables::Sounding;
 pub use tables::SoundingAnswer;
 pub use tables::TableAnswer;
@@ -199,10 +199,10 @@ pub fn give(
 // ---- the sums worked out afresh
 
 // Its refusals.
-fn refuse_afresh(degree: u64, list: &[i32], counts: &[u64], sums: &[u64]) -> TableAnswer
+fn refuse_work_out(degree: u64, list: &[i32], counts: &[u64], sums: &[u64]) -> TableAnswer
     ensures { λ r. ⌜
         r ≡ refused (now (list .entry))
-        (refuseAfresh degree (now (list .entry)) (coarse (now (counts .entry)) (now (sums .entry))))
+        (refuseWorkOut degree (now (list .entry)) (coarse (now (counts .entry)) (now (sums .entry))))
         ⌝ }
 {
     let f = refusing::refuse_degree(degree);
@@ -219,14 +219,14 @@ fn refuse_afresh(degree: u64, list: &[i32], counts: &[u64], sums: &[u64]) -> Tab
 // All counts and sums, of a table opened from elsewhere.
 pub fn work_out(degree: u64, list: &[i32], counts: &mut [u64], sums: &mut [u64]) -> TableAnswer
     ensures { λ r. ⌜
-        AfreshAnswer degree (now (list .entry)) (coarse (now (counts .entry)) (now (sums .entry))) r
+        WorkOutAnswer degree (now (list .entry)) (coarse (now (counts .entry)) (now (sums .entry))) r
         (coarse (now (counts .exit)) (now (sums .exit)))
         ⌝ }
 {
-    let answered = refuse_afresh(degree, list, counts, sums);
+    let answered = refuse_work_out(degree, list, counts, sums);
     if answered.refusal != 0 {
         return answered;
     }
-    coarse::keep_all(list, counts, sums);
+    coarse::store_all(list, counts, sums);
     answered
 }

@@ -1,17 +1,19 @@
 -- Two ways to answer the same calls, where what they work on stays related: the answers are the same, what is left is
 -- related, and what a desk sees is the same. Assumes nothing.
-use mathlib.Core.Path.{_≡_, _∙_, refl, ap}
+use mathlib.Core.Path.{_≡_, refl}
 use mathlib.Core.Bool.{cond}
 use mathlib.Core.List.{List, [], _∷_, _++_}
 use Prim.Native.Nat.{ℕ}
 use Rattle.words.specs.declared.TriangleCode.{TriangleCode}
 use Rattle.tables.specs.Histories.{Call, Answered, answers, after, isAbout, isGivenBack, seen}
 
-module _ {C A S S′ : Type 0} (turn : C → S → A × S) (turn′ : C → S′ → A × S′) (R : S → S′ → Type 0)
+module _ {C A S S′ : Type 0} (turn : C → S → A × S) (turn′ : C → S′ → A × S′)
+    (R : S → S′ → Type 0)
     (step : (c : C) (s : S) (s′ : S′) → R s s′
     → (turn c s .0 ≡ turn′ c s′ .0) × R (turn c s .1) (turn′ c s′ .1))
   where
-    pub alike-answers : (cs : List C) (s : S) (s′ : S′) → R s s′ → answers turn cs s ≡ answers turn′ cs s′
+    pub alike-answers : (cs : List C) (s : S) (s′ : S′) → R s s′
+        → answers turn cs s ≡ answers turn′ cs s′
     unfolding answers
     alike-answers [] s s′ r = refl
     alike-answers (c ∷ cs) s s′ r =
@@ -30,7 +32,8 @@ module _ {S S′ : Type 0} (turn : Call → S → Answered × S) (turn′ : Call
     → (turn c s .0 ≡ turn′ c s′ .0) × R (turn c s .1) (turn′ c s′ .1))
     (d : ℕ) (t : TriangleCode)
   where
-    pub alike-seen : (cs : List Call) (s : S) (s′ : S′) → R s s′ → seen turn d t cs s ≡ seen turn′ d t cs s′
+    pub alike-seen : (cs : List Call) (s : S) (s′ : S′) → R s s′
+        → seen turn d t cs s ≡ seen turn′ d t cs s′
     unfolding seen
     alike-seen [] s s′ r = refl
     alike-seen (c ∷ cs) s s′ r =

@@ -1,9 +1,9 @@
 -- What a deed leaves for its triangle, and both lists when one place of each is written. Assumes nothing.
-use mathlib.Core.Path.{_≡_, _∙_, refl, ap}
+use mathlib.Core.Path.{_≡_, _∙_, refl, sym, ap}
 use mathlib.Core.Bool.{Bool, true, false, cond}
 use mathlib.Core.List.{List}
 use Prim.Native.Nat.{ℕ, _≤_}
-use borrow.Author.Tests.{not-false}
+use borrow.Author.Tests.{eq-eqb, eqb-true, not-false}
 use lib.Dec.{eqb}
 use lib.IntN.{ℤ}
 use lib.ListN.{length, set, length-set, length-replicate}
@@ -19,7 +19,7 @@ use Rattle.tables.specs.declared.Sounding.{Sounding}
 use Rattle.tables.specs.declared.Deed.{Deed}
 use Rattle.tables.specs.declared.Deed.the-variants.{Taking, Setting, Clearing, Giving}
 use Rattle.tables.proofs.Numbers.{reading-good, said-is, number-said, desk-not-other}
-use Rattle.tables.proofs.Places.{at-set}
+use Rattle.tables.proofs.Places.{at-set, same-places}
 
 -- ---- a deed that is not out of range stores no bad number, and one that says what it is to say
 
@@ -98,6 +98,13 @@ module _ {n : ℕ} {s : Shared} (is : IsShared n s) where
 pub after-long : (e : Deed) (d : ℕ) (t : TriangleCode) (s : Shared)
     → length (sharedAfter e d t s .readings) ≡ length (s .readings)
 after-long e d t s = length-set (s .readings) (placeOf t) (number (soundingAfter e (said (numberAt t (s .readings)))))
+
+-- ---- both lists are of one degree
+
+pub same-degree : {m n : ℕ} {s : Shared} → IsShared m s → IsShared n s → m ≡ n
+same-degree {m} {n} a b =
+    eqb-true m n
+    (sym (same-places m n) ∙ eq-eqb (places n) (places m) (sym (b .table .long) ∙ a .table .long))
 
 -- ---- a fresh table
 

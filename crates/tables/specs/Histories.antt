@@ -39,7 +39,7 @@ after turn (c ∷ cs) s = after turn cs (turn c s .1)
 abbrev pub doing : {S : Type 0} → TableAnswer × S → Answered × S
 doing x = (done (x .0), x .1)
 
--- ---- on the lists: what a call's promise allows
+-- ---- on the lists: what is said of a call in 2026-03 and 2026-07
 
 abbrev pub onTable : Call → Shared → Answered × Shared
 onTable (asks d n t) s =

@@ -19,7 +19,7 @@ use Rattle.tables.specs.declared.Deed.the-variants.{Taking, Setting, Cle
 abbrev pub tableOrder : List ℕ
 tableOrder = order ++ (20 ∷ 21 ∷ 22 ∷ 23 ∷ [])
 
--- "a table degree of 7 to 24 is also 20, above 24 it is 1": of a call that is handed no code
+-- "a table degree of 7 to 24 is also 20, above 24 it is 1": the degree by itself
 abbrev pub largeRows : (degree : ℕ) → List Row
 largeRows n = degreeRows n ++ (20 when ltb 6 n ∷ [])
 

@@ -1,7 +1,6 @@
 -- The parent's place, and the four below it (Children). Assumes nothing.
 use mathlib.Core.Path.{_∙_, ap}
 use native.Mathlib.Omega.{arith}
-use Prim.Native.Nat.{_/_}
 use lib.ListN.{length}
 use Rattle.net.specs.Division.{sum}
 use Rattle.coarse.specs.Sums.{countIn, sumIn, coarse}
@@ -17,16 +16,18 @@ returns c =
     λ i. coarse (kept-none (a .degree) (c .if1 .taken) (a .t) (λ p. countIn p list) (a .counts .now) i)
     (kept-none (a .degree) (c .if1 .taken) (a .t) (λ p. sumIn p list) (a .sums .now) i)
 
-place-of-requires : tie.Need-place-of-requires
-place-of-requires c κs = search needs
+parent-place-requires : tie.Need-parent-place-requires
+parent-place-requires c κs =
+    let s = c .before .before .before in
+    (s .pre .1 .passes, omega (arith, c .if1 .left, s .pre .1 .degreeIs))
 
 -- the parent's place
-up : (c : tie.After-place-of) → (let a = c .before .before .before .before .args in
-    Above (a .degree) (a .t) (a .list .now) (c .place-of .result / 4))
+up : (c : tie.After-parent-place) → (let a = c .before .before .before .before .args in
+    Above (a .degree) (a .t) (a .list .now) (c .parent-place .result))
 up c =
     let s = c .before .before .before .before in
-    above (s .args .degree) (s .args .list .now) (c .place-of .ensures) (c .before .if1 .left) (s .pre .0) (s .pre .1)
-    (s .pre .2)
+    above (s .args .degree) (s .args .list .now) (c .parent-place .ensures) (c .before .if1 .left) (s .pre .0)
+    (s .pre .1) (s .pre .2)
 
 store-requires : tie.Need-store-requires
 store-requires c κs =
@@ -51,12 +52,12 @@ returns-2 c =
     let u = up p in
     let e = k .store .ensures in
     λ i. coarse
-    ((e .0 ∙ kept-set (a .degree) some (a .t) (λ q. countIn q list) (a .counts .now) (u .place)
+    ((e .0 ∙ kept-set (a .degree) some (a .t) (λ q. countIn q list) (a .counts .now) (p .parent-place .ensures)
     (ap length (u .present-is))) i)
-    ((e .1 ∙ kept-set (a .degree) some (a .t) (λ q. sumIn q list) (a .sums .now) (u .place)
+    ((e .1 ∙ kept-set (a .degree) some (a .t) (λ q. sumIn q list) (a .sums .now) (p .parent-place .ensures)
     (ap sum (u .present-is))) i)
 
 pub keep-spec : {M : Type 1} → statement M
 keep-spec =
     tie.close
-    (tie.spec returns place-of-requires store-requires same-length same-length-2 returns-2)
+    (tie.spec returns parent-place-requires store-requires same-length same-length-2 returns-2)

@@ -1,17 +1,15 @@
 -- The lengths, and then what is stored for the parent (Refused, Children). Assumes nothing.
 use mathlib.Core.Path.{_≡_, _∙_, sym, ap}
 use native.Mathlib.Omega.{arith}
-use Prim.Native.Nat.{ℕ, _/_, _^_, _<_}
+use Prim.Native.Nat.{ℕ}
 use lib.ListN.{length, getD}
 use Rattle.frame.specs.Refusals.{firstOf}
 use Rattle.words.specs.Family.{parentOf}
-use Rattle.words.specs.Counting.{placeOf}
-use Rattle.words.proofs.CodeCount.{place-fits}
 use Rattle.net.specs.Division.{sum}
 use Rattle.coarse.specs.Sums.{countIn, sumIn, parents, coarse}
-use Rattle.coarse.specs.Refusals.{sumOrder, coarseRows}
+use Rattle.coarse.specs.Refusals.{sumOrder, lengthRows}
 use Rattle.coarse.proofs.Children.{Above, above}
-use Rattle.coarse.proofs.Refused.{lengths-good, lengths-first, other-count, other-sum, none-kept}
+use Rattle.coarse.proofs.Refused.{right-long, lengths-first, other-count, other-sum, none-kept}
 use borrow.Author.Needs.{needs}
 use Rattle.coarse.proofs.refuse_coarse.Statement.{statement}
 use Rattle.coarse.proofs.refuse_coarse.Tie as tie
@@ -27,14 +25,14 @@ returns c =
 
 -- past the lengths
 none : (c : tie.Else1) → (let a = c .before .before .before .before .args in
-    firstOf sumOrder (coarseRows (a .degree) (coarse (a .counts .now) (a .sums .now))) ≡ 0)
+    firstOf sumOrder (lengthRows (a .degree) (coarse (a .counts .now) (a .sums .now))) ≡ 0)
 none c = sym (c .before .refuse-lengths .ensures) ∙ c .if1 .left
 
 long : (c : tie.Else1) → (let a = c .before .before .before .before .args in
     (length (a .counts .now) ≡ parents (a .degree)) × (length (a .sums .now) ≡ parents (a .degree)))
 long c =
     let a = c .before .before .before .before .args in
-    lengths-good (a .degree) (coarse (a .counts .now) (a .sums .now)) (none c)
+    right-long (a .degree) (coarse (a .counts .now) (a .sums .now)) (none c)
 
 returns-2 : tie.Need-returns-2
 returns-2 c =
@@ -47,28 +45,27 @@ returns-2 c =
       total = λ some. absurd (some (c .if2 .taken));
     })
 
-place-of-requires : tie.Need-place-of-requires
-place-of-requires c κs = search needs
+parent-place-requires : tie.Need-parent-place-requires
+parent-place-requires c κs =
+    let s = c .before .before .before .before .before in
+    (s .pre .1 .passes, omega (arith, c .if2 .left, s .pre .1 .degreeIs))
 
 -- the parent's place
-up : (c : tie.After-place-of) → (let a = c .before .before .before .before .before .before .args in
-    Above (a .degree) (a .t) (a .list .now) (c .place-of .result / 4))
+up : (c : tie.After-parent-place) → (let a = c .before .before .before .before .before .before .args in
+    Above (a .degree) (a .t) (a .list .now) (c .parent-place .result))
 up c =
     let s = c .before .before .before .before .before .before in
-    above (s .args .degree) (s .args .list .now) (c .place-of .ensures) (c .before .if2 .left) (s .pre .0) (s .pre .1)
-    (s .pre .2)
-
-fits : (c : tie.After-place-of) → placeOf (c .before .before .before .before .before .before .args .t) < 2 ^ 53
-fits c = place-fits (c .before .before .before .before .before .before .pre .1)
+    above (s .args .degree) (s .args .list .now) (c .parent-place .ensures) (c .before .if2 .left) (s .pre .0)
+    (s .pre .1) (s .pre .2)
 
 mul-tally-from : tie.Need-mul-tally-from
-mul-tally-from c = search needs
+mul-tally-from c = omega (arith, up c .fits)
 
 tally-from-requires : tie.Need-tally-from-requires
 tally-from-requires c κs = up c .four
 
 mul-if3 : tie.Need-mul-if3
-mul-if3 c = let p = c .before in omega (arith, fits p, p .place-of .ensures)
+mul-if3 c = omega (arith, up (c .before) .fits)
 
 shared-slice-read-if3 : tie.Need-shared-slice-read-if3
 shared-slice-read-if3 c =
@@ -89,12 +86,12 @@ returns-3 c =
     let k = c .before .before .before in
     let p = k .before in
     let a = p .before .before .before .before .before .before .args in
-    let stored = ap (λ (i : ℕ). getD (a .counts .now) i 0) (up p .place) in
+    let stored = ap (λ (i : ℕ). getD (a .counts .now) i 0) (p .parent-place .ensures) in
     other-count (a .degree) (a .t) (a .list .now) (coarse (a .counts .now) (a .sums .now)) (none (p .before .before))
     (p .before .if2 .left) (λ q. c .if3 .taken (stored ∙ q ∙ sym (tallied k .0)))
 
 mul-if4 : tie.Need-mul-if4
-mul-if4 c = let p = c .before .before .before .before in omega (arith, fits p, p .place-of .ensures)
+mul-if4 c = omega (arith, up (c .before .before .before .before) .fits)
 
 shared-slice-read-if4 : tie.Need-shared-slice-read-if4
 shared-slice-read-if4 c =
@@ -106,7 +103,7 @@ returns-4 c =
     let k = c .before .before .before .before .before .before in
     let p = k .before in
     let a = p .before .before .before .before .before .before .args in
-    let stored = ap (λ (i : ℕ). getD (a .sums .now) i 0) (up p .place) in
+    let stored = ap (λ (i : ℕ). getD (a .sums .now) i 0) (p .parent-place .ensures) in
     other-sum (a .degree) (a .t) (a .list .now) (coarse (a .counts .now) (a .sums .now)) (none (p .before .before))
     (p .before .if2 .left) (λ q. c .if4 .taken (stored ∙ q ∙ sym (tallied k .1)))
 
@@ -116,8 +113,8 @@ returns-5 c =
     let k = e .before .before .before in
     let p = k .before in
     let a = p .before .before .before .before .before .before .args in
-    let counted = ap (λ (i : ℕ). getD (a .counts .now) i 0) (up p .place) in
-    let summed = ap (λ (i : ℕ). getD (a .sums .now) i 0) (up p .place) in
+    let counted = ap (λ (i : ℕ). getD (a .counts .now) i 0) (p .parent-place .ensures) in
+    let summed = ap (λ (i : ℕ). getD (a .sums .now) i 0) (p .parent-place .ensures) in
     let l = long (p .before .before) in
     none-kept (a .degree) (a .t) (a .list .now) (coarse (a .counts .now) (a .sums .now)) (record {
       counts-long = l .0;
@@ -133,7 +130,7 @@ refuse-coarse-spec =
     refuse-lengths-requires
     returns
     returns-2
-    place-of-requires
+    parent-place-requires
     mul-tally-from
     tally-from-requires
     mul-if3

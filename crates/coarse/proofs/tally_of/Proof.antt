@@ -1,12 +1,13 @@
 -- By the sign (Tallying). Assumes nothing.
-use mathlib.Core.Path.{_≡_, refl}
+use mathlib.Core.Path.{sym, _≡_, refl}
 use mathlib.Core.Bool.{true}
 use native.Mathlib.Omega.{arith}
 use lib.IntN.{pos}
 use lib.Signed.{ltZ}
 use mir.Syntax.{w32}
 use mir.ValLaws.{toZ-ofZ}
-use Rattle.coarse.proofs.Tallying.{none-present, Counts, counts, sum-one, sum-nothing}
+use Rattle.coarse.proofs.Adding.{summing}
+use Rattle.coarse.proofs.Tallying.{none-present, Counts, counts, sum-one}
 use Rattle.coarse.proofs.tally_of.Statement.{statement}
 use Rattle.coarse.proofs.tally_of.Tie as tie
 
@@ -14,7 +15,7 @@ returns : tie.Need-returns
 returns c =
     let x = c .before .args .number in
     let h : ltZ x (pos 0) ≡ true = rw (toZ-ofZ w32 x (c .before .fits .number)) at (c .if1 .taken) in
-    rw (none-present x h) (refl, sum-nothing, omega arith, omega arith)
+    rw (none-present x h) (refl, sym (summing .nothing), omega arith, omega arith)
 
 -- a reading
 reading : (c : tie.Else1) → Counts (c .before .args .number)

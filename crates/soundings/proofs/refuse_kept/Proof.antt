@@ -5,7 +5,7 @@ use Rattle.tables.specs.Refusals.{refuseDeed}
 use Rattle.tables.proofs.Deeds.{deed-passed}
 use Rattle.tables.proofs.Answering.{answer-bare, answer-same, checked}
 use Rattle.coarse.specs.Sums.{coarse, chart}
-use Rattle.coarse.proofs.Refused.{kept-first, kept-then, kept-not-23}
+use Rattle.coarse.proofs.Refused.{kept-first, kept-then, coarse-not-23}
 use borrow.Author.Needs.{needs}
 use Rattle.soundings.proofs.refuse_kept.Statement.{statement}
 use Rattle.soundings.proofs.refuse_kept.Tie as tie
@@ -51,7 +51,7 @@ returns-2 c =
     answer-bare list (c .refuse .ensures)
     (o .refuse-coarse .ensures
     ∙ kept-then (a .deed) (a .desk) (a .degree) (a .t) (chart (shared list (a .owners .now)) sums) (none (o .before)))
-    (λ z. kept-not-23 (a .degree) (a .t) list sums (sym (o .refuse-coarse .ensures) ∙ z))
+    (λ z. coarse-not-23 (a .degree) (a .t) list sums (sym (o .refuse-coarse .ensures) ∙ z))
 
 pub refuse-kept-spec : {M : Type 1} → statement M
 refuse-kept-spec =

@@ -5,21 +5,21 @@ use Rattle.net.specs.Division.{sum}
 use Rattle.tables.proofs.Answering.{checked, lent-refused, lent-written}
 use Rattle.coarse.specs.Sums.{coarse, trueCoarse}
 use Rattle.coarse.proofs.Children.{four-each, every-parent}
-use Rattle.coarse.proofs.Refused.{Afresh, afresh-passed}
+use Rattle.coarse.proofs.Refused.{WorkedOut, work-out-passed}
 use borrow.Author.Needs.{needs}
 use Rattle.soundings.proofs.work_out.Statement.{statement}
 use Rattle.soundings.proofs.work_out.Tie as tie
 
 known : (c : tie.Else1) → (let a = c .before .before .before .before .before .before .before .args in
-    Afresh (a .degree) (a .list .now) (coarse (a .counts .now) (a .sums .now)))
+    WorkedOut (a .degree) (a .list .now) (coarse (a .counts .now) (a .sums .now)))
 known c =
     let k = c .before .before in
     let a = k .before .before .before .before .before .args in
-    afresh-passed (a .degree) (a .list .now) (coarse (a .counts .now) (a .sums .now))
-    (sym (checked (a .list .now) _ _ (k .refuse-afresh .ensures)) ∙ c .if1 .left)
+    work-out-passed (a .degree) (a .list .now) (coarse (a .counts .now) (a .sums .now))
+    (sym (checked (a .list .now) _ _ (k .refuse-work-out .ensures)) ∙ c .if1 .left)
 
-refuse-afresh-requires : tie.Need-refuse-afresh-requires
-refuse-afresh-requires c κs = search needs
+refuse-work-out-requires : tie.Need-refuse-work-out-requires
+refuse-work-out-requires c κs = search needs
 
 same-length : tie.Need-same-length
 same-length c = search needs
@@ -32,10 +32,10 @@ returns c =
     let k = c .before .before in
     let a = k .before .before .before .before .before .args in
     lent-refused (a .list .now) _ (trueCoarse (a .degree) (a .list .now)) (coarse (a .counts .now) (a .sums .now)) _
-    (k .refuse-afresh .ensures) (c .if1 .taken)
+    (k .refuse-work-out .ensures) (c .if1 .taken)
 
-keep-all-requires : tie.Need-keep-all-requires
-keep-all-requires c κs =
+store-all-requires : tie.Need-store-all-requires
+store-all-requires c κs =
     let g = known (c .before .before) in
     (four-each _ (g .counts-long) (g .long), g .sums-long ∙ sym (g .counts-long))
 
@@ -54,8 +54,8 @@ returns-2 c =
     let list = a .list .now in
     let n = a .degree in
     let g = known e in
-    let w = m .keep-all .ensures in
-    lent-written list _ (trueCoarse n list) (coarse (a .counts .now) (a .sums .now)) _ (k .refuse-afresh .ensures)
+    let w = m .store-all .ensures in
+    lent-written list _ (trueCoarse n list) (coarse (a .counts .now) (a .sums .now)) _ (k .refuse-work-out .ensures)
     (e .if1 .left)
     (λ i. coarse ((w .0 ∙ every-parent length list n (g .degree) (g .counts-long)) i)
     ((w .1 ∙ every-parent sum list n (g .degree) (g .sums-long)) i))
@@ -64,11 +64,11 @@ pub work-out-spec : {M : Type 1} → statement M
 work-out-spec =
     tie.close
     (tie.spec
-    refuse-afresh-requires
+    refuse-work-out-requires
     same-length
     same-length-2
     returns
-    keep-all-requires
+    store-all-requires
     same-length-3
     same-length-4
     returns-2)

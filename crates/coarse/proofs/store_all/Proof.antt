@@ -10,9 +10,9 @@ use Rattle.frame.specs.Answers.{over}
 use Rattle.frame.specs.Lists.{below}
 use Rattle.frame.proofs.Below.{below-next, below-all}
 use Rattle.net.specs.Division.{sum}
-use Rattle.coarse.specs.Means.{presentFrom}
-use Rattle.coarse.proofs.keep_all.Statement.{statement}
-use Rattle.coarse.proofs.keep_all.Tie as tie
+use Rattle.coarse.specs.Means.Fours.{presentFrom}
+use Rattle.coarse.proofs.store_all.Statement.{statement}
+use Rattle.coarse.proofs.store_all.Tie as tie
 
 abbrev counted : List ℤ → ℕ → ℕ
 counted list i = length (presentFrom (4 * i) list)
@@ -72,8 +72,8 @@ returns c =
       l .inv .3 ∙ below-all (summed (a .list .now)) (a .sums .now) (l .p) (omega arith) (omega arith),
     )
 
-pub keep-all-spec : {M : Type 1} → statement M
-keep-all-spec =
+pub store-all-spec : {M : Type 1} → statement M
+store-all-spec =
     tie.close
     (tie.spec
     Inv-loop

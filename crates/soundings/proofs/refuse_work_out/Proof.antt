@@ -5,10 +5,10 @@ use Rattle.tables.specs.Refusals.{tableOrder, largeRows}
 use Rattle.tables.proofs.Refused.{large}
 use Rattle.tables.proofs.Answering.{answer-bare, answer-same, checked}
 use Rattle.coarse.specs.Sums.{coarse}
-use Rattle.coarse.proofs.Refused.{degree-first, list-first, lengths-last, coarse-not-23}
+use Rattle.coarse.proofs.Refused.{degree-first, list-first, lengths-last, lengths-not-23}
 use borrow.Author.Needs.{needs}
-use Rattle.soundings.proofs.refuse_afresh.Statement.{statement}
-use Rattle.soundings.proofs.refuse_afresh.Tie as tie
+use Rattle.soundings.proofs.refuse_work_out.Statement.{statement}
+use Rattle.soundings.proofs.refuse_work_out.Tie as tie
 
 refuse-degree-requires : tie.Need-refuse-degree-requires
 refuse-degree-requires c κs = search needs
@@ -62,10 +62,10 @@ returns-3 c =
     let q = checked list _ _ (k .refuse-list .ensures) in
     answer-bare list (c .refuse2 .ensures)
     (o .refuse-lengths .ensures ∙ lengths-last (a .degree) list sums (zero e) (sym q ∙ f .if2 .left))
-    (λ z. coarse-not-23 (a .degree) sums (sym (o .refuse-lengths .ensures) ∙ z))
+    (λ z. lengths-not-23 (a .degree) sums (sym (o .refuse-lengths .ensures) ∙ z))
 
-pub refuse-afresh-spec : {M : Type 1} → statement M
-refuse-afresh-spec =
+pub refuse-work-out-spec : {M : Type 1} → statement M
+refuse-work-out-spec =
     tie.close
     (tie.spec
     refuse-degree-requires

@@ -63,7 +63,7 @@ fn tally_from(list: &[i32], i: usize) -> Tally
 // ---- refusals
 
 // How many triangles there are one degree up.
-fn parents_of(degree: u64) -> u64
+pub fn parents_of(degree: u64) -> u64
     requires { ⌜ degree ≤ 6 ⌝ }
     ensures { λ r. ⌜ r ≡ parents degree ⌝ }
 {

@@ -62,10 +62,10 @@ pub fn places_of(degree: u64) -> usize {
     words::codes_of(degree) as usize
 }
 
-// How many triangles there are one degree up.
+// How many triangles there are one degree up; 0 where no table has the degree.
 pub fn parents_of(degree: u64) -> usize {
-    if degree == 0 {
+    if 6 < degree {
         return 0;
     }
-    places_of(degree) / 4
+    coarse::parents_of(degree) as usize
 }

@@ -1,7 +1,7 @@
--- Document 02, 2026-03 and 2026-07: the complete answer of get, take, set, clear and give, for every input. The contract
--- of get cites its own; those of the others have cited, since 2026-08, what stands in coarse/specs/Answers.antt, which
--- leaves the readings and the owners as it is said here (AsBefore). `list` is the lent list of readings; `s` is both
--- lists as they come, `new` as they are left. Assumes nothing.
+-- Document 02, 2026-03 and 2026-07: the complete answer of get, take, set, clear and give, for every input. The
+-- contract of get cites its own; those of the others have cited, since 2026-08, what stands in
+-- coarse/specs/Answers.antt, which leaves the readings and the owners as it is said here (AsBefore). `list` is the
+-- lent list of readings; `s` is both lists as they come, `new` as they are left. Assumes nothing.
 use mathlib.Core.Bool.{cond}
 use mathlib.Core.List.{List}
 use Prim.Native.Nat.{ℕ}

@@ -9,7 +9,7 @@ use Rattle.words.specs.Words.{digits, path, wordOf}
 use Rattle.words.specs.Family.{parentOf, childOf}
 use Rattle.words.specs.Counting.{codeAt, placeOf}
 use Rattle.net.specs.Division.{sum}
-use Rattle.grid.specs.Writing.{decimals, written}
+use Rattle.words.specs.Writing.{decimals, written}
 use Rattle.tables.specs.Refusals.{refuseCall}
 use Rattle.tables.specs.Histories.{answers, after}
 use Rattle.tables.specs.declared.TableAnswer.{TableAnswer}

@@ -5,7 +5,7 @@ use Prim.Native.Nat.{ℕ}
 use lib.IntN.{ℤ, pos}
 use lib.ListN.{replicate}
 use Rattle.frame.specs.Promises.{_leaves_}
-use Rattle.grid.specs.Writing.{written}
+use Rattle.words.specs.Writing.{written}
 use Rattle.tables.specs.Tables.{none, fresh}
 use Rattle.tables.specs.Owners.{shared, freshShared}
 use Rattle.tables.specs.Answers.{tableAnswer}

@@ -79,6 +79,33 @@ module _ {A : Type 0} (f : A → Bool) where
   none-at d q (x ∷ xs) zero e = either-false (f x) (some f xs) .0 e .0
   none-at d q (x ∷ xs) (suc i) e = none-at d q xs i (either-false (f x) (some f xs) .0 e .1)
 
+  -- nothing is found where no place passes, and then none does
+  pub none-each : (d : A) (list : List A) → ((i : ℕ) → i < length list → f (getD list i d) ≡ false)
+      → some f list ≡ false
+  unfolding some
+  none-each d [] h = refl
+  none-each d (x ∷ xs) h =
+      either-false (f x) (some f xs) .1 (h 0 (omega arith), none-each d xs (λ i l. h (suc i) (omega (arith, l))))
+
+  pub none-there : (d : A) (list : List A) (i : ℕ) → i < length list → some f list ≡ false
+      → f (getD list i d) ≡ false
+  unfolding some
+  none-there d [] i l e = absurd (omega (arith, l))
+  none-there d (x ∷ xs) zero l e = either-false (f x) (some f xs) .0 e .0
+  none-there d (x ∷ xs) (suc i) l e =
+      none-there d xs i (omega (arith, l)) (either-false (f x) (some f xs) .0 e .1)
+
+  -- the first is the one that passes after others that do not
+  pub first-is : (d : A) (list : List A) (i : ℕ) → i < length list
+      → ((j : ℕ) → j < i → f (getD list j d) ≡ false) → f (getD list i d) ≡ true
+      → (some f list ≡ true) × (firstPlace f list ≡ i)
+  unfolding some firstPlace
+  first-is d [] i l h e = absurd (omega (arith, l))
+  first-is d (x ∷ xs) zero l h e = rw e (refl, refl)
+  first-is d (x ∷ xs) (suc i) l h e =
+      let p = first-is d xs i (omega (arith, l)) (λ j k. h (suc j) (omega (arith, k))) e in
+      rw (h 0 (omega arith)) (p .0, ap suc (p .1))
+
   -- ---- a place written, and a list of one number
 
   pub none-set : (list : List A) (i : ℕ) (x : A) → some f list ≡ false → f x ≡ false

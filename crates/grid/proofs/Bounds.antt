@@ -11,7 +11,7 @@ use Rattle.net.specs.Corners.{corner}
 use Rattle.net.specs.Refusals.{checkName, lesserHas}
 use Rattle.corners.specs.Refusals.{refuseNumbered, refuseWeights, refuseNameWeights, refuseBack, refuseRing}
 use Rattle.directions.specs.Refusals.{refuseFile, refuseList}
-use Rattle.grid.specs.Writing.{decimals, written}
+use Rattle.words.specs.Writing.{decimals, written}
 use Rattle.grid.specs.Examples.{Bounds}
 
 pub bounds : Bounds

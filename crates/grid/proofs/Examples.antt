@@ -26,7 +26,8 @@ use Rattle.filing.specs.Means.Sides.{sideDets, leastFrom}
 use Rattle.filing.specs.Means.Lists.{joined, sideWords, allWords}
 use Rattle.corners.specs.Refusals.{refuseNumbered, refuseWeights, refuseBack, refuseRing}
 use Rattle.directions.specs.Refusals.{refuseFile, refuseList}
-use Rattle.grid.specs.Writing.{decimals, written, cornerIn, minus, up, ticks, point}
+use Rattle.words.specs.Writing.{decimals, written}
+use Rattle.grid.specs.Writing.{cornerIn, minus, up, ticks, point}
 use Rattle.grid.specs.Examples.{Examples, Crossings, Family, Weighed, Rings, Places, Points}
 use Rattle.grid.proofs.Showing.{gives-code, refuses-code, files, lists, lists-refused, crosses, crosses-refused}
 use Rattle.grid.proofs.Showing.{names, backs}

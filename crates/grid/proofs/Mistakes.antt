@@ -50,7 +50,8 @@ use Rattle.corners.proofs.Refused.{numbered-passes, weights-then}
 use Rattle.directions.specs.Refusals.{refuseFile}
 use Rattle.directions.specs.Answers.{FileAnswer}
 use Rattle.directions.proofs.Refused.{refuse-by}
-use Rattle.grid.specs.Writing.{decimals, written, zeroDigits, minus, towards, up}
+use Rattle.words.specs.Writing.{decimals, written, zeroDigits}
+use Rattle.grid.specs.Writing.{minus, towards, up}
 use Rattle.grid.specs.Mistakes.{Mistakes, close, holder, across-edge, StrictlyInside}
 use Rattle.grid.proofs.Showing.{files, crosses}
 use Rattle.grid.proofs.Examples.{examples, points, rings}

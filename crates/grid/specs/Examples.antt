@@ -21,7 +21,8 @@ use Rattle.points.specs.Answers.{PlaceAnswer, NamePlaceAnswer, TickAnswer, Name
 use Rattle.points.specs.Answers.{noCoordinates}
 use Rattle.directions.specs.Refusals.{refuseFile, refuseList}
 use Rattle.directions.specs.Answers.{FileAnswer, ListAnswer}
-use Rattle.grid.specs.Writing.{written, wordsFor, cornerIn, zeroDigits, minus, towards, up}
+use Rattle.words.specs.Writing.{written, wordsFor, zeroDigits}
+use Rattle.grid.specs.Writing.{cornerIn, minus, towards, up}
 use Rattle.grid.specs.Writing.{place, ticks, point}
 
 -- "Codes are written apq then digits."

@@ -22,7 +22,8 @@ use Rattle.corners.specs.Answers.{nameAnswer, countAnswer}
 use Rattle.points.specs.Answers.{TickAnswer, NameTickAnswer}
 use Rattle.directions.specs.Refusals.{refuseFile}
 use Rattle.directions.specs.Answers.{FileAnswer, ListAnswer}
-use Rattle.grid.specs.Writing.{written, cornerIn, minus, towards, up, ticks}
+use Rattle.words.specs.Writing.{written}
+use Rattle.grid.specs.Writing.{cornerIn, minus, towards, up, ticks}
 
 -- A direction close to an edge of a triangle of degree 24. Its determinant by that edge is about 0.005, u + vφ with u
 -- and v above 10^16 in size; in 64-bit floating point it comes out as -4, so that the triangle across the edge, which

@@ -29,7 +29,8 @@ use Rattle.corners.specs.declared.CountAnswer.{CountAnswer}
 use Rattle.corners.specs.declared.StepAnswer.{StepAnswer}
 use Rattle.directions.specs.Refusals as directions
 use Rattle.directions.specs.Answers.{FileAnswer, ListAnswer}
-use Rattle.grid.specs.Writing.{decimals, written, wordsFor, up}
+use Rattle.words.specs.Writing.{decimals, written, wordsFor}
+use Rattle.grid.specs.Writing.{up}
 use Rattle.grid.proofs.Bounds as grid-bounds
 use Rattle.grid.proofs.Examples as grid
 use Rattle.grid.proofs.Showing.{lists}

@@ -11,7 +11,8 @@ use Rattle.words.specs.Refusals.{checkCode}
 use Rattle.words.specs.Family.{codeOf}
 use Rattle.net.specs.Corners.{nameOf}
 use Rattle.net.specs.Refusals.{checkName}
-use Rattle.grid.specs.Writing.{written, wordsFor, cornerIn, minus, towards, up}
+use Rattle.words.specs.Writing.{written, wordsFor}
+use Rattle.grid.specs.Writing.{cornerIn, minus, towards, up}
 use Rattle.host.specs.Refusals.{refuseCross, refuseFile, refuseList, refuseSweep}
 use Rattle.host.specs.Answers.{CrossBytes, FileBytes, ListBytes, SweepBytes}
 

@@ -16,7 +16,8 @@ use Rattle.words.specs.declared.CodeAnswer.{CodeAnswer}
 use Rattle.filing.specs.declared.Direction.{Direction}
 use Rattle.directions.specs.Refusals.{refuseFile}
 use Rattle.directions.specs.Answers.{FileAnswer}
-use Rattle.grid.specs.Writing.{decimals, written, towards}
+use Rattle.words.specs.Writing.{decimals, written}
+use Rattle.grid.specs.Writing.{towards}
 use Rattle.grid.proofs.Examples as grid
 use Rattle.sweeps.specs.Sweeps.{Singles, done, then, codesOf, refusalsOf, noSweep, told}
 use Rattle.sweeps.specs.Refusals.{refuseSweep}

@@ -7,7 +7,7 @@ use Rattle.frame.specs.Lists.{some, firstPlace, those}
 use Rattle.frame.proofs.Answering.{known-gives}
 use Rattle.words.specs.Words.{digits, path, wordOf}
 use Rattle.words.specs.Counting.{placeOf}
-use Rattle.grid.specs.Writing.{decimals, written}
+use Rattle.words.specs.Writing.{decimals, written}
 use Rattle.tables.specs.Owners.{Shared}
 use Rattle.tables.specs.Refusals.{refuseCall, refuseDeed}
 use Rattle.tables.specs.Histories.{answers, after, seen}

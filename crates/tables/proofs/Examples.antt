@@ -11,7 +11,7 @@ use Rattle.frame.specs.Lists.{some, firstPlace}
 use Rattle.frame.proofs.Answering.{known-gives, no-other}
 use Rattle.words.specs.Words.{digits, path, wordOf}
 use Rattle.words.specs.Counting.{placeOf}
-use Rattle.grid.specs.Writing.{decimals, written}
+use Rattle.words.specs.Writing.{decimals, written}
 use Rattle.tables.specs.Tables.{number}
 use Rattle.tables.specs.Owners.{Shared}
 use Rattle.tables.specs.Refusals.{refuseCall, refuseDeed}

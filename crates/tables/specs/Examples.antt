@@ -8,7 +8,7 @@ use lib.ListN.{length, set, replicate}
 use Rattle.frame.specs.Promises.{_gives_, _leaves_}
 use Rattle.words.specs.Family.{codeOf}
 use Rattle.words.specs.Counting.{placeOf}
-use Rattle.grid.specs.Writing.{written, zeroDigits}
+use Rattle.words.specs.Writing.{written, zeroDigits}
 use Rattle.tables.specs.Tables.{none, fresh}
 use Rattle.tables.specs.Owners.{Shared, shared, freshShared}
 use Rattle.tables.specs.Refusals.{refuseGet, refuseDeed}

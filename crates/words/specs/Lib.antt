@@ -2,3 +2,4 @@ pub mod Words
 pub mod Refusals
 pub mod Family
 pub mod Counting
+pub mod Writing

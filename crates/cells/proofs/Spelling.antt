@@ -1,0 +1,83 @@
+-- Valid codes are told apart by how they are written; so the order of the tree is one, and what lies inside comes after.
+-- Assumes nothing.
+use mathlib.Core.Path.{_≡_, _∙_, refl, sym, ap}
+use mathlib.Core.Bool.{true, false}
+use mathlib.Core.Logic.{⊎-elim}
+use mathlib.Core.List.{List, reverse, reverse-reverse}
+use Prim.Native.Nat.{ℕ, zero, suc}
+use lib.ListN.{length}
+use borrow.Author.Tests.{eqb-true}
+use Rattle.words.specs.Words.{degreeOf, digits, sideOf}
+use Rattle.words.specs.Refusals.{IsCode}
+use Rattle.words.specs.Family.{codeOf}
+use Rattle.words.proofs.Codes.{is-code, same-code}
+use Rattle.cells.specs.Order.{valid, spelled, lessThan, insideOf}
+use Rattle.cells.specs.Promises.{Ordered}
+use Rattle.cells.proofs.Dictionary.{known, clash, sooner-self, sooner-trans, sooner-total}
+use Rattle.cells.proofs.Dictionary.{begins-sooner, begins-between}
+
+pub valid-code : (w : ℕ) → valid w ≡ true → IsCode (degreeOf w) (codeOf w)
+valid-code w v = is-code (codeOf w) (eqb-true _ _ v)
+
+pub digits-length : (w n : ℕ) → length (digits w n) ≡ n
+unfolding digits
+digits-length w zero = refl
+digits-length w (suc n) = ap suc (digits-length w n)
+
+spelled-one : (w u : ℕ) → valid w ≡ true → valid u ≡ true → spelled w ≡ spelled u → w ≡ u
+unfolding spelled
+spelled-one w u v v′ e =
+    let s : sideOf w ≡ sideOf u = cc in
+    let r : reverse (digits w (degreeOf w)) ≡ reverse (digits u (degreeOf u)) = cc in
+    let d : digits w (degreeOf w) ≡ digits u (degreeOf u) =
+    sym (reverse-reverse _) ∙ ap reverse r ∙ reverse-reverse _ in
+    let n : degreeOf w ≡ degreeOf u =
+    sym (digits-length w (degreeOf w)) ∙ ap length d ∙ digits-length u (degreeOf u) in
+    let c : IsCode (degreeOf u) (codeOf w) = record { passes = eqb-true _ _ v; degreeIs = n } in
+    let g : digits w (degreeOf u) ≡ digits u (degreeOf u) = ap (λ (k : ℕ). digits w k) (sym n) ∙ d in
+    ap (λ t. t .0) (same-code c (valid-code u v′) s g)
+
+-- ---- the order
+
+pub less-self : (w : ℕ) → lessThan w w ≡ false
+unfolding lessThan
+less-self w = sooner-self (spelled w)
+
+pub less-trans : (v w u : ℕ) → lessThan v w ≡ true → lessThan w u ≡ true → lessThan v u ≡ true
+unfolding lessThan
+less-trans v w u h k = sooner-trans (spelled v) (spelled w) (spelled u) h k
+
+pub less-total : (w u : ℕ) → valid w ≡ true → valid u ≡ true → lessThan w u ≡ false → lessThan u w ≡ false → w ≡ u
+unfolding lessThan
+less-total w u v v′ h k = spelled-one w u v v′ (sooner-total (spelled w) (spelled u) h k)
+
+pub less-ne : (w u : ℕ) → lessThan w u ≡ true → w ≡ u → ⊥
+less-ne w u h e = clash (ap (λ (k : ℕ). lessThan k u) (sym e) ∙ h) (less-self u)
+
+-- not both ways
+pub less-one-way : (w u : ℕ) → lessThan u w ≡ true → lessThan w u ≡ false
+less-one-way w u h = ⊎-elim (λ b. absurd (clash (less-trans u w u h b) (less-self u))) (λ b. b) (known (lessThan w u))
+
+-- what is neither less nor equal is above
+pub above : (w u : ℕ) → valid w ≡ true → valid u ≡ true → lessThan w u ≡ false → (w ≡ u → ⊥) → lessThan u w ≡ true
+above w u v v′ h ne = ⊎-elim (λ e. e) (λ e. absurd (ne (less-total w u v v′ h e))) (known (lessThan u w))
+
+-- ---- inside
+
+-- what lies inside comes after
+pub inside-less : (w u : ℕ) → insideOf w u ≡ true → lessThan u w ≡ true
+unfolding insideOf lessThan
+inside-less w u h = begins-sooner (spelled u) (spelled w) h
+
+-- so what does not come after lies inside nothing
+pub not-inside : (w u : ℕ) → (lessThan u w ≡ true → ⊥) → insideOf w u ≡ false
+not-inside w u n = ⊎-elim (λ h. absurd (n (inside-less w u h))) (λ h. h) (known (insideOf w u))
+
+-- what comes between a triangle and one inside it lies inside it too
+pub inside-between : (e p w : ℕ) → lessThan e p ≡ true → lessThan p w ≡ true → insideOf w e ≡ true
+    → insideOf p e ≡ true
+unfolding insideOf lessThan
+inside-between e p w h k b = begins-between (spelled e) (spelled p) (spelled w) h k b
+
+pub ordered : Ordered
+ordered = record { total = less-total; onward = less-trans; notItself = less-self; ancestor = inside-less }

@@ -30,6 +30,13 @@ count of numbers and of places that it can have; at every degree; and with refus
 bench's is lent slices of every length about the least that is needed. All answers are then compared with those of file.
 For the program ./sweep it writes cases: arguments and input, and what the program must write and its exit status.
 
+For the cell lists of request 2026-09 two words are compared as their side and digits, number by number, and each
+triangle that a word lies inside is looked for among the earlier words. The console's call is made with words of every
+kind alone; with two triangles of every two degrees; with good lists; and with such lists damaged in every way, at the
+first, a middle and the last place. All answers are then compared with the three conditions for a list, which must hold
+before the place that is answered and not with it. For the program ./cells it writes cases: a file, and the line that
+the program must write for it.
+
     second.py CALLS ANSWERS           writes the calls, one a line, and the answers that the console must give to them
     second.py --answer                answers the call lines of standard input, all but help, from no open table on
     second.py --host CALLS ANSWERS    writes the calls of the test bench in C, and the answers that it must give to them
@@ -37,6 +44,8 @@ For the program ./sweep it writes cases: arguments and input, and what the progr
     second.py --sweep FOLDER          writes for each case of ./sweep NAME.args, its arguments, one a line, and NAME.in,
                                       its standard input; and NAME.out, NAME.err and NAME.status, what must be on its
                                       standard output and standard error, neither a terminal, and its exit status
+    second.py --cells FOLDER          writes for each case of ./cells NAME.bin, the file; NAME.line, the one line that
+                                      must be written for it; and NAME.more, the second line that -v adds, or nothing
 """
 import bisect
 import itertools
@@ -572,7 +581,7 @@ def word_refusals(word, numbers):
     )
 
 
-@lru_cache(maxsize=1 << 10)
+@lru_cache(maxsize=1 << 14)
 def code_refusals(code):
     # "A triangle code has corner number 0."
     return word_refusals(code, (0,))
@@ -776,6 +785,52 @@ def swept(n, directions):
     return Swept([code for _, code in results], len(refused_at), *(refused_at[0] if refused_at else (0, 0)))
 
 
+# ==== Document 02, 2026-09, "Check another yard's cell list"
+
+# "1 invalid, 2 less than the word before, 3 equal to it, 4 inside an earlier one", in the words of docs/CONSOLE.md.
+REASONS = {1: "invalid", 2: "less than the word before", 3: "equal to the word before", 4: "inside an earlier one"}
+Offence = namedtuple("Offence", "place reason")
+
+
+@lru_cache(maxsize=1 << 14)
+def path(code):
+    # "Codes of different degree compare by side, then by digits, an ancestor before its descendants." So are two tuples
+    # compared: by the first number that differs; and one that is the beginning of the other comes before it.
+    return (*side_of(code), *digits_of(code))
+
+
+def paths_above(code):
+    """Those of the triangles that the code's lies inside: its side, and the beginnings of its digits but not all."""
+    return [path(code)[:length] for length in range(3, len(path(code)))]
+
+
+def reasons_at(word, before, earlier):
+    """All that hold of a word, by the word before, if there is one, and the paths of all earlier words. None of these
+    offends."""
+    # Whether a word is less than an invalid one is never asked: the invalid one is at an earlier offending place.
+    must(before is None or not code_refusals(before), "only valid words are compared", word, before)
+    if code_refusals(word):
+        # Nor whether an invalid one is less than another word: 1 is the least reason.
+        return {1}
+    if before is None:
+        return set()
+    less, equal, inside = path(word) < path(before), word == before, not earlier.isdisjoint(paths_above(word))
+    return when(2, less) | when(3, equal) | when(4, inside)
+
+
+def first_offence(words):
+    # "The first offending place, from 0, and its reason are answered: .., the least deciding." "The empty list is
+    # accepted."
+    before, earlier = None, set()
+    for place, word in enumerate(words):
+        reasons = reasons_at(word, before, earlier)
+        if reasons:
+            return Offence(place, min(reasons))
+        before = word
+        earlier.add(path(word))
+    return None
+
+
 # ==== The console's answers
 
 
@@ -937,6 +992,17 @@ def call_sweep(n, places, numbers):
     # "Code places after the last direction stay unchanged."
     lent[: len(found.codes)] = found.codes
     return with_places(sweep_text(found), places, lent, word_text)
+
+
+def cells_text(found):
+    # "The program writes one line: "accepted", or "place P reason R" in decimal"
+    return "accepted" if found is None else f"place {found.place} reason {found.reason}"
+
+
+def call_check_cells(words):
+    # "`accepted`, or `place ` P ` reason ` R `: ` and the reason in words". "Nothing is refused."
+    found = first_offence(words)
+    return cells_text(found) + ("" if found is None else f": {REASONS[found.reason]}")
 
 
 # ==== The console's table: docs/CONSOLE.md, "A table of soundings"
@@ -1188,6 +1254,7 @@ ANSWERS = {
     "file DEGREE X Y Z": call_file,
     "list DEGREE X Y Z [PLACES]": call_list,
     "sweep DEGREE PLACES [NUMBER]..": call_sweep,
+    "check-cells [CODE]..": call_check_cells,
 }
 TABLE_ANSWERS = {
     "table DEGREE [LENGTH FILL [PLACE VALUE]..]": call_table,
@@ -1257,6 +1324,8 @@ def read_arguments(kinds, given):
     if last == "[NUMBER]..":  # "(0 to 48 numbers)"
         within(len(given), 2, 2 + MOST_NUMBERS)
         return [read_number(given[0]), read_places(given[1]), [read_signed(x) for x in given[2:]]]
+    if last == "[CODE]..":  # "(as many as the line has room for)"
+        return [[read_code(x) for x in given]]
     within(len(given), len(kinds) - (last in ("[PLACES]", "[CODE]")), len(kinds))
     return [READERS.get(kind, read_number)(x) for kind, x in zip(kinds, given)]
 
@@ -1479,6 +1548,8 @@ def internal_checks():
     check_by_hand()
     check_between()
     check_sweep_lines()
+    check_cell_order()
+    check_cell_lines()
 
 
 # ==== Internal checks of what file and list are answered to degree 5
@@ -2085,7 +2156,7 @@ def refusal_calls():
 
 def good_arguments(kinds):
     good = {"CODE": "100", "NAME": "0x2000000000000001", "DEGREE": "0", "[PLACES]": "12"}
-    good.update({"WEIGHTS": "1 0 0 0 0 0 0 0 0 0 0 0", "PLACES": "1", "[NUMBER]..": "1 2 3"})
+    good.update({"WEIGHTS": "1 0 0 0 0 0 0 0 0 0 0 0", "PLACES": "1", "[NUMBER]..": "1 2 3", "[CODE]..": "100"})
     return [good.get(kind, "1") for kind in kinds]
 
 
@@ -2105,7 +2176,7 @@ BAD_SIGNED = """
 """.split()
 BAD_PLACES = "17 18446744073709551615 18446744073709551616 -1 six 0x11 0x 12.0".split()
 BAD = {"CODE": BAD_CODES, "NAME": BAD_NAMES, "X": BAD_SIGNED, "Y": BAD_SIGNED, "Z": BAD_SIGNED, "[PLACES]": BAD_PLACES}
-BAD.update({"PLACES": BAD_PLACES, "[NUMBER]..": BAD_SIGNED})
+BAD.update({"PLACES": BAD_PLACES, "[NUMBER]..": BAD_SIGNED, "[CODE]..": BAD_CODES})
 ONE_TOO_MANY = {"WEIGHTS": ["0"] * 5, "[NUMBER]..": ["0"] * 46}
 
 
@@ -2131,10 +2202,10 @@ UNREADABLE_AND_REFUSED = """
 def unreadable_calls():
     """Every call with arguments missing, one too many, and each argument unreadable."""
     chance = random.Random(9)
-    with_all = ("check", "check-name", "child", "file", "list", "ring", "sweep")
+    with_all = ("check", "check-name", "child", "file", "list", "ring", "sweep", "check-cells")
     for call, (_, kinds, _) in GRID_FORMS.items():
         good = good_arguments(kinds)
-        least = len(kinds) - (kinds[-1] in ("[PLACES]", "WEIGHTS", "[NUMBER].."))
+        least = len(kinds) - (kinds[-1] in ("[PLACES]", "WEIGHTS", "[NUMBER]..", "[CODE].."))
         yield from (" ".join([call] + good[:k]) for k in range(least))
         yield " ".join([call] + good + ONE_TOO_MANY.get(kinds[-1], ["1"]))
         yield " ".join([call] + good + ["x"])
@@ -2153,6 +2224,9 @@ UNKNOWN = """
     helpme; ?; exit; quit; check_name 0x2000000000000001; name_weights 1; names 100 1; names; crossing 1001 2; T 100 1
     t1 100 1; tt; rings; Ring 0x2000000000000001; filed 0 1 1 1; lists 0 1 1 1; weight 100 1; backs 0 1; bit 100 1
     sweeps 2 0; Sweep 2 0; SWEEP 2 0; sweep2 0; swee 2 0; sweep: 2 0; ./sweep 2; --packed 2; sweep\u00a02 0
+    check-cell 100; check_cells 100; checkcells 100; Check-cells 100; CHECK-CELLS 100; check-Cells; cells; cells check
+    cells 100; ./cells check; check-cells: 100; check-cells, 100; check-cells100; check-cellss; check-; -cells 100
+    check-cells\u00a0100; check-list 100; check-cells-100; check-cells#
     drawn-name 100 1; exact-name 100 1; name-; -name; name-name 1; check#; check, 100; chéck 100; check\u00a0100
     \u2003check 100; \ufeffcheck 100; φ
 """
@@ -2164,6 +2238,7 @@ def unknown_calls():
     yield from ["check\x0b100", "\x0bcheck 100", "check\x0c 100", "check\x00 100", "\x00", "\x1acheck 100"]
     yield from ["\x7f", "\xff\xfe", "\x80check 100", "check 100\x0b", "check \x0c100", "check 100\x00"]
     yield from ["file 0 1 1 1\x0c", "child 100 \x001", "sweep\x002 1", "sweep\x0b2 1"]
+    yield from ["check-cells\x0b100", "check-cells\x00", "\x0ccheck-cells 100", "check-cells\xff"]
     yield as_bytes("check 100\u00a0")
 
 
@@ -4509,6 +4584,711 @@ def check_sweep_lines():
         must(answer(line) == "error: write it as sweep DEGREE PLACES [NUMBER]..", "unreadable", line)
 
 
+# ==== The calls: lists of cells, examples with the answers written out by hand
+
+CELLS_WORDS = {
+    "INVALID": "reason 1: invalid",
+    "LESS": "reason 2: less than the word before",
+    "EQUAL": "reason 3: equal to the word before",
+    "INSIDE": "reason 4: inside an earlier one",
+}
+CELLS_TEXT = """
+    check-cells 10003 1001 101 -> accepted
+    check-cells 1001 10012 -> place 1 INSIDE
+    check-cells -> accepted
+    check-cells 100 -> accepted
+    check-cells 0x2000000000000000 -> accepted
+    check-cells 511333333333333333333333333 -> accepted
+    check-cells 0x0 -> place 0 INVALID
+    check-cells 0xFFFFFFFFFFFFFFFF -> place 0 INVALID
+    check-cells 600 -> place 0 INVALID
+    check-cells 0x2000000000000001 -> place 0 INVALID
+    check-cells 1001 10003 -> place 1 LESS
+    check-cells 0x2050000000000000 0x208C000000000000 -> place 1 LESS
+    check-cells 0x208C000000000000 0x2050000000000000 -> accepted
+    check-cells 1001 1001 -> place 1 EQUAL
+    check-cells 1001 0x2050000000000000 -> place 1 EQUAL
+    check-cells 100 1000 -> place 1 INSIDE
+    check-cells 1000 100 -> place 1 LESS
+    check-cells 100 101 110 111 200 -> accepted
+    check-cells 101 111 110 -> place 2 LESS
+    check-cells 200 111 -> place 1 LESS
+    check-cells 511 100 -> place 1 LESS
+    check-cells 100 1013 -> accepted
+    check-cells 1000 1001 1002 1003 -> accepted
+    check-cells 100 1000 1001 1002 1003 -> place 1 INSIDE
+    check-cells 1000 1001 1002 1003 100 -> place 4 LESS
+    check-cells 100 1000 10003 1001 10012 1003 101 -> place 1 INSIDE
+    check-cells 1000 10003 -> place 1 INSIDE
+    check-cells 10003 1000 -> place 1 LESS
+    check-cells 10003 1001 10012 -> place 2 INSIDE
+    check-cells 10003 1001 1003 101 -> accepted
+    check-cells 1001 1003 10012 -> place 2 LESS
+    check-cells 1001 1003 1001 -> place 2 LESS
+    check-cells 1001 10012 10012 -> place 1 INSIDE
+    check-cells 1001 1001 10012 -> place 1 EQUAL
+    check-cells 1001 1001 0x0 -> place 1 EQUAL
+    check-cells 1001 0x0 -> place 1 INVALID
+    check-cells 0x0 0x0 -> place 0 INVALID
+    check-cells 0x0 1001 1001 -> place 0 INVALID
+    check-cells 1001 0x2050000000000001 -> place 1 INVALID
+    check-cells 1001 0x2098000000000001 -> place 1 INVALID
+    check-cells 1001 0x208C000000000004 -> place 1 INVALID
+    check-cells 1001 1003 6001 -> place 2 INVALID
+    check-cells 100333333333333333333333333 101000000000000000000000000 -> accepted
+    check-cells 100000000000000000000000000 100000000000000000000000001 -> accepted
+    check-cells 100 100000000000000000000000000 -> place 1 INSIDE
+    check-cells 100000000000000000000000000 100 -> place 1 LESS
+    check-cells 10000000000000000000000000 100000000000000000000000001 -> place 1 INSIDE
+    check-cells 10000000000000000000000001 100000000000000000000000003 -> place 1 LESS
+"""
+
+
+def cells_example(line):
+    """A line, and its answer with the reason in words."""
+    call, text = line.strip().split(" -> ")
+    told, _, reason = text.rpartition(" ")
+    return call, f"{told} {CELLS_WORDS[reason]}" if reason in CELLS_WORDS else text
+
+
+# The examples of docs/CONSOLE.md and docs/CELLS.md are among them.
+CELLS_EXAMPLES = dict(map(cells_example, CELLS_TEXT.strip().split("\n")))
+
+
+# ==== The calls: one cell, and two
+
+
+def cell_form(chance, word):
+    """As document 01 writes it, if it can be read so, or as a word; else as a word, also without the zeros at its
+    beginning."""
+    text, words = triangle_text(word), [f"0x{word:016X}", f"0x{word:016x}"]
+    return chance.choice([text, text, *words] if read_triangle(text) == word else [*words, f"0x{word:x}"])
+
+
+def cells_line(chance, words):
+    return " ".join(["check-cells", *(cell_form(chance, word) for word in words)])
+
+
+def one_cell():
+    """Codes of every degree, also with each field broken, alone and in pairs; some with each value that a field must
+    not have, and with each bit turned over; the least and the greatest words, single bits, and any 64 bits."""
+    chance = random.Random(81)
+    words = [0, 3, 60, 63, MOST - 63, MOST - 3, MOST] + [1 << bit for bit in range(64)]
+    for n in range(DEEPEST + 1):
+        words += [random_code(chance, n) for _ in range(8)]
+        for breaks in alone_and_in_pairs(CODE_BREAKS):
+            words += [broken(random_code(chance, n), breaks, chance) for _ in range(2)]
+    for n in (0, 1, 5, 12, 23, 24):
+        words += damaged_fields(random_code(chance, n))
+    for n in (0, 3, 24):
+        words += [random_code(chance, n) ^ 1 << bit for bit in range(64)]
+    words += [chance.getrandbits(64) for _ in range(100)]
+    yield from (cells_line(chance, [word]) for word in words)
+
+
+def walk(code, n):
+    """The code and all inside it to degree n: a parent before its children, and these by digit."""
+    found = [code]
+    for child in child_codes(code) if degree_of(code) < n else ():
+        found += walk(child, n)
+    return found
+
+
+def walk_all(n):
+    return [code for side in codes_of(0) for code in walk(side, n)]
+
+
+def two_cells():
+    """Every two sides; every two triangles of one side to degree 2, and of each side to degree 1; and a share of all
+    to degree 2. The same digits on two sides, at every degree."""
+    chance = random.Random(82)
+    pairs = list(itertools.product(codes_of(0), repeat=2))
+    for some in [walk(codes_of(0)[0], 2), *(walk(side, 1) for side in codes_of(0))]:
+        pairs += itertools.product(some, repeat=2)
+    every = walk_all(2)
+    pairs += [chance.choices(every, k=2) for _ in range(900)]
+    for n in range(DEEPEST + 1):
+        for one, other in (chance.sample(SIDES, 2) for _ in range(6)):
+            code = random_code(chance, n)
+            pairs.append([make_code(one, digits_of(code)), make_code(other, digits_of(code))])
+    yield from (cells_line(chance, pair) for pair in pairs)
+
+
+def tail(chance, digit, length):
+    """Digits that begin with the one, if there are any."""
+    return [digit, *chance.choices(chance.choice([(0,), (3,), (0, 1, 2, 3)]), k=length)][:length]
+
+
+def parted(chance, m, n, shared):
+    """Codes of degrees m and n on one side that part after the shared digits. One that has no more of them is above the
+    other, or the same."""
+    side, digits = chance.choice(SIDES), digits_of(random_code(chance, shared))
+    ends = zip(chance.sample(range(4), 2), (m, n))
+    return [make_code(side, digits + tail(chance, digit, degree - shared)) for digit, degree in ends]
+
+
+def two_degrees():
+    """Codes of every two degrees, on two sides that rise and on two that fall; and on one side, parted at once, at the
+    last, in between, or not; and where one has only zeros after the digits of the other."""
+    chance = random.Random(83)
+    for m, n in itertools.product(range(DEEPEST + 1), repeat=2):
+        two = sorted(chance.sample(SIDES, 2))
+        for sides in (two, two[::-1]):
+            codes = [make_code(side, digits_of(random_code(chance, k))) for side, k in zip(sides, (m, n))]
+            yield cells_line(chance, codes)
+        least = min(m, n)
+        for shared in sorted({0, max(least - 1, 0), least, chance.randint(0, least)}):
+            yield cells_line(chance, parted(chance, m, n, shared))
+        side, digits = chance.choice(SIDES), digits_of(random_code(chance, least))
+        yield cells_line(chance, [make_code(side, digits + [0] * (k - least)) for k in (m, n)])
+
+
+def every_digit():
+    """Codes that part at each place, with every two digits there: of degree 24, and of any other degrees."""
+    chance = random.Random(94)
+    for place in range(DEEPEST):
+        side, digits = chance.choice(SIDES), digits_of(random_code(chance, place))
+        for two in itertools.permutations(range(4), 2):
+            for degrees in ((DEEPEST, DEEPEST), chance.choices(range(place + 1, DEEPEST + 1), k=2)):
+                ends = [tail(chance, digit, n - place) for digit, n in zip(two, degrees)]
+                yield cells_line(chance, [make_code(side, digits + end) for end in ends])
+
+
+def every_few():
+    """Every list of three of the codes in the picture of docs/CELLS.md and an invalid word; and every list of four of
+    five codes."""
+    for some in itertools.product("100 1000 10003 1001 10012 1003 101 0x0".split(), repeat=3):
+        yield "check-cells " + " ".join(some)
+    for some in itertools.product("100 1000 10003 1001 101".split(), repeat=4):
+        yield "check-cells " + " ".join(some)
+
+
+# ==== The calls: good lists of cells
+
+
+def by_path(codes):
+    return sorted(codes, key=path)
+
+
+def beside_path(chance, code, deepest):
+    """A triangle that parts from the code's after some of its digits."""
+    digits = digits_of(code)
+    at = chance.randrange(len(digits))
+    most = deepest - at
+    length = min(most, chance.choice([1, 1, 2, 3, chance.randint(1, most)]))
+    return make_code(side_of(code), digits[:at] + tail(chance, (digits[at] + chance.randrange(1, 4)) % 4, length))
+
+
+def good_list(chance, many, deepest=DEEPEST):
+    """A list that is accepted: triangles anywhere and close to others, of which none is inside another."""
+    found, there, above = [], set(), set()
+    while len(found) < many:
+        code = random_code(chance, chance.choice([deepest, chance.randint(0, deepest)]))
+        if found and chance.randrange(3):
+            near = chance.choice(found)
+            code = beside_path(chance, near, deepest) if degree_of(near) else code
+        ups = set(paths_above(code))
+        if path(code) not in there and path(code) not in above and not ups & there:
+            found.append(code)
+            there.add(path(code))
+            above |= ups
+    found = by_path(found)
+    must(first_offence(found) is None, "a good list", found)
+    return found
+
+
+def covering(chance, code, n):
+    """Triangles that together are the code's, divided along one path down to degree n."""
+    if degree_of(code) == n:
+        return [code]
+    four, at = child_codes(code), chance.randrange(4)
+    return four[:at] + covering(chance, four[at], n) + four[at + 1 :]
+
+
+MANY_CELLS = 33  # So many, and two more, have room in a line in any form.
+
+
+def good_cells():
+    """Of each greatest degree, lists of some lengths. Four children, and what else is one triangle together. The sides
+    in order, and all triangles of degree 1."""
+    chance = random.Random(84)
+    for deepest in range(DEEPEST + 1):
+        for many in (1, 2, 3, 4, 6, 10, 20 if deepest < 2 else MANY_CELLS):
+            yield from (cells_line(chance, good_list(chance, many, deepest)) for _ in range(3))
+    for n in range(DEEPEST):
+        code = random_code(chance, n)
+        yield cells_line(chance, child_codes(code))
+        yield from (cells_line(chance, covering(chance, code, min(n + k, DEEPEST))) for k in (2, 3, 10))
+    for n in (0, 1):
+        yield "check-cells " + " ".join(map(triangle_text, codes_of(n)))
+
+
+# ==== The calls: damaged lists of cells
+
+# Each damage is done to a good list at a place. It tells the list then, and what offends: or None where it can't be
+# done.
+
+
+def put_in(words, place, word):
+    return words[:place] + [word] + words[place:]
+
+
+def invalid_word(chance, word):
+    """With one field broken."""
+    return chance.choice([x for x in (one(word, chance) for one in CODE_BREAKS) if x != word])
+
+
+def descendant(chance, code):
+    """One inside the code's, which is not of degree 24."""
+    most = DEEPEST - degree_of(code)
+    more = tail(chance, chance.randrange(4), chance.choice([1, 1, most, chance.randint(1, most)]))
+    return make_code(side_of(code), digits_of(code) + more)
+
+
+def ancestor(chance, code):
+    """One that the code's is inside, which is not of degree 0."""
+    n = degree_of(code)
+    return make_code(side_of(code), digits_of(code)[: chance.choice([0, n - 1, n - 1, chance.randrange(n)])])
+
+
+def make_invalid(chance, words, place):
+    return words[:place] + [invalid_word(chance, words[place])] + words[place + 1 :], Offence(place, 1)
+
+
+def put_invalid(chance, words, place):
+    word = chance.choice([0, MOST, invalid_word(chance, random_code(chance, chance.randint(0, DEEPEST)))])
+    return put_in(words, place, word), Offence(place, 1)
+
+
+def repeat(chance, words, place):
+    return put_in(words, place + 1, words[place]), Offence(place + 1, 3)
+
+
+def exchange(chance, words, place):
+    """With the next one."""
+    if place + 1 == len(words):
+        return None
+    return words[:place] + [words[place + 1], words[place]] + words[place + 2 :], Offence(place + 1, 2)
+
+
+def put_inside(chance, words, place):
+    """After the word, one inside it."""
+    if degree_of(words[place]) == DEEPEST:
+        return None
+    return put_in(words, place + 1, descendant(chance, words[place])), Offence(place + 1, 4)
+
+
+def put_inside_before(chance, words, place):
+    if degree_of(words[place]) == DEEPEST:
+        return None
+    return put_in(words, place, descendant(chance, words[place])), Offence(place + 1, 2)
+
+
+def put_above(chance, words, place):
+    """After the word, one that it is inside."""
+    if degree_of(words[place]) == 0:
+        return None
+    return put_in(words, place + 1, ancestor(chance, words[place])), Offence(place + 1, 2)
+
+
+def put_above_before(chance, words, place):
+    """Where the word before is inside it too, it is less than that."""
+    if degree_of(words[place]) == 0:
+        return None
+    above = ancestor(chance, words[place])
+    too = place > 0 and path(above) in paths_above(words[place - 1])
+    return put_in(words, place, above), Offence(place, 2) if too else Offence(place + 1, 4)
+
+
+def repeat_later(chance, words, place):
+    """After the word, an earlier one again."""
+    return (put_in(words, place + 1, chance.choice(words[:place])), Offence(place + 1, 2)) if place else None
+
+
+def put_inside_later(chance, words, place):
+    """After the word, one inside an earlier one: 2 and 4 hold, and 2 decides."""
+    some = [code for code in words[:place] if degree_of(code) < DEEPEST]
+    if not some:
+        return None
+    return put_in(words, place + 1, descendant(chance, chance.choice(some))), Offence(place + 1, 2)
+
+
+def put_above_later(chance, words, place):
+    some = [code for code in words[:place] if degree_of(code) > 0]
+    if not some:
+        return None
+    return put_in(words, place + 1, ancestor(chance, chance.choice(some))), Offence(place + 1, 2)
+
+
+ORDER_DAMAGES = [repeat, exchange, put_inside, put_inside_before, put_above, put_above_before]
+ORDER_DAMAGES += [repeat_later, put_inside_later, put_above_later]
+DAMAGES = [put_invalid, make_invalid, *ORDER_DAMAGES]
+
+
+def damaged(chance, words, place, damage):
+    """The list that is damaged at the place, and what offends, or None."""
+    done = damage(chance, words, place)
+    if done is not None:
+        must(first_offence(done[0]) == done[1], "what offends", damage.__name__, *done)
+    return done
+
+
+def damaged_often(chance, words, times):
+    """In several ways, one after the other. The invalid words come last, since the other ways need codes."""
+    for damage in sorted(chance.choices(DAMAGES, k=times), key=DAMAGES.index, reverse=True):
+        done = damage(chance, words, chance.randrange(len(words)))
+        words = words if done is None else done[0]
+    return words
+
+
+def ends_and_middle(many):
+    return sorted({0, 1, many // 2, many - 2, many - 1} & set(range(many)))
+
+
+def damaged_cells():
+    """Good lists of some lengths, damaged in each way at the first, a middle and the last place."""
+    chance = random.Random(85)
+    for many in (1, 2, 3, 5, 8, 14, MANY_CELLS):
+        for place, damage in itertools.product(ends_and_middle(many), DAMAGES):
+            for _ in range(4):
+                done = damaged(chance, good_list(chance, many, chance.randint(2, DEEPEST)), place, damage)
+                if done is not None:
+                    yield cells_line(chance, done[0])
+
+
+def also_invalid(chance, done, break_one):
+    """The offending word is invalid too."""
+    words, found = done
+    word = break_one(words[found.place], chance)
+    words = words[: found.place] + [word] + words[found.place + 1 :]
+    if word != done[0][found.place]:
+        must(first_offence(words) == Offence(found.place, 1), "1 is the least", words)
+    return words
+
+
+def several_reasons():
+    """Each damage, with the offending word broken in each way; or put in twice, of which the first offends."""
+    chance = random.Random(86)
+    for many in (2, 3, 9):
+        for place, damage in itertools.product(ends_and_middle(many), ORDER_DAMAGES):
+            for break_one in CODE_BREAKS:
+                done = damaged(chance, good_list(chance, many), place, damage)
+                if done is not None:
+                    yield cells_line(chance, also_invalid(chance, done, break_one))
+            if done is not None:
+                words, found = done
+                twice = put_in(words, found.place, words[found.place])
+                must(first_offence(twice) == found, "the first one offends", twice)
+                yield cells_line(chance, twice)
+
+
+def several_offences():
+    """Lists damaged in some ways, one after the other; turned round; shuffled; and any words."""
+    chance = random.Random(87)
+    for at in range(500):
+        words = good_list(chance, chance.randint(2, 24), chance.randint(2, DEEPEST))
+        yield cells_line(chance, damaged_often(chance, words, 2 + at % 4))
+    for _ in range(60):
+        words = good_list(chance, chance.randint(2, 30))
+        yield cells_line(chance, words[::-1])
+        yield cells_line(chance, sorted(words))
+        yield cells_line(chance, chance.sample(words, len(words)))
+        yield cells_line(chance, [random_code(chance, chance.randint(0, 3)) for _ in range(chance.randint(2, 6))])
+        yield cells_line(chance, [chance.getrandbits(64) for _ in range(chance.randint(2, 30))])
+
+
+# ==== The calls: lists of cells as long as a line, lines that cannot be read, and lines that can, just
+
+
+def shortest_form(word):
+    text = triangle_text(word)
+    return text if read_triangle(text) == word else f"0x{word:x}"
+
+
+def shortest_line(words):
+    return " ".join(["check-cells", *map(shortest_form, words)])
+
+
+def as_many_as_fit(words, room=1000):
+    while len(shortest_line(words)) > room:
+        words = words[:-1]
+    return words
+
+
+def long_cell_lists(chance):
+    """Good lists that fill a line: of degree 2; of degree 1 with some of them divided; of degree 24; and of any."""
+    yield codes_of(2)
+    some = set(chance.sample(codes_of(1), 31))
+    yield by_path(x for code in codes_of(1) for x in (child_codes(code) if code in some else [code]))
+    yield covering(chance, codes_of(0)[7], DEEPEST)
+    yield by_path({random_code(chance, DEEPEST) for _ in range(60)})
+    yield from (good_list(chance, 150, deepest) for deepest in (3, 5, 9))
+
+
+def long_cells():
+    """Filled up with spaces to 1000 bytes, and to 1001. Damaged close to the end and at the beginning. And one word as
+    often as the line has room."""
+    chance = random.Random(88)
+    for long_list in long_cell_lists(chance):
+        words = as_many_as_fit(long_list)
+        yield from (filled(shortest_line(words), length) for length in (1000, 1001))
+        few = as_many_as_fit(words, 1000 - 28)
+        for place, damage in itertools.product(ends_and_middle(len(few)), DAMAGES):
+            done = damaged(chance, few, place, damage)
+            if done is not None:
+                yield shortest_line(done[0])
+    for text in ("100", "511333333333333333333333333", "0x0", "0x2000000000000000", "0xffffffffffffffff"):
+        line = "check-cells"
+        while len(line) + 1 + len(text) <= 1000:
+            line += " " + text
+        yield from [line, line + " " + text, filled(line, 1000, "\t"), filled(line, 1001)]
+
+
+UNREADABLE_CELLS = """
+    check-cells x; check-cells 0; check-cells 1; check-cells 10; check-cells 100 10; check-cells 100 x 101
+    check-cells x 100 101; check-cells 100 101 x; check-cells 0x0 x; check-cells 600 600 x; check-cells 1001 1001 1004
+    check-cells 100 1000 10000 800; check-cells 1001 10003 120; check-cells 100,101; check-cells 100, 101
+    check-cells 100.; check-cells 100 101,; check-cells [100]; check-cells [100 101]; check-cells (100)
+    check-cells 100 # note; check-cells # 100; check-cells #; check-cells 100 #101; check-cells CODE
+    check-cells [CODE]..; check-cells 100 ..; check-cells -v; check-cells -v 100; check-cells 100 -v; check-cells --
+    check-cells -- 100; check-cells -100; check-cells examples/cells/good; check-cells check 100
+    check-cells check-cells; check-cells 100 check-cells 101; check-cells 0x; check-cells 100 0x
+    check-cells 0x20000000000000000; check-cells 0x00000000000000000; check-cells 100 0x20000000000000000
+    check-cells 0X2000000000000000; check-cells 2305843009213693952; check-cells 100 2050000000000000
+    check-cells 0x200000000000000g; check-cells 0x2000_0000_0000_0000; check-cells 1000000000000000000000000000
+    check-cells 100 1010000000000000000000000000; check-cells 100 1O1; check-cells 10003 0x2050000000000000,
+    check-cells "100"; check-cells 100\u00a0101; check-cells 100 101\u00a0; check-cells ١٠٠; check-cells 100 φ
+    check-cells é; check-cells accepted; check-cells place 1 reason 4
+"""
+
+
+def unreadable_cells():
+    """What can not be read is said before anything that offends."""
+    chance = random.Random(89)
+    yield from written(UNREADABLE_CELLS)
+    for many in (1, 2, 3, 7, MANY_CELLS):
+        for at in range(many):
+            for word in chance.sample(BAD_TABLE_CODES, 3 if many > 7 else 8):
+                words = good_list(chance, many) if chance.randrange(2) else [random_code(chance, 2)] * many
+                forms = [cell_form(chance, x) for x in words]
+                yield as_bytes(" ".join(["check-cells", *forms[:at], word, *forms[at + 1 :]]))
+    yield from ["check-cells 100\x00", "check-cells 100\x0b101", "check-cells\t100\x0c", "check-cells \xff"]
+    yield filled(shortest_line(as_many_as_fit(codes_of(2), 990)), 998) + " x"
+
+
+READABLE_CELLS = """
+    check-cells 0x0 0x00; check-cells 0x00 0x0000000000000000; check-cells 0x1; check-cells 0x2000000000000000 0x1
+    check-cells 0xa000000000000000 0xA800000000000000; check-cells 0xA800000000000000 0xa800000000000000
+    check-cells 0x208c000000000000 0x2050000000000000 101; check-cells 000 100; check-cells 100 2000000000000000
+    check-cells 000; check-cells 0003; check-cells 6001; check-cells 711; check-cells 711333333333333333333333333
+    check-cells 100 600; check-cells 100 000; check-cells 511 600; check-cells 511 711; check-cells 600 700
+    check-cells 0x20000000000000; check-cells 0xfffffffffffffff; check-cells 0xaBcDeF0123456789 100
+    check-cells 0xaBc0000000000000; check-cells 0xB800000000000000 0xbE00000000000000
+"""
+
+
+def spaced_cells():
+    """Either case, tabs and carriage returns, and lines of 1000 bytes and more."""
+    yield from written(READABLE_CELLS)
+    yield from ["\tcheck-cells\t10003\t1001\t101\t", "check-cells 1001 10012\r", "  check-cells   1001  10012  "]
+    yield from ["\rcheck-cells\r1001\r1001", "check-cells\r", "\tcheck-cells\t", "  check-cells  ", "check-cells \t\r "]
+    for length in (998, 999, 1000, 1001, 1002, 2000, 65536):
+        yield filled("check-cells", length)
+        yield filled("check-cells 1001 10012", length, "\r")
+        yield " " * (length - len("check-cells 1001 10003")) + "check-cells 1001 10003"
+        yield "check-cells 1001" + " " * (length - 20) + "1001"
+        yield "check-cells 10003 1001 101"
+
+
+def cells_on_table():
+    """A list of cells leaves the open table as it is, also one that offends or can not be read."""
+    chance = random.Random(90)
+    for line in ("table 1 80 -1 1 1250 79 0", "table 0 20 -1 3 -2", "table 7 3 500"):
+        yield line
+        for damage in (None, *DAMAGES, None):
+            words = good_list(chance, chance.randint(1, 9))
+            done = damage and damaged(chance, words, chance.randrange(len(words)), damage)
+            yield from [cells_line(chance, done[0] if done else words), "get 1001", "readings"]
+        for other in ("check-cells", "check-cells x", "check-cells 100 1"):
+            yield from [other, "readings"]
+
+
+# ==== Internal checks of the order of cells, and of what lists of them are answered
+
+CELLS_LINE = re.compile(r"[ \t\r]*check-cells(?![^ \t\r])")
+CELLS_ANSWER = re.compile("accepted|place ([0-9]+) (reason ([1-4]): .*)")
+CellsSeen = namedtuple("CellsSeen", "words place reason")
+LITERAL_CELLS = 64  # To this length of a list, each word is asked whether it is inside each other one.
+
+
+def aligned(code):
+    """The order in another way: by side; by all twenty-four digits as one number, zeros beyond the degree; then by
+    degree."""
+    return code >> 59, code >> 6 & 2**48 - 1, degree_of(code)
+
+
+@lru_cache(maxsize=1 << 14)
+def climbed(code):
+    """Its parent, the parent's parent, and so on."""
+    return (parent_code(code), *climbed(parent_code(code))) if degree_of(code) > 0 else ()
+
+
+def is_inside(code, other):
+    """The other has the same side, and a beginning of the code's digits but not all."""
+    length = len(path(other))
+    return length < len(path(code)) and path(code)[:length] == path(other)
+
+
+def corners_inside(code, other):
+    """Another triangle, that holds all three corners of the code's."""
+    three = [exact(p) for p in corners(code)]
+    return code != other and all(at_least_zero(*x) for p in three for x in determinants(corners(other), p))
+
+
+def check_pair(x, y):
+    """The order in two ways; and inside in three."""
+    must((path(x) < path(y)) == (aligned(x) < aligned(y)), "the order", x, y)
+    must((path(x) == path(y)) == (aligned(x) == aligned(y)) == (x == y), "equal", x, y)
+    must((path(x) in paths_above(y)) == is_inside(y, x) == (x in climbed(y)), "inside", x, y)
+    # Document 01: "codes of one degree being compared as 64-bit words"
+    must(degree_of(x) != degree_of(y) or (path(x) < path(y)) == (x < y), "codes of one degree", x, y)
+
+
+def check_cell_order():
+    """The order of all triangles to degree 3 is that of a walk through the tree, and those inside another come next
+    after it. A choice of pairs at all degrees."""
+    every = walk_all(3)
+    must(by_path(reversed(every)) == every and sorted(every, key=aligned) == every, "the order of the walk")
+    must(all(path(x) < path(y) for x, y in zip(every, every[1:])), "rising")
+    few = walk_all(2)
+    for i, x in enumerate(few):
+        next_after = i + len(walk(x, 2))
+        for j, y in enumerate(few):
+            must((path(x) < path(y)) == (i < j), "the place in the walk", x, y)
+            must(is_inside(y, x) == (i < j < next_after), "inside", x, y)
+    for x, y in itertools.product(walk_all(1) + few[3::17], repeat=2):
+        must(corners_inside(y, x) == is_inside(y, x), "inside by the corners", x, y)
+    chance = random.Random(91)
+    for x, y in itertools.product(chance.sample(every, 200), repeat=2):
+        check_pair(x, y)
+    for m, n in itertools.product(range(DEEPEST + 1), repeat=2):
+        check_pair(random_code(chance, m), random_code(chance, n))
+        for shared in range(0, min(m, n) + 1, 3):
+            check_pair(*parted(chance, m, n, shared))
+
+
+@lru_cache(maxsize=1 << 14)
+def is_code(word):
+    """The word that its own side and digits make."""
+    return degree_of(word) <= 24 and side_of(word) in SIDES and make_code(side_of(word), digits_of(word)) == word
+
+
+def three_hold(words):
+    # "accept a list exactly when every word is a valid triangle code, the words rise without repeats, and none lies
+    # inside another"
+    if not all(map(is_code, words)):
+        return False
+    there = set(words)
+    apart = all(there.isdisjoint(climbed(code)) for code in words)
+    if len(words) <= LITERAL_CELLS:
+        must(apart == (not any(is_inside(x, y) for x, y in itertools.permutations(words, 2))), "inside another", words)
+    return all(aligned(x) < aligned(y) for x, y in zip(words, words[1:])) and apart
+
+
+def reason_again(word, before):
+    """At a place where nothing earlier offends."""
+    if not is_code(word):
+        return 1
+    if aligned(word) <= aligned(before):
+        return 2 if aligned(word) < aligned(before) else 3
+    # docs/CELLS.md: "Where a word is inside an earlier one and offends in nothing else, that one is the word before".
+    must(before in climbed(word), "the word before", word, before)
+    return 4
+
+
+def check_offence(words, place, reason):
+    """A list is accepted exactly when the three conditions hold. Else they hold up to the place that is answered, and
+    not with it."""
+    if place is None:
+        must(three_hold(words), "accepted", words)
+        return
+    must(three_hold(words[:place]) and not three_hold(words[: place + 1]), "the first offending place", words, place)
+    must(not three_hold(words), "not accepted", words)
+    again = reason_again(words[place], words[place - 1] if place else None)
+    must(reason == again, "the least reason", words, place, reason, again)
+
+
+def seen_cells(line, text):
+    (words,) = read_arguments(["[CODE].."], parts_of(line)[1:])
+    place, told, reason = CELLS_ANSWER.fullmatch(text).groups()
+    must(told is None or told in CELLS_WORDS.values(), "in words", line, text)
+    seen = CellsSeen(words, *(x and int(x) for x in (place, reason)))
+    check_offence(*seen)
+    return seen
+
+
+def which_place(seen):
+    """The first place that a reason can have, the last one, or between them."""
+    names = set()
+    if seen.place == (0 if seen.reason == 1 else 1):
+        names.add("first")
+    if seen.place == len(seen.words) - 1:
+        names.add("last")
+    return names or {"middle"}
+
+
+def check_cells_met(lists):
+    """Each reason at the first, a middle and the last place, and each refusal of a word likewise. With 1, words that
+    would be less, equal and inside too; and with 2, ones that are inside an earlier one."""
+    met = {(x.reason, name) for x in lists if x.reason for name in which_place(x)}
+    must(met == set(itertools.product((1, 2, 3, 4), ("first", "middle", "last"))), "every reason", met)
+    invalid = [(x, x.words[x.place]) for x in lists if x.reason == 1]
+    met = {(first(code_refusals(word)), name) for x, word in invalid for name in which_place(x)}
+    must(met == set(itertools.product((1, 2, 3, 4), ("first", "middle", "last"))), "every refusal", met)
+    met = set()
+    for x, word in invalid:
+        if x.place:
+            own, before = path(word), path(x.words[x.place - 1])
+            met |= when("less", own < before) | when("equal", own == before) | when("more", own > before)
+            met |= when("inside", before in paths_above(word))
+    must(met == {"less", "equal", "more", "inside"}, "invalid, and more", met)
+    less = [x for x in lists if x.reason == 2]
+    both = {any(is_inside(x.words[x.place], y) for y in x.words[: x.place]) for x in less}
+    must(both == {False, True}, "less, and inside or not")
+    must({x.words[x.place] in x.words[: x.place - 1] for x in less} == {False, True}, "less, and repeated or not")
+
+
+def check_pairs_met(lists):
+    """Of lists of two: every answer for every two degrees, and for every two sides. And what is not in the order of the
+    64-bit words, both ways."""
+    pairs = [(x.words, x.reason) for x in lists if len(x.words) == 2 and x.reason != 1]
+    met = {(*map(degree_of, words), reason) for words, reason in pairs}
+    for m, n in itertools.product(range(DEEPEST + 1), repeat=2):
+        for reason in (None, 2, *when(3, m == n), *when(4, m < n)):
+            must((m, n, reason) in met, "every two degrees", m, n, reason)
+    met = {tuple(map(side_of, words)) for words, _ in pairs}
+    must(met == set(itertools.product(SIDES, repeat=2)), "every two sides")
+    met = {(one < other, reason) for (one, other), reason in pairs if one != other}
+    must(met == {(True, None), (False, None), (True, 2), (False, 2), (True, 4)}, "not as 64-bit words", met)
+
+
+def check_cell_lists(calls, answers):
+    lines = [(line, text) for line, text in zip(calls, answers) if CELLS_LINE.match(line)]
+    lists = [seen_cells(line, text) for line, text in lines if not text.startswith(UNREAD)]
+    check_cells_met(lists)
+    check_pairs_met(lists)
+    accepted = {len(x.words) for x in lists if x.reason is None}
+    must(accepted >= {0, 1, 2, 3, 4, 6, 10, 20, MANY_CELLS, 80} and max(accepted) > 150, "accepted", accepted)
+
+
+def check_cell_lines():
+    """The answers by hand. And lines that can not be read are all answered by the call's form."""
+    for line, text in CELLS_EXAMPLES.items():
+        must(answer(line) == text, "by hand", line, text, answer(line))
+    for line in unreadable_cells():
+        must(answer(line) == "error: write it as check-cells [CODE]..", "unreadable", line)
+
+
 # ==== Document 02, 2026-01, "Plotter host in C": the answers
 
 # "It needs check, cross, file and list as calls exported to a C host, on plain numbers and byte slices." "cross writes
@@ -5741,6 +6521,344 @@ def check_page():
     must(all(map(read_direction, READ_LINES)), "read")
 
 
+# ==== The program ./cells: docs/CELLS.md, "Checking another yard's cell list"
+
+MOST_WORDS = 4096
+CellsRan = namedtuple("CellsRan", "line more")
+
+
+def words_of(data):
+    # "Other yards send files of eight-byte codes, most significant byte first."
+    return [word for (word,) in struct.iter_unpack(">Q", data)]
+
+
+def offence_text(words, found):
+    """What the second line says: "A word is shown as `./plot` shows it, as document 01 writes the code and as a number;
+    one that is no code only as a number"."""
+    word, reason = words[found.place], REASONS[found.reason]
+    if found.reason == 1:
+        # "After `invalid` stand the words that `./plot check` has for the refusal."
+        return f"{word_text(word)} is {reason}: {REFUSALS[first(code_refusals(word))]}"
+    # The word before; for 4 "an earlier one", which is any that the word is inside.
+    others = [words[found.place - 1]]
+    if found.reason == 4:
+        others = [x for x in words[: found.place] if path(x) in paths_above(word)]
+        # "that one is the word before"
+        must(others == [words[found.place - 1]], "the word before", words[: found.place + 1])
+    return f"{code_text(word)} is {reason}, {code_text(others[0])}"
+
+
+def run_cells(data):
+    """The line for a file, and the second one that `-v` adds, or nothing."""
+    # "A file whose length isn't a multiple of 8 is "bad length", checked first; one above 4,096 words is "too long"."
+    if len(data) % 8 != 0:
+        return CellsRan("bad length\n", "  its length is not a multiple of 8\n")
+    words = words_of(data)
+    if len(words) > MOST_WORDS:
+        return CellsRan("too long\n", "  it has more than 4096 words\n")
+    found = first_offence(words)
+    # "To `accepted` no second line is added."
+    more = "" if found is None else f"  {offence_text(words, found)}\n"
+    return CellsRan(cells_text(found) + "\n", more)
+
+
+# ==== The cases of ./cells: examples, with what is written by hand
+
+# The file's bytes in hexadecimal digits, the line, and the second one.
+CELLS_PAGE_TEXT = """
+    page-good -> 208C000000000000 2050000000000000 2800000000000000 -> accepted ->
+    page-inside -> 2050000000000000 2098000000000000 -> place 1 reason 4
+        -> 10012 0x2098000000000000 is inside an earlier one, 1001 0x2050000000000000
+    page-invalid -> 0000000000000000 -> place 0 reason 1 -> 0x0000000000000000 is invalid: a is 0, 6 or 7
+    page-less -> 2050000000000000 208C000000000000 -> place 1 reason 2
+        -> 10003 0x208C000000000000 is less than the word before, 1001 0x2050000000000000
+    page-equal -> 2050000000000000 2050000000000000 -> place 1 reason 3
+        -> 1001 0x2050000000000000 is equal to the word before, 1001 0x2050000000000000
+    page-length -> 205000000000000020 -> bad length -> its length is not a multiple of 8
+    page-children -> 2040000000000000 2050000000000000 2060000000000000 2070000000000000 -> accepted ->
+    page-alone -> 2000000000000000 -> accepted ->
+    page-never-both -> 2000000000000000 2040000000000000 2050000000000000 2060000000000000 2070000000000000
+        -> place 1 reason 4 -> 1000 0x2040000000000000 is inside an earlier one, 100 0x2000000000000000
+    page-picture -> 208C000000000000 2050000000000000 2070000000000000 2800000000000000 -> accepted ->
+    empty -> -> accepted ->
+    degree-25 -> 2000000000000000 2840000000000000 2E40000000000000 -> place 2 reason 1
+        -> 0x2E40000000000000 is invalid: a degree, as field or argument, is above 24
+    side-600 -> C000000000000000 -> place 0 reason 1 -> 0xC000000000000000 is invalid: a is 0, 6 or 7
+    digit-beyond -> 2000000000000000 2850000000000000 3010000000000000 -> place 2 reason 1
+        -> 0x3010000000000000 is invalid: a digit beyond the degree is not 0
+    corner-name -> 2000000000000003 -> place 0 reason 1 -> 0x2000000000000003 is invalid: the four zero bits are not
+        zero, or the corner number does not fit the kind of word
+    ancestor-after -> 2040000000000000 2000000000000000 -> place 1 reason 2
+        -> 100 0x2000000000000000 is less than the word before, 1000 0x2040000000000000
+    less-and-inside -> 2050000000000000 2070000000000000 2098000000000000 -> place 2 reason 2
+        -> 10012 0x2098000000000000 is less than the word before, 1003 0x2070000000000000
+"""
+
+
+def cells_page_cases():
+    found = {}
+    for text in re.split(r"\n    (?! )", CELLS_PAGE_TEXT.strip("\n ")):
+        name, data, line, more = (x.strip() for x in " ".join(text.split()).split("->"))
+        found[name] = (bytes.fromhex(data), CellsRan(line + "\n", more and f"  {more}\n"))
+    return found
+
+
+CELLS_PAGE = cells_page_cases()
+
+
+# ==== The cases of ./cells: good lists, and such with an offending word
+
+
+def file_of(words):
+    return b"".join(word.to_bytes(8, "big") for word in words)
+
+
+@lru_cache(maxsize=None)
+def cell_pool():
+    """A long good list. A part of a good list is good too."""
+    return good_list(random.Random(92), 9000)
+
+
+def part_of_pool(chance, many):
+    """Words of the pool one after the other, or here and there."""
+    start = chance.randint(0, len(cell_pool()) - many)
+    here_and_there = sorted(chance.sample(range(len(cell_pool())), many))
+    return chance.choice([cell_pool()[start : start + many], [cell_pool()[place] for place in here_and_there]])
+
+
+# For each reason the damages that can have it, with how many words each adds, and how far before the offending place it
+# is done.
+OFFENCE_WAYS = {
+    1: [(make_invalid, 0, 0), (put_invalid, 1, 0)],
+    2: [(exchange, 0, 1), (put_above, 1, 1), (put_inside_before, 1, 1), (repeat_later, 1, 1), (put_inside_later, 1, 1)],
+    3: [(repeat, 1, 1)],
+    4: [(put_inside, 1, 1), (put_above_before, 1, 1)],
+}
+
+
+def with_offence(chance, many, place, reason):
+    """A list of so many words with the reason at the place."""
+    while True:
+        damage, more, after_it = chance.choice(OFFENCE_WAYS[reason])
+        if many > more and 0 <= place - after_it < many - more:
+            done = damaged(chance, part_of_pool(chance, many - more), place - after_it, damage)
+            if done is not None and done[1] == Offence(place, reason):
+                must(len(done[0]) == many, "so many words", many, place, reason)
+                return done[0]
+
+
+def good_cases(chance):
+    for many in (1, 2, 3, 10, 64, 500, 511, 512, 513, 1023, 1024, 1025, 2048, 3000, 4094, 4095, 4096):
+        yield f"good-{many}", part_of_pool(chance, many)
+    for n in (0, 1, 2, 3):
+        yield f"whole-degree-{n}", codes_of(n)
+    yield "degree-4-but-1024", codes_of(4)[512:4608]
+    yield "degree-24", by_path({random_code(chance, DEEPEST) for _ in range(1500)})
+    every = [code for side in codes_of(0) for code in covering(chance, side, chance.choice([0, 3, 11, DEEPEST]))]
+    yield "whole-globe", every
+    yield "words-fall", [make_code((1, 0, 0), [0] * n + [1]) for n in range(DEEPEST)][::-1]
+
+
+PLACE_COUNTS = (1, 2, 3, 10, 500, 4095, 4096)
+
+
+def place_cases(chance):
+    """Each reason at the first place that it can have, a middle and the last one."""
+    for many, reason in itertools.product(PLACE_COUNTS, (1, 2, 3, 4)):
+        least = 0 if reason == 1 else 1
+        if many > least:
+            names = {least: "first", many - 1: "last"}
+            names = {(many + least) // 2: "middle"} | names
+            for place, name in names.items():
+                yield f"reason-{reason}-{name}-of-{many}", with_offence(chance, many, place, reason)
+    # Where a buffer may end.
+    for place, reason in itertools.product((512, 1024, 2048), (1, 2, 3, 4)):
+        yield f"reason-{reason}-at-{place}", with_offence(chance, 3000, place, reason)
+
+
+def invalid_cases(chance):
+    """Each field broken, alone at the first, a middle and the last place, and with each other one."""
+    for breaks in alone_and_in_pairs(CODE_BREAKS):
+        for place in ((), (0, 5, 10), (5,))[len(breaks)]:
+            words = part_of_pool(chance, 11)
+            words[place] = broken(random_code(chance, chance.randrange(DEEPEST)), breaks, chance)
+            name = "-".join(one.__name__.replace("break_", "").replace("_", "-") for one in breaks)
+            yield f"invalid-{name}-at-{place}", words
+
+
+def reason_cases(chance):
+    """Several reasons at one place, and several offending places."""
+    for damage in ORDER_DAMAGES:
+        name = damage.__name__.replace("_", "-")
+        done = None
+        while done is None:
+            done = damaged(chance, part_of_pool(chance, 20), chance.randrange(2, 19), damage)
+        yield f"invalid-and-{name}", also_invalid(chance, done, chance.choice([break_a, break_zero_bits]))
+        words, found = done
+        yield f"twice-{name}", put_in(words, found.place, words[found.place])
+        yield f"after-zero-{name}", [0] + words
+    for at in range(40):
+        words = part_of_pool(chance, chance.choice([2, 5, 30, 600]))
+        yield f"damaged-{at}", damaged_often(chance, words, 1 + at % 4)
+
+
+def order_cases(chance):
+    """Lists that rise as 64-bit words, which is not the order of the tree, also with the only offence in the last
+    place. Lists turned round, and shuffled; and one word often."""
+    for many in (3, 20, 700, 4096):
+        words = part_of_pool(chance, many)
+        while sorted(words) == words:
+            words = part_of_pool(chance, many)
+        yield f"as-64-bit-words-{many}", sorted(words)
+        yield f"turned-round-{many}", words[::-1]
+        yield f"shuffled-{many}", chance.sample(words, many)
+    yield "as-64-bit-words-to-degree-3", sorted(walk_all(3))
+    for reason, last in {2: "51100", 4: "51130"}.items():
+        words = [*codes_of(3)[:-64], *map(read_triangle, ("5113", last))]
+        must(sorted(words) == words, "as 64-bit words", words)
+        yield f"as-64-bit-words-reason-{reason}-last", words
+    yield "walk-to-degree-3", walk_all(3)
+    yield "walk-turned-round", walk_all(3)[::-1]
+    yield "one-word-4096", [chance.choice(cell_pool())] * 4096
+    yield "list-twice", part_of_pool(chance, 50) * 2
+    yield "down-one-path", walk(codes_of(0)[3], 0) + [make_code((1, 1, 1), [2] * n) for n in range(1, DEEPEST + 1)]
+    yield "up-one-path", [make_code((1, 1, 1), [2] * n) for n in range(DEEPEST, -1, -1)]
+
+
+# ==== The cases of ./cells: lengths, and any bytes
+
+
+def any_bytes(chance, length):
+    return bytes(chance.getrandbits(8) for _ in range(length))
+
+
+def any_file(chance, length):
+    """So many bytes: of a good list, of one with an offending word at its beginning, any, zeros, or all bits set."""
+    many = length // 8 + 1
+    good = (cell_pool() if many <= len(cell_pool()) else codes_of(6))[:many]
+    some = [file_of(good), file_of(good[1::-1] + good[2:]), any_bytes(chance, 64) * (length // 64 + 1)]
+    return chance.choice([*some[:1], *some, bytes(length), b"\xff" * length])[:length]
+
+
+def length_cases(chance):
+    """1 to 7 bytes over a whole number of words; and more than 4,096 words, whatever they are."""
+    for many in (0, 1, 2, 4095, 4096, 4097, 5000):
+        for over in range(1, 8):
+            yield f"words-{many}-and-{over}-bytes", any_file(chance, 8 * many + over)
+    pool = cell_pool()
+    yield "good-4097", file_of(pool[:4097])
+    yield "good-4098", file_of(pool[-4098:])
+    yield "good-5000", file_of(pool[1000:6000])
+    yield "good-8192", file_of(pool[:8192])
+    yield "good-9000", file_of(pool)
+    yield "whole-degree-4", file_of(codes_of(4))
+    yield "whole-degree-5", file_of(codes_of(5))
+    for place, reason in itertools.product((1, 4096), (1, 2, 3, 4)):
+        yield f"words-4097-reason-{reason}-at-{place}", file_of(with_offence(chance, 4097, place, reason))
+    for name, byte in {"zeros": b"\0", "all-bits": b"\xff"}.items():
+        for length in (8, 80, 32_768, 32_775, 32_776):
+            yield f"{name}-{length}", byte * length
+    for length in (32_760, 32_768, 32_776, *(65_536 + k for k in (-8, -7, -4, -1, 0, 1, 4, 7, 8))):
+        yield f"bytes-{length}", any_file(chance, length)
+    for over in range(8):
+        yield f"bytes-{300_000 + over}", any_file(chance, 300_000 + over)
+
+
+def byte_cases(chance):
+    """Random bytes, also with a code's low bits in each word. Lists with the last byte of each word first. Texts."""
+    for length in (8, 16, 24, 80, 800, 8000, 32_768):
+        yield f"random-{length}", any_bytes(chance, length)
+    for length in (1, 5, 12, 801, 8004, 32_775):
+        yield f"random-{length}", any_bytes(chance, length)
+    for many in (1, 10, 400):
+        words = [chance.getrandbits(64) & ~63 & ~(31 << 54) | DEEPEST << 54 for _ in range(many)]
+        yield f"random-degree-24-{many}", file_of(words)
+    for many in (1, 2, 10, 500, 4096):
+        yield f"last-byte-first-{many}", b"".join(word.to_bytes(8, "little") for word in part_of_pool(chance, many))
+    halves = [(word & 2**32 - 1) << 32 | word >> 32 for word in part_of_pool(chance, 100)]
+    yield "last-half-first", file_of(halves)
+    words = part_of_pool(chance, 12)
+    yield "one-byte-late", b"\0" + file_of(words)[:-1]
+    yield "one-byte-early", file_of(words)[1:] + b"\0"
+    yield "line-end-after", file_of(words) + b"\n"
+    yield "text-of-codes", "".join(triangle_text(word) + "\n" for word in words).encode()
+    yield "text-of-words", "".join(word_text(word) + "\n" for word in words).encode()
+    yield "text-of-digits", "".join(f"{word:016X}" for word in words).encode()
+    yield "eight-line-ends", b"\n" * 8
+    yield "accepted", b"accepted"
+
+
+def cells_cases():
+    chance = random.Random(93)
+    found = {name: data for name, (data, _) in CELLS_PAGE.items()}
+    of_words = (good_cases, place_cases, invalid_cases, reason_cases, order_cases)
+    made = [(name, file_of(words)) for make in of_words for name, words in make(chance)]
+    for name, data in itertools.chain(made, length_cases(chance), byte_cases(chance)):
+        must(name not in found and re.fullmatch("[-0-9a-z]+", name), "a name of its own", name)
+        found[name] = data
+    return found
+
+
+# ==== Internal checks of what ./cells writes
+
+CELLS_PLACE = re.compile("place (0|[1-9][0-9]*) reason ([1-4])\n")
+CELLS_MORE = re.compile(
+    "  (?:([1-5][01][01][0-3]*) )?0x([0-9A-F]{16}) is (invalid|less than the word before|equal to the word before|"
+    "inside an earlier one)(?:: (.*)|, ([1-5][01][01][0-3]*) 0x([0-9A-F]{16}))\n"
+)
+
+
+def check_more(words, place, reason, more):
+    """The second line tells the word at the place, and the word before or its refusal."""
+    text, word, told, refusal, before_text, before = CELLS_MORE.fullmatch(more).groups()
+    must(int(word, 16) == words[place] and told == REASONS[reason], "the word", more)
+    if reason == 1:
+        must(text is None and answer(f"check 0x{word}").split(": ", 1)[1] == refusal, "as check says it", more)
+        return
+    must(answer(f"check {text}") == answer(f"check {before_text}") == "ok", "codes", more)
+    must(read_code(text) == words[place] and read_code(before_text) == words[place - 1], "as document 01 writes", more)
+    must(int(before, 16) == words[place - 1], "the word before", more)
+
+
+def check_cells_case(data, ran):
+    """A file is accepted exactly when it has at most 4,096 whole words and the three conditions hold of them."""
+    words = [int.from_bytes(data[k : k + 8], "big") for k in range(0, len(data), 8)]
+    is_good = len(data) in range(0, 32_769, 8) and three_hold(words)
+    must((ran.line == "accepted\n") == is_good == (ran.more == ""), "accepted", len(data), ran)
+    if not is_good:
+        told = CELLS_PLACE.fullmatch(ran.line)
+        if told is None:
+            must(ran.line == ("bad length\n" if len(data) & 7 else "too long\n"), "the length", len(data), ran)
+            must(len(data) & 7 or len(data) > 32_768, "the length", len(data), ran)
+        else:
+            place, reason = map(int, told.groups())
+            check_offence(words, place, reason)
+            check_more(words, place, reason, ran.more)
+
+
+def check_cases_met(cases, ran):
+    """Each line, with every place and reason that a list of 4,096 words ends with or begins with; the words of every
+    refusal; and each number of bytes beyond whole words, in short and in long files."""
+    lines = {(len(data) // 8, ran[name].line) for name, data in cases.items()}
+    for reason in (1, 2, 3, 4):
+        ends = {(4096, f"place {place} reason {reason}\n") for place in (1 - (reason == 1), 2048, 4095)}
+        must(ends | {(1, "place 0 reason 1\n")} <= lines, "every reason", reason)
+    must({(many, "accepted\n") for many in (0, 1, 4095, 4096)} | {(4097, "too long\n")} <= lines, "every length")
+    for many in (0, 1, 4095, 4096, 4097, 37_500):
+        over = {len(data) % 8 for data in cases.values() if len(data) // 8 == many}
+        must(over == set(range(8)), "bytes beyond whole words", many, over)
+    told = {x.more.split(": ", 1)[1] for x in ran.values() if "invalid" in x.more}
+    must(told == {REFUSALS[no] + "\n" for no in (1, 2, 3, 4)}, "every refusal", told)
+
+
+def check_cells_page():
+    for name, (data, ran) in CELLS_PAGE.items():
+        must(run_cells(data) == ran, "by hand", name, run_cells(data))
+    # The last one that docs/CELLS.md shows; the file is too long to be written by hand.
+    must(run_cells(bytes(32_776)) == CellsRan("too long\n", "  it has more than 4096 words\n"), "by hand")
+    must(three_hold(cell_pool()) and first_offence(cell_pool()) is None, "the pool is good")
+
+
 # ==== Writing the two files
 
 SECTIONS = {
@@ -5771,6 +6889,19 @@ SECTIONS = {
     "refused sweeps": refused_sweeps,
     "unreadable sweeps": unreadable_sweeps,
     "spaced sweeps": spaced_sweeps,
+    "lists of cells, examples": CELLS_EXAMPLES.keys,
+    "one cell": one_cell,
+    "two cells": two_cells,
+    "two cells of every two degrees": two_degrees,
+    "two cells that part at every digit": every_digit,
+    "every list of a few cells": every_few,
+    "good lists of cells": good_cells,
+    "lists of cells damaged in one place": damaged_cells,
+    "several reasons at one place": several_reasons,
+    "several offending places": several_offences,
+    "lists of cells as long as a line": long_cells,
+    "unreadable lists of cells": unreadable_cells,
+    "spaced lists of cells": spaced_cells,
     "the last line without a table": last_without_table,
     "no table is open": before_any_table,
     "unreadable lines on a table": unreadable_on_table,
@@ -5799,6 +6930,7 @@ SECTIONS = {
     "counts and sums at other degrees": parents_of_other_degrees,
     "many parents in one line": many_parents,
     "sweeps while a table is open": sweeps_on_table,
+    "lists of cells while a table is open": cells_on_table,
     "full tables": full_tables,
     "the last line": last_line,
 }
@@ -5828,6 +6960,7 @@ def write_files(calls_path, answers_path):
     check_soundings(calls, answers)
     check_totals(calls, answers)
     check_sweeps(calls, answers)
+    check_cell_lists(calls, answers)
     write_bytes(calls_path, "\n".join(calls))
     write_bytes(answers_path, "".join(text + "\n" for text in answers))
 
@@ -5902,6 +7035,26 @@ def write_cases(folder):
     print(f"{len(cases):8} cases")
 
 
+# ==== Writing the cases of ./cells
+
+
+def write_cells_cases(folder):
+    check_cell_order()
+    check_cell_lines()
+    check_cells_page()
+    os.makedirs(folder, exist_ok=True)
+    cases = cells_cases()
+    ran = {name: run_cells(data) for name, data in cases.items()}
+    check_cases_met(cases, ran)
+    for name, data in cases.items():
+        line, more = ran[name]
+        check_cells_case(data, ran[name])
+        for end, text in {"bin": data.decode("latin-1"), "line": line, "more": more}.items():
+            write_bytes(os.path.join(folder, f"{name}.{end}"), text)
+        print(f"{len(data):8} {name}: {line}", end="")
+    print(f"{len(cases):8} cases")
+
+
 if __name__ == "__main__":
     if sys.argv[1:] == ["--answer"]:
         answer_input(answer)
@@ -5911,6 +7064,8 @@ if __name__ == "__main__":
         write_host_files(sys.argv[2], sys.argv[3])
     elif len(sys.argv) == 3 and sys.argv[1] == "--sweep":
         write_cases(sys.argv[2])
+    elif len(sys.argv) == 3 and sys.argv[1] == "--cells":
+        write_cells_cases(sys.argv[2])
     elif len(sys.argv) == 3:
         write_files(sys.argv[1], sys.argv[2])
     else:

@@ -1,4 +1,5 @@
--- A list is accepted exactly when it should be, and else the first offending place is the one answered. Assumes nothing.
+-- A list is accepted exactly when it should be, and else the first offending place is the one answered. Assumes
+-- nothing.
 use mathlib.Core.Path.{_≡_, _∙_, refl, sym, ap}
 use mathlib.Core.Bool.{Bool, true, false, not}
 use mathlib.Core.Logic.{_⊎_, inl, inr, ⊎-elim, _↔_}
@@ -21,7 +22,8 @@ use Rattle.cells.specs.Promises.{FirstOffence, Checks, LastDecides}
 use Rattle.cells.specs.Means.Ranks.{ClearTo}
 use Rattle.cells.specs.declared.Verdict.{Verdict}
 use Rattle.cells.proofs.Dictionary.{known, clash}
-use Rattle.cells.proofs.Spelling.{less-self, less-trans, less-ne, less-one-way, above, inside-between, not-inside}
+use Rattle.cells.proofs.Spelling.{less-self, less-trans, less-ne, less-one-way, above, inside-between}
+use Rattle.cells.proofs.Spelling.{not-inside}
 
 module _ (ws : List ℕ) where
   abbrev at : ℕ → ℕ
@@ -90,7 +92,8 @@ module _ (ws : List ℕ) where
         earlier (suc i) h l =
             let k : j < length (take (suc i) ws) =
             omega (arith, length-take-le (suc i) ws (omega (arith, l, fits)), h) in
-            let q = none-there (insideOf (at (suc i))) 0 (take (suc i) ws) j k (later-clear i .0 (c (suc i) l) .outside) in
+            let o = later-clear i .0 (c (suc i) l) .outside in
+            let q = none-there (insideOf (at (suc i))) 0 (take (suc i) ws) j k o in
             rw (getD-take (suc i) ws j 0 h) at q
 
         later : i ≤ j → lessThan (at j) (at i) ≡ true → ⊥
@@ -185,12 +188,13 @@ module _ (ws : List ℕ) where
         first = λ i k. sym (reason-is i (omega (arith, k, l))) ∙ none-offends (none-before offends 0 rs i k);
       }
 
+  -- no reason is given only where the list is accepted
+  pub reason-none : checked ws .reason ≡ 0 → Accepted ws
+  reason-none e =
+      clear-accepted (⊎-elim (λ s. absurd (found s .some e)) none-clear (known (some offends rs)))
+
   exactly : (checked ws ≡ accepted) ↔ Accepted ws
-  exactly = (
-    λ e. clear-accepted (⊎-elim (λ s. absurd (found s .some (ap (λ (r : Verdict). r .reason) e))) none-clear
-        (known (some offends rs))),
-    λ a. all-clear (accepted-clear a),
-  )
+  exactly = (λ e. reason-none (ap (λ (r : Verdict). r .reason) e), λ a. all-clear (accepted-clear a))
 
   offence : (Accepted ws → ⊥) → FirstOffence ws (checked ws)
   offence n = ⊎-elim found (λ e. absurd (n (clear-accepted (none-clear e)))) (known (some offends rs))

@@ -1,5 +1,5 @@
--- Letters filled up with zeros to one length, as one number: the order of a dictionary is that of these numbers and then
--- of the lengths, and what begins with letters ends before their end. Assumes nothing.
+-- Letters filled up with zeros to one length, as one number: the order of a dictionary is that of these numbers and
+-- then of the lengths, and what begins with letters ends before their end. Assumes nothing.
 use mathlib.Core.Path.{_≡_, _∙_, refl, sym, ap}
 use mathlib.Core.Bool.{true, true≢false}
 use mathlib.Core.Logic.{_⊎_, inl, inr, ⊎-elim}

@@ -1,5 +1,5 @@
--- The order of the tree is that of the ranks; and a triangle lies inside another where it comes after it and its rank is
--- below the other's end. Assumes nothing.
+-- The order of the tree is that of the ranks; and a triangle lies inside another where it comes after it and its rank
+-- is below the other's end. Assumes nothing.
 use mathlib.Core.Path.{_≡_, _∙_, refl, sym, ap}
 use mathlib.Core.Bool.{Bool, true, false}
 use mathlib.Core.Logic.{_⊎_, inl, inr, ⊎-elim}

@@ -1,5 +1,5 @@
--- Valid codes are told apart by how they are written; so the order of the tree is one, and what lies inside comes after.
--- Assumes nothing.
+-- Valid codes are told apart by how they are written; so the order of the tree is one, and what lies inside comes
+-- after. Assumes nothing.
 use mathlib.Core.Path.{_≡_, _∙_, refl, sym, ap}
 use mathlib.Core.Bool.{true, false}
 use mathlib.Core.Logic.{⊎-elim}

@@ -14,8 +14,8 @@ use Rattle.frame.specs.Refusals.{Row, _when_, order, listRows}
 use Rattle.frame.specs.Answers.{over}
 use Rattle.frame.proofs.Refusing.{refuse-first, here, next, nothing, none-so}
 use Rattle.frame.proofs.Lengths.{two-parts}
-use Rattle.octets.specs.Bytes.{bytesOf, bytes, numberAt, signed, signedNumbers}
-use Rattle.octets.proofs.Laying.{signed-long, signed-next, bytes-long, bytes-append, as-long}
+use Rattle.octets.specs.Bytes.{bytesOf, bytes, numberAt, readEach, signed, signedNumbers}
+use Rattle.octets.proofs.Laying.{read-long, read-next, bytes-long, bytes-append, as-long}
 use Rattle.words.specs.Refusals.{degreeRows}
 use Rattle.words.specs.declared.CodeAnswer.{CodeAnswer}
 use Rattle.net.specs.Steps.{nonZeros}
@@ -27,7 +27,7 @@ use Rattle.host.specs.Answers.{directionsIn}
 use Rattle.host.specs.Means.CountedBytes.{directionIn, CountedBytes}
 
 pub in-long : (dirs : List ℕ) → length (directionsIn dirs) ≡ length dirs / 4
-in-long dirs = signed-long 4 (length dirs / 4) dirs
+in-long dirs = read-long (signed 4) 4 (length dirs / 4) dirs
 
 -- ---- one code for each direction
 
@@ -49,7 +49,7 @@ module _ {n : ℕ} {ds : List ℤ} {codes new : List ℕ} {m : ℕ} (x : Counted
 -- as the loop goes: i directions are filed, and `mid` is what stands in the bytes
 
 pub bytes-none : {n : ℕ} (dirs codes : List ℕ) → CountedBytes n (signedNumbers 4 (3 * 0) dirs) codes 0 codes
-unfolding signedNumbers bytes
+unfolding readEach bytes
 bytes-none dirs codes = record { written = []; counted = counted-none; put = refl }
 
 -- the numbers of a direction more
@@ -63,9 +63,9 @@ three-more i bs =
     let one : suc k ≡ k + 1 = omega arith in
     let two : suc (suc k) ≡ k + 2 = omega arith in
     ap (λ (j : ℕ). signedNumbers 4 j bs) e
-    ∙ signed-next 4 (suc (suc k)) bs
-    ∙ ap (λ (l : List ℤ). l ++ (at (suc (suc k)) ∷ [])) (signed-next 4 (suc k) bs)
-    ∙ ap (λ (l : List ℤ). (l ++ (at (suc k) ∷ [])) ++ (at (suc (suc k)) ∷ [])) (signed-next 4 k bs)
+    ∙ read-next (signed 4) 4 (suc (suc k)) bs
+    ∙ ap (λ (l : List ℤ). l ++ (at (suc (suc k)) ∷ [])) (read-next (signed 4) 4 (suc k) bs)
+    ∙ ap (λ (l : List ℤ). (l ++ (at (suc k) ∷ [])) ++ (at (suc (suc k)) ∷ [])) (read-next (signed 4) 4 k bs)
     ∙ append-assoc (signedNumbers 4 k bs ++ (at k ∷ [])) (at (suc k) ∷ []) (at (suc (suc k)) ∷ [])
     ∙ append-assoc (signedNumbers 4 k bs) (at k ∷ []) (at (suc k) ∷ at (suc (suc k)) ∷ [])
     ∙ (λ j. signedNumbers 4 k bs ++ (at k ∷ at (one j) ∷ at (two j) ∷ []))
@@ -87,7 +87,7 @@ bytes-next {n} i dirs {codes} {mid} {late} {m} s x f p =
       counted = subst (λ (ds : List ℤ). Counted n ds (m + nonZeros (s .refusal ∷ [])) ws) (sym (three-more i dirs))
           (counted-append (x .counted) (counted-one _ _ _ s f));
       put = two-parts codes mid late (bytes 8 (x .written)) (bytesOf 8 (s .code .0)) (8 * i)
-          (eight-each x i (signed-long 4 (3 * i) dirs)) (x .put) p
+          (eight-each x i (read-long (signed 4) 4 (3 * i) dirs)) (x .put) p
           ∙ ap (λ (bs : List ℕ). over bs codes) (one-more (x .written) (s .code .0));
     }
 

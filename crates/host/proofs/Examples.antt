@@ -9,7 +9,7 @@ use Rattle.frame.specs.Lists.{firstPlace}
 use Rattle.frame.specs.Answers.{over}
 use Rattle.frame.specs.Promises.{_leaves_}
 use Rattle.frame.proofs.Answering.{gives-one, no-other, refusing, answering}
-use Rattle.octets.specs.Bytes.{bytes, signed, signedNumbers}
+use Rattle.octets.specs.Bytes.{bytes, readEach, signed}
 use Rattle.golden.specs.Numbers.{_+φ_, negφ, _*φ_}
 use Rattle.words.specs.Words.{digits, path, wordOf}
 use Rattle.words.specs.Family.{codeAnswer, noCode}
@@ -107,7 +107,7 @@ refused t k f out e =
 two-swept : (codes out : List ℕ) → refuseSweep 2 two-directions codes out ≡ 0
     → SweepBytes 2 two-directions codes out
     leaves (0, (over (bytes 8 (written 21003 .0 ∷ 0 ∷ [])) codes, over (bytes 8 (1 ∷ 1 ∷ 7 ∷ [])) out))
-unfolding told firstPlace signedNumbers signed directions.refuseFile firstOf
+unfolding told firstPlace readEach signed directions.refuseFile firstOf
 two-swept codes out z =
     gives-one (sweep-one 2 two-directions codes out)
     (answering z (record {
@@ -127,7 +127,7 @@ two-swept codes out z =
     }))
 
 pub examples : Examples
-unfolding bytes signedNumbers signed refuseCross refuseFile refuseList refuseSweep checkCode firstOf decimals written
+unfolding bytes readEach signed refuseCross refuseFile refuseList refuseSweep checkCode firstOf decimals written
     digits path wordOf
 examples = record {
   eight-bytes = refl;
@@ -180,7 +180,7 @@ abbrev told-byte : ℕ → ℕ × (List ℕ × List ℕ) → ℕ
 told-byte i x = getD (x .1 .1) i 0
 
 pub mistakes : Mistakes
-unfolding bytes signedNumbers signed refuseCross refuseFile refuseList refuseSweep checkCode firstOf decimals written
+unfolding bytes readEach signed refuseCross refuseFile refuseList refuseSweep checkCode firstOf decimals written
     digits path wordOf
 mistakes = record {
   one-check = λ e. let f = sym (grid-bounds.bounds .not-canonical) ∙ e in absurd (omega (arith, f));

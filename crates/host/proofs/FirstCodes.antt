@@ -12,7 +12,7 @@ use lib.Seq.{getD-drop}
 use Rattle.frame.specs.Lists.{firstPlace}
 use Rattle.frame.proofs.Answering.{answers-or-not}
 use Rattle.octets.specs.Bytes.{bytes, numberAt, signed}
-use Rattle.octets.proofs.Laying.{signed-at}
+use Rattle.octets.proofs.Laying.{read-at}
 use Rattle.words.specs.declared.CodeAnswer.{CodeAnswer}
 use Rattle.words.proofs.Codes.{code-fields}
 use Rattle.filing.specs.declared.Direction.{Direction}
@@ -96,7 +96,7 @@ pub direction-in : (dirs : List ℕ) (i : ℕ) → 12 * i + 11 < length dirs
     → directionIn dirs i ≡ directionAt (directionsIn dirs) i
 direction-in dirs i l =
     let at : (j : ℕ) → j < length dirs / 4 → signed 4 (numberAt 4 dirs j) ≡ getD (directionsIn dirs) j (pos 0) =
-    λ j k. sym (signed-at 4 (length dirs / 4) dirs j k) in
+    λ j k. sym (read-at (signed 4) 4 (pos 0) (length dirs / 4) dirs j k) in
     let x = at (3 * i) (omega (arith, l)) in
     let y = at (3 * i + 1) (omega (arith, l)) in
     let z = at (3 * i + 2) (omega (arith, l)) in

@@ -7,8 +7,8 @@ use native.Mathlib.Omega.{arith}
 use native.Mathlib.Nat.{mod-eq-of-lt, one-le-pow, pow-succ', add-mul, mul-assoc, mul-comm, mul-suc}
 use lib.Arith.{mod-mul}
 use lib.IntN.{ℤ, pos, negsuc, negℤ, _-ℤ_}
-use lib.ListN.{length, getD, take, drop, length-append}
-use lib.Seq.{take-at, drop-at, drop-drop}
+use lib.ListN.{length, getD, take, drop, length-append, length-drop}
+use lib.Seq.{take-at, drop-at, drop-drop, take-append-le, drop-append-le}
 use mir.Syntax.{w32}
 use mir.Val.{SFits, toZ, ofZ}
 use mir.ValLaws.{toZ-ofZ}
@@ -16,7 +16,7 @@ use borrow.Author.Tests.{lt-ltb, le-ltb}
 use borrow.Rule.Slice.PartMut.{putMid}
 use Rattle.frame.specs.Answers.{over}
 use Rattle.frame.proofs.Lengths.{two-parts, over-long}
-use Rattle.octets.specs.Bytes.{bytesOf, bytes, readOn, numberOf, numberAt, signed, signedNumbers}
+use Rattle.octets.specs.Bytes.{bytesOf, bytes, readOn, numberOf, numberAt, readEach, numbers, signed}
 
 -- ---- one number
 
@@ -159,36 +159,77 @@ module _ (w : ℕ) (l : 2147483648 ≤ w) (h : w < 4294967296) where
       toZ-ofZ w32 _ negative-fits ∙ is-less
       ∙ rw (le-ltb (2 * w) (256 ^ 4) (omega (arith, l))) (ap (λ (m : ℕ). negℤ (pos m)) (sym e))
 
--- ---- many signed numbers
+-- eight bytes as two times four
+pub eight-bytes : (bs : List ℕ) → 8 ≤ length bs
+    → numberOf (take 4 bs) * 4294967296 + numberOf (take 4 (drop 4 bs)) ≡ numberOf (take 8 bs)
+eight-bytes [] l = absurd (omega (arith, l))
+eight-bytes (a ∷ []) l = absurd (omega (arith, l))
+eight-bytes (a ∷ b ∷ []) l = absurd (omega (arith, l))
+eight-bytes (a ∷ b ∷ c ∷ []) l = absurd (omega (arith, l))
+eight-bytes (a ∷ b ∷ c ∷ d ∷ []) l = absurd (omega (arith, l))
+eight-bytes (a ∷ b ∷ c ∷ d ∷ e ∷ []) l = absurd (omega (arith, l))
+eight-bytes (a ∷ b ∷ c ∷ d ∷ e ∷ f ∷ []) l = absurd (omega (arith, l))
+eight-bytes (a ∷ b ∷ c ∷ d ∷ e ∷ f ∷ g ∷ []) l = absurd (omega (arith, l))
+eight-bytes (a ∷ b ∷ c ∷ d ∷ e ∷ f ∷ g ∷ h ∷ bs) l = omega arith
 
-pub signed-long : (k m : ℕ) (bs : List ℕ) → length (signedNumbers k m bs) ≡ m
-unfolding signedNumbers
-signed-long k zero bs = refl
-signed-long k (suc m) bs = ap suc (signed-long k m (drop k bs))
+-- ---- many numbers, as f reads them
 
--- one more
-pub signed-next : (k m : ℕ) (bs : List ℕ)
-    → signedNumbers k (suc m) bs ≡ signedNumbers k m bs ++ (signed k (numberAt k bs m) ∷ [])
-unfolding signedNumbers
-signed-next k zero bs =
-    let e : k * 0 ≡ 0 = omega arith in
-    ap (λ (j : ℕ). signed k (numberOf (take k (drop j bs))) ∷ []) (sym e)
-signed-next k (suc m) bs =
-    let e : k + k * m ≡ k * suc m = omega (arith, mul-suc k m) in
-    ap (λ (l : List ℤ). signed k (numberOf (take k bs)) ∷ l) (signed-next k m (drop k bs)
-    ∙ ap (λ (b : List ℕ). signedNumbers k m (drop k bs) ++ (signed k (numberOf (take k b)) ∷ []))
-    (drop-drop (k * m) k bs ∙ ap (λ (j : ℕ). drop j bs) e))
+module _ {A : Type 0} (f : ℕ → A) (k : ℕ) where
+  pub read-long : (m : ℕ) (bs : List ℕ) → length (readEach f k m bs) ≡ m
+  unfolding readEach
+  read-long zero bs = refl
+  read-long (suc m) bs = ap suc (read-long m (drop k bs))
 
--- number i of them
-pub signed-at : (k m : ℕ) (bs : List ℕ) (i : ℕ) → i < m
-    → getD (signedNumbers k m bs) i (pos 0) ≡ signed k (numberAt k bs i)
-unfolding signedNumbers
-signed-at k zero bs i l = absurd (omega (arith, l))
-signed-at k (suc m) bs zero l =
-    let e : k * 0 ≡ 0 = omega arith in
-    ap (λ (j : ℕ). signed k (numberOf (take k (drop j bs)))) (sym e)
-signed-at k (suc m) bs (suc i) l =
-    let e : k + k * i ≡ k * suc i = omega (arith, mul-suc k i) in
-    signed-at k m (drop k bs) i (omega (arith, l))
-    ∙ ap (λ (b : List ℕ). signed k (numberOf (take k b)))
-    (drop-drop (k * i) k bs ∙ ap (λ (j : ℕ). drop j bs) e)
+  -- one more
+  pub read-next : (m : ℕ) (bs : List ℕ)
+      → readEach f k (suc m) bs ≡ readEach f k m bs ++ (f (numberAt k bs m) ∷ [])
+  unfolding readEach
+  read-next zero bs =
+      let e : k * 0 ≡ 0 = omega arith in
+      ap (λ (j : ℕ). f (numberOf (take k (drop j bs))) ∷ []) (sym e)
+  read-next (suc m) bs =
+      let e : k + k * m ≡ k * suc m = omega (arith, mul-suc k m) in
+      ap (λ (l : List A). f (numberOf (take k bs)) ∷ l) (read-next m (drop k bs)
+      ∙ ap (λ (b : List ℕ). readEach f k m (drop k bs) ++ (f (numberOf (take k b)) ∷ []))
+      (drop-drop (k * m) k bs ∙ ap (λ (j : ℕ). drop j bs) e))
+
+  -- number i of them
+  pub read-at : (d : A) (m : ℕ) (bs : List ℕ) (i : ℕ) → i < m
+      → getD (readEach f k m bs) i d ≡ f (numberAt k bs i)
+  unfolding readEach
+  read-at d zero bs i l = absurd (omega (arith, l))
+  read-at d (suc m) bs zero l =
+      let e : k * 0 ≡ 0 = omega arith in
+      ap (λ (j : ℕ). f (numberOf (take k (drop j bs)))) (sym e)
+  read-at d (suc m) bs (suc i) l =
+      let e : k + k * i ≡ k * suc i = omega (arith, mul-suc k i) in
+      read-at d m (drop k bs) i (omega (arith, l))
+      ∙ ap (λ (b : List ℕ). f (numberOf (take k b)))
+      (drop-drop (k * i) k bs ∙ ap (λ (j : ℕ). drop j bs) e)
+
+  -- what follows them does not matter
+  pub read-append : (m : ℕ) (bs rest : List ℕ) → k * m ≤ length bs
+      → readEach f k m (bs ++ rest) ≡ readEach f k m bs
+  unfolding readEach
+  read-append zero bs rest l = refl
+  read-append (suc m) bs rest l =
+      let h : k + k * m ≤ length bs = omega (arith, l, mul-suc k m) in
+      let first : take k (bs ++ rest) ≡ take k bs = take-append-le k bs rest (omega (arith, h)) in
+      let others : drop k (bs ++ rest) ≡ drop k bs ++ rest = drop-append-le k bs rest (omega (arith, h)) in
+      (λ i. f (numberOf (first i)) ∷ readEach f k m (others i))
+      ∙ ap (λ (l : List A). f (numberOf (take k bs)) ∷ l)
+      (read-append m (drop k bs) rest (omega (arith, h, length-drop k bs)))
+
+-- the numbers that bytes were made of
+pub numbers-back : (k : ℕ) (ws : List ℕ) → ((i : ℕ) → i < length ws → getD ws i 0 < 256 ^ k)
+    → numbers k (length ws) (bytes k ws) ≡ ws
+unfolding readEach bytes
+numbers-back k [] h = refl
+numbers-back k (w ∷ ws) h =
+    let first : take k (bytesOf k w ++ bytes k ws) ≡ bytesOf k w =
+    take-at (bytesOf k w) (bytes k ws) k (bytes-of-long k w) in
+    let others : drop k (bytesOf k w ++ bytes k ws) ≡ bytes k ws =
+    drop-at (bytesOf k w) (bytes k ws) k (bytes-of-long k w) in
+    (λ i. numberOf (first i) ∷ numbers k (length ws) (others i))
+    ∙ (λ i. number-back k w (h 0 (omega arith)) i
+    ∷ numbers-back k ws (λ j l. h (suc j) (omega (arith, l))) i)

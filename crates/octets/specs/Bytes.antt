@@ -28,11 +28,18 @@ numberOf bs = readOn 0 bs
 abbrev pub numberAt : (k : ℕ) (bs : List ℕ) (i : ℕ) → ℕ
 numberAt k bs i = numberOf (take k (drop (k * i) bs))
 
+-- the first m of the numbers that stand in bytes, k for each, as f reads each of them
+unfoldable pub readEach : {A : Type 0} → (f : ℕ → A) (k m : ℕ) → List ℕ → List A
+readEach f k zero bs = []
+readEach f k (suc m) bs = f (numberOf (take k bs)) ∷ readEach f k m (drop k bs)
+
+-- as they are
+abbrev pub numbers : (k m : ℕ) → List ℕ → List ℕ
+numbers k m bs = readEach (λ w. w) k m bs
+
 -- "signed": the number of k bytes in two's complement, from the half of all on less 256^k
 unfoldable pub signed : (k w : ℕ) → ℤ
 signed k w = cond (ltb (2 * w) (256 ^ k)) (pos w) (negℤ (pos (256 ^ k - w)))
 
--- the first m of the numbers that stand in bytes, k for each, as signed ones
-unfoldable pub signedNumbers : (k m : ℕ) → List ℕ → List ℤ
-signedNumbers k zero bs = []
-signedNumbers k (suc m) bs = signed k (numberOf (take k bs)) ∷ signedNumbers k m (drop k bs)
+abbrev pub signedNumbers : (k m : ℕ) → List ℕ → List ℤ
+signedNumbers k m bs = readEach (signed k) k m bs

@@ -32,7 +32,15 @@ fn get4(bytes: &[u8]) -> u32
         + bytes[3] as u32
 }
 
-// The same as a signed number.
+// The number of the first eight bytes.
+pub fn get8(bytes: &[u8]) -> u64
+    requires { ⌜ 8 ≤ length (now bytes) ⌝ }
+    ensures { λ r. ⌜ r ≡ numberOf (take 8 (now (bytes .entry))) ⌝ }
+{
+    get4(bytes) as u64 * 0x1_0000_0000 + get4(&bytes[4..]) as u64
+}
+
+// The number of the first four bytes as a signed number.
 pub fn get_signed4(bytes: &[u8]) -> i32
     requires { ⌜ 4 ≤ length (now bytes) ⌝ }
     ensures { λ r. ⌜ r ≡ signed 4 (numberOf (take 4 (now (bytes .entry)))) ⌝ }

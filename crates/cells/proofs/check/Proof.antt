@@ -1,5 +1,5 @@
--- `cells::check` meets its contract. The loop's invariant: the places passed offend in nothing, and the reach is that of
--- the last of them (OnePass). The measure is what is left. Assumes nothing.
+-- `cells::check` meets its contract. The loop's invariant: the places passed offend in nothing, and the reach is that
+-- of the last of them (OnePass). The measure is what is left. Assumes nothing.
 use mathlib.Core.Path.{_≡_, _∙_, refl, sym, ap}
 use mathlib.Core.Bool.{true}
 use Prim.Native.Nat.{ℕ, _+_, _-_, _≤_}

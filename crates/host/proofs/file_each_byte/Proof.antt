@@ -7,8 +7,8 @@ use lib.ListN.{length, take, drop, length-drop}
 use lib.Seq.{length-take-le}
 use borrow.Rule.Slice.PartMut.{putMid}
 use Rattle.frame.specs.Answers.{over}
-use Rattle.octets.specs.Bytes.{bytesOf, signedNumbers}
-use Rattle.octets.proofs.Laying.{signed-long}
+use Rattle.octets.specs.Bytes.{bytesOf, signed, signedNumbers}
+use Rattle.octets.proofs.Laying.{read-long}
 use Rattle.net.specs.Steps.{nonZeros}
 use Rattle.directions.specs.Means.Numbers.{answerFor}
 use Rattle.sweeps.proofs.Told.{non-most}
@@ -40,7 +40,7 @@ known : (c : tie.In-loop Inv-loop μ-loop) → Known c
 known c =
     let l = c .before .loop in
     let s = c .before .before .before .before in
-    let e = signed-long 4 (3 * l .i) (s .args .dirs .now) in
+    let e = read-long (signed 4) 4 (3 * l .i) (s .args .dirs .now) in
     let long = new-long (l .inv .1) (l .i) e (omega (arith, l .inv .0, s .pre .1)) in
     record {
       inside = omega (arith, c .loop-test .taken);
@@ -119,7 +119,8 @@ same-length : tie.Need-same-length Inv-loop μ-loop
 same-length c =
     let l = c .before .loop in
     let s = c .before .before .before .before in
-    new-long (l .inv .1) (l .i) (signed-long 4 (3 * l .i) (s .args .dirs .now)) (omega (arith, l .inv .0, s .pre .1))
+    new-long (l .inv .1) (l .i) (read-long (signed 4) 4 (3 * l .i) (s .args .dirs .now))
+    (omega (arith, l .inv .0, s .pre .1))
 
 returns : tie.Need-returns Inv-loop μ-loop
 returns c =

@@ -1,0 +1,23 @@
+-- Document 02, 2026-09: what is promised of the program's line. Assumes nothing.
+use mathlib.Core.Path.{_≡_}
+use mathlib.Core.Logic.{_↔_}
+use mathlib.Core.List.{List, []}
+use Prim.Native.Nat.{ℕ, _%_, _^_, _<_, _≤_}
+use lib.ListN.{length, getD}
+use Rattle.octets.specs.Bytes.{bytes}
+use Rattle.cells.specs.Checking.{Accepted}
+use Rattle.verdicts.specs.Program.{wordsIn, acceptedText, badLengthText, tooLongText, text}
+
+pub record Lines : Type 0 where
+  -- "accept a list exactly when": the file of such a list, of at most 4,096 words, and no other
+  pub accepts : (file : List ℕ) → (text file ≡ acceptedText)
+      ↔ ((length file % 8 ≡ 0) × (length (wordsIn file) ≤ 4096) × Accepted (wordsIn file))
+  -- "The empty list is accepted."
+  pub empty : text [] ≡ acceptedText
+  -- `A file whose length isn't a multiple of 8 is "bad length", checked first`
+  pub bad : (file : List ℕ) → (text file ≡ badLengthText) ↔ (length file % 8 ≡ 0 → ⊥)
+  -- `one above 4,096 words is "too long"`
+  pub long : (file : List ℕ) → (text file ≡ tooLongText)
+      ↔ ((length file % 8 ≡ 0) × (4096 < length (wordsIn file)))
+  -- "files of eight-byte codes, most significant byte first": the words of a file are those that it was made of
+  pub back : (ws : List ℕ) → ((i : ℕ) → i < length ws → getD ws i 0 < 2 ^ 64) → wordsIn (bytes 8 ws) ≡ ws

@@ -4825,8 +4825,7 @@ def good_cells():
 
 # ==== The calls: damaged lists of cells
 
-# Each damage is done to a good list at a place. It tells the list then, and what offends: or None where it can't be
-# done.
+# Each damage is done to a good list at a place. It tells the list then and what offends, or None if it can't be done.
 
 
 def put_in(words, place, word):
@@ -4957,7 +4956,7 @@ def damaged_cells():
 
 
 def also_invalid(chance, done, break_one):
-    """The offending word is invalid too."""
+    """The offending word is invalid too, if it can be broken so."""
     words, found = done
     word = break_one(words[found.place], chance)
     words = words[: found.place] + [word] + words[found.place + 1 :]
@@ -6656,7 +6655,9 @@ def good_cases(chance):
     yield "degree-24", by_path({random_code(chance, DEEPEST) for _ in range(1500)})
     every = [code for side in codes_of(0) for code in covering(chance, side, chance.choice([0, 3, 11, DEEPEST]))]
     yield "whole-globe", every
-    yield "words-fall", [make_code((1, 0, 0), [0] * n + [1]) for n in range(DEEPEST)][::-1]
+    words = [make_code((1, 0, 0), [0] * n + [1]) for n in range(DEEPEST)][::-1]
+    must(sorted(words, reverse=True) == words, "they fall as 64-bit words", words)
+    yield "words-fall", words
 
 
 PLACE_COUNTS = (1, 2, 3, 10, 500, 4095, 4096)
@@ -6667,9 +6668,7 @@ def place_cases(chance):
     for many, reason in itertools.product(PLACE_COUNTS, (1, 2, 3, 4)):
         least = 0 if reason == 1 else 1
         if many > least:
-            names = {least: "first", many - 1: "last"}
-            names = {(many + least) // 2: "middle"} | names
-            for place, name in names.items():
+            for place, name in {(many + least) // 2: "middle", least: "first", many - 1: "last"}.items():
                 yield f"reason-{reason}-{name}-of-{many}", with_offence(chance, many, place, reason)
     # Where a buffer may end.
     for place, reason in itertools.product((512, 1024, 2048), (1, 2, 3, 4)):
@@ -6721,8 +6720,8 @@ def order_cases(chance):
     yield "walk-turned-round", walk_all(3)[::-1]
     yield "one-word-4096", [chance.choice(cell_pool())] * 4096
     yield "list-twice", part_of_pool(chance, 50) * 2
-    yield "down-one-path", walk(codes_of(0)[3], 0) + [make_code((1, 1, 1), [2] * n) for n in range(1, DEEPEST + 1)]
-    yield "up-one-path", [make_code((1, 1, 1), [2] * n) for n in range(DEEPEST, -1, -1)]
+    down = [make_code((1, 1, 1), [2] * n) for n in range(DEEPEST + 1)]
+    yield from [("down-one-path", down), ("up-one-path", down[::-1])]
 
 
 # ==== The cases of ./cells: lengths, and any bytes

@@ -1,5 +1,4 @@
 // Writing the answers of the calls, in a buffer from its start, and their parts at a place.
-use crate::texts;
 use grid::CodeAnswer;
 use grid::CoordinatesAnswer;
 use grid::Golden;
@@ -7,6 +6,8 @@ use grid::NameAnswer;
 use grid::PointAnswer;
 use grid::StepAnswer;
 use grid::TicksAnswer;
+use texts::put_code;
+use texts::put_digits;
 ghost use Prim.Native.Nat.{_+_, _≤_};
 ghost use lib.ListN.{length};
 
@@ -32,28 +33,7 @@ pub fn refused(f: u64, out: &mut [u8]) -> usize
     texts::put_reason(f, out, reason)
 }
 
-// ---- codes and names
-
-// A code as document 01 writes it. A word with a degree above 24 is none.
-pub fn put_digits(w: u64, out: &mut [u8], at: usize) -> usize
-    requires { ⌜ at + 27 ≤ length (now out) ⌝ }
-    ensures { λ r. ⌜ r ≤ at + 27 ⌝ }
-{
-    if 24 < words::degree_of(w) {
-        return at;
-    }
-    lines::put_code(w, out, at)
-}
-
-// A code, and its word.
-pub fn put_code(w: u64, out: &mut [u8], at: usize) -> usize
-    requires { ⌜ at + 46 ≤ length (now out) ⌝ }
-    ensures { λ r. ⌜ r ≤ at + 46 ⌝ }
-{
-    let space = put_digits(w, out, at);
-    let word = lines::put_byte(b' ', out, space);
-    lines::put_word(w, out, word)
-}
+// ---- names
 
 // A name: its word, the corner's number and the triangle.
 fn put_name(w: u64, out: &mut [u8]) -> usize

@@ -13,7 +13,6 @@ mod laying;
 mod lists;
 mod showing;
 mod sweeping;
-mod texts;
 
 ghost use Prim.Native.Nat.{_≤_};
 ghost use lib.ListN.{length};

@@ -37,7 +37,7 @@ fn put_entry(e: Entry, w: u64, out: &mut [u8], at: usize) -> usize
     match e {
         Entry::Decimal => lines::put_decimal(w, out, at),
         Entry::Word => lines::put_word(w, out, at),
-        Entry::Code => answers::put_code(w, out, at),
+        Entry::Code => texts::put_code(w, out, at),
     }
 }
 

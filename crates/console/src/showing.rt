@@ -37,7 +37,7 @@ fn put_place(degree: u64, place: usize, i: Item, later: bool, out: &mut [u8], at
         _ => {
             let code = put_separator(later, out, at);
             let t = words::code_at(degree, place as u64);
-            let next = answers::put_digits(t.0, out, code);
+            let next = texts::put_digits(t.0, out, code);
             items::put_item(i, out, next)
         }
     }

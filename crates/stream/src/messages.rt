@@ -68,21 +68,6 @@ pub fn tell_progress(watch: bool, t: Tally) {
 
 // ---- the closing line
 
-// The reason of a direction's refusal, in document 01's words.
-fn put_reason(f: u64, out: &mut [u8], at: usize) -> usize
-    requires { ⌜ at + 100 ≤ length (now out) ⌝ }
-    ensures { λ r. ⌜ r ≤ at + 100 ⌝ }
-{
-    if f == 7 {
-        return lines::put_bytes(b"the direction is (0, 0, 0)", out, at);
-    }
-    lines::put_bytes(
-        b"a direction coordinate lies outside -1,000,000,000 to 1,000,000,000",
-        out,
-        at,
-    )
-}
-
 // The place of the first one.
 fn put_first(place: u64, out: &mut [u8], at: usize) -> usize
     requires { ⌜ at + 60 ≤ length (now out) ⌝ }
@@ -104,7 +89,7 @@ fn put_first_refused(a: SweepAnswer, out: &mut [u8], at: usize) -> usize
     let number = lines::put_bytes(b" with ", out, with);
     let colon = lines::put_decimal(a.first, out, number);
     let reason = lines::put_bytes(b": ", out, colon);
-    put_reason(a.first, out, reason)
+    texts::put_reason(a.first, out, reason)
 }
 
 // How many are refused, and the first.

@@ -1,10 +1,10 @@
--- `console::texts::row_start` meets its contract. The loop's invariant: the place is in the table. The measure is how many rows are left
+-- `texts::row_start` meets its contract. The loop's invariant: the place is in the table. The measure is how many rows are left
 -- to pass. Assumes nothing.
 use Prim.Native.Nat.{_≤_, _-_}
 use lib.ListN.{length}
 use borrow.Author.Needs.{needs}
-use Rattle.console.proofs.texts.row_start.Statement.{statement}
-use Rattle.console.proofs.texts.row_start.Tie as tie
+use Rattle.texts.proofs.row_start.Statement.{statement}
+use Rattle.texts.proofs.row_start.Tie as tie
 
 abbrev Inv-loop : tie.InvT-loop
 Inv-loop table number at₀ k₀ at k = (at ≤ length table) × (k ≤ number)

@@ -1,10 +1,10 @@
--- `console::texts::row_named` is safe and ends. The loop's invariant: the place is in the table. The measure is how many rows are left
+-- `texts::row_named` is safe and ends. The loop's invariant: the place is in the table. The measure is how many rows are left
 -- to look at. Assumes nothing.
 use Prim.Native.Nat.{_≤_, _-_}
 use lib.ListN.{length}
 use borrow.Author.Needs.{needs}
-use Rattle.console.proofs.texts.row_named.Statement.{statement}
-use Rattle.console.proofs.texts.row_named.Tie as tie
+use Rattle.texts.proofs.row_named.Statement.{statement}
+use Rattle.texts.proofs.row_named.Tie as tie
 
 abbrev Inv-loop : tie.InvT-loop
 Inv-loop table rows word at₀ k₀ at k = (at ≤ length table) × (k ≤ rows)

@@ -1,9 +1,10 @@
-// Tables of text, a row to a line: the forms of the calls, and the reasons of refusals.
+// Texts that the programs share. Tables, a row to a line: the forms of the console's calls, the reasons of refusals, and
+// those of a cell list. And codes as they are shown.
 ghost use Prim.Native.Nat.{_+_, _≤_};
 ghost use lib.ListN.{length};
 
 // How each call is written. A call is known by the number of its row, from 0.
-const CALLS: [u8; 634] = *b"help
+const CALLS: [u8; 655] = *b"help
 check CODE
 parent CODE
 check-name NAME
@@ -36,7 +37,8 @@ owners [LENGTH FILL [PLACE OWNER]..]
 coarse [CODE]
 work-out
 counts LENGTH FILL [PLACE N]..
-sums LENGTH FILL [PLACE N]..";
+sums LENGTH FILL [PLACE N]..
+check-cells [CODE]..";
 
 // Document 01, 'Refusal numbers': when each is given, from 1.
 const REASONS: [u8; 559] = *b"a degree, as field or argument, is above 24
@@ -62,6 +64,14 @@ owned by the other desk
 not owned
 a list of counts or sums has the wrong length
 the stored count or sum of the parent concerned differs from its children's readings";
+
+// Document 02, 2026-09: the reasons of an offending place, from 1.
+const OFFENCES: [u8; 80] = *b"invalid
+less than the word before
+equal to the word before
+inside an earlier one";
+
+// ---- rows
 
 // Where the row ends that a place stands in.
 fn row_end(table: &[u8], at: usize) -> usize
@@ -159,9 +169,11 @@ fn row_named(table: &[u8], rows: u64, word: &[u8]) -> u64 {
     rows
 }
 
-// The call that a word names; 34 where it names none.
+// ---- what is told
+
+// The call that a word names; 35 where it names none.
 pub fn call_named(word: &[u8]) -> u64 {
-    row_named(&CALLS, 34, word)
+    row_named(&CALLS, 35, word)
 }
 
 // The form of a call.
@@ -184,4 +196,38 @@ pub fn put_reason(refusal: u64, out: &mut [u8], at: usize) -> usize
         return put_row(&REASONS_FROM_20, refusal - 20, out, at);
     }
     put_row(&REASONS, refusal - 1, out, at)
+}
+
+// The reason of an offending place of a cell list, by its number.
+pub fn put_offence(reason: u64, out: &mut [u8], at: usize) -> usize
+    requires { ⌜ at + 100 ≤ length (now out) ⌝ }
+    ensures { λ r. ⌜ r ≤ at + 100 ⌝ }
+{
+    if reason == 0 {
+        return at;
+    }
+    put_row(&OFFENCES, reason - 1, out, at)
+}
+
+// ---- codes
+
+// A code as document 01 writes it. A word with a degree above 24 is none.
+pub fn put_digits(w: u64, out: &mut [u8], at: usize) -> usize
+    requires { ⌜ at + 27 ≤ length (now out) ⌝ }
+    ensures { λ r. ⌜ r ≤ at + 27 ⌝ }
+{
+    if 24 < words::degree_of(w) {
+        return at;
+    }
+    lines::put_code(w, out, at)
+}
+
+// A code, and its word.
+pub fn put_code(w: u64, out: &mut [u8], at: usize) -> usize
+    requires { ⌜ at + 46 ≤ length (now out) ⌝ }
+    ensures { λ r. ⌜ r ≤ at + 46 ⌝ }
+{
+    let space = put_digits(w, out, at);
+    let word = lines::put_byte(b' ', out, space);
+    lines::put_word(w, out, word)
 }

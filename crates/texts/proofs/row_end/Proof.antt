@@ -1,10 +1,10 @@
--- `console::texts::row_end` meets its contract. The loop's invariant: the place has only grown, and is in the table. The measure is what
+-- `texts::row_end` meets its contract. The loop's invariant: the place has only grown, and is in the table. The measure is what
 -- is left of the table. Assumes nothing.
 use Prim.Native.Nat.{_≤_, _-_}
 use lib.ListN.{length}
 use borrow.Author.Needs.{needs}
-use Rattle.console.proofs.texts.row_end.Statement.{statement}
-use Rattle.console.proofs.texts.row_end.Tie as tie
+use Rattle.texts.proofs.row_end.Statement.{statement}
+use Rattle.texts.proofs.row_end.Tie as tie
 
 abbrev Inv-loop : tie.InvT-loop
 Inv-loop table at i₀ i = (at ≤ i) × (i ≤ length table)

@@ -2,3 +2,4 @@
 pub mod Host
 pub mod Sweeps
 pub mod Soundings
+pub mod Cells

@@ -2,7 +2,7 @@
 use mathlib.Core.Path.{_≡_, _∙_, refl, sym, ap}
 use mathlib.Core.Bool.{true, false, not}
 use mathlib.Core.Logic.{_⊎_, inl, inr, ⊎-elim}
-use mathlib.Core.List.{List, [], _++_}
+use mathlib.Core.List.{List, [], _∷_, _++_}
 use Prim.Native.Nat.{ℕ, _+_, _-_, _*_, _/_, _%_, _≤_, _<_}
 use native.Mathlib.Decide.{decLe}
 use native.Mathlib.Omega.{arith}
@@ -10,13 +10,15 @@ use lib.Dec.{ltb, eqb}
 use lib.ListN.{length, take, drop, length-append, take-append-drop}
 use lib.Seq.{take-at}
 use borrow.Author.Tests.{lt-ltb, le-ltb, eq-eqb, ne-eqb}
+use Rattle.frame.proofs.Answering.{answers-or-not}
 use Rattle.octets.specs.Bytes.{numbers}
 use Rattle.octets.proofs.Laying.{read-append}
 use Rattle.lines.specs.Writing.{Wrote}
 use Rattle.lines.proofs.Placing.{wrote-as}
 use Rattle.cells.specs.Checking.{checked}
-use Rattle.verdicts.specs.Program.{badLengthText, tooLongText, verdictText, text}
-use Rattle.verdicts.specs.Means.Files.{folded, Holds, TakesIn, WritesOf}
+use Rattle.verdicts.specs.Program.{badLengthText, tooLongText, verdictText, text, line}
+use Rattle.verdicts.specs.Files.{folded, Holds, TakesIn, WritesOf}
+use Rattle.verdicts.specs.Promises.{Reading}
 
 -- ---- the length
 
@@ -54,9 +56,9 @@ module _ (n : ℕ) {size : ℕ} (s : size ≡ folded n) where
 
 -- ---- the file
 
-pub nothing-yet : (head : List ℕ) → Holds [] head 0
+begins : (head : List ℕ) → Holds [] head 0
 unfolding folded
-nothing-yet head = record { sized = refl; front = λ l. refl }
+begins head = record { sized = refl; front = λ l. refl }
 
 -- the next bytes make the file too long for the buffer
 pub past : (next head : List ℕ) (size r : ℕ) → r ≡ 32776 + (size + length next) % 8
@@ -116,6 +118,20 @@ module _ {file head : List ℕ} {size : ℕ} (h : Holds file head size) where
       ∙ ap (λ (k : ℕ). numbers 8 (k / 8) file) n in
       rw (whole e, le-ltb 4096 (length file / 8) (omega (arith, sym n, l)))
       (ap (λ (ws : List ℕ). verdictText (checked ws)) same)
+
+decides : (file file′ head : List ℕ) (size : ℕ) → Holds file head size → Holds file′ head size
+    → line file ≡ line file′
+decides file file′ head size h h′ =
+    ap (λ (t : List ℕ). t ++ (10 ∷ [])) (go (answers-or-not (size % 8)) (decLe (size / 8) 4096))
+  where
+    go : (size % 8 ≡ 0) ⊎ (size % 8 ≡ 0 → ⊥) → Dec (size / 8 ≤ 4096) → text file ≡ text file′
+    go (inr n) l = sym (text-bad h n) ∙ text-bad h′ n
+    go (inl e) (no n) =
+        let l : 4096 < size / 8 = omega (arith, n) in sym (text-long h e l) ∙ text-long h′ e l
+    go (inl e) (yes l) = sym (text-checked h e l) ∙ text-checked h′ e l
+
+pub reading : Reading
+reading = record { begins = begins; decides = decides }
 
 -- what a writer left, where it is the text of each file that is held
 pub writes-as : {textOf : List ℕ → List ℕ} {m most size r : ℕ} {t head old new : List ℕ} → m ≤ most

@@ -6,7 +6,8 @@ use Prim.Native.Nat.{ℕ, _%_, _^_, _<_, _≤_}
 use lib.ListN.{length, getD}
 use Rattle.octets.specs.Bytes.{bytes}
 use Rattle.cells.specs.Checking.{Accepted}
-use Rattle.verdicts.specs.Program.{wordsIn, acceptedText, badLengthText, tooLongText, text}
+use Rattle.verdicts.specs.Program.{wordsIn, acceptedText, badLengthText, tooLongText, text, line}
+use Rattle.verdicts.specs.Files.{Holds}
 
 pub record Lines : Type 0 where
   -- "accept a list exactly when": the file of such a list, of at most 4,096 words, and no other
@@ -21,3 +22,11 @@ pub record Lines : Type 0 where
       ↔ ((length file % 8 ≡ 0) × (4096 < length (wordsIn file)))
   -- "files of eight-byte codes, most significant byte first": the words of a file are those that it was made of
   pub back : (ws : List ℕ) → ((i : ℕ) → i < length ws → getD ws i 0 < 2 ^ 64) → wordsIn (bytes 8 ws) ≡ ws
+
+-- A file that is taken in part by part, to its end: what is held is enough, however it was cut.
+pub record Reading : Type 0 where
+  -- before the first byte
+  pub begins : (head : List ℕ) → Holds [] head 0
+  -- files of which the same is held have one line
+  pub decides : (file file′ head : List ℕ) (size : ℕ) → Holds file head size → Holds file′ head size
+      → line file ≡ line file′

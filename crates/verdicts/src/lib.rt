@@ -9,7 +9,7 @@ ghost use Rattle.octets.specs.Bytes.{numbers};
 ghost use Rattle.lines.specs.Writing.{Wrote};
 ghost use Rattle.cells.specs.Checking.{checked};
 ghost use Rattle.verdicts.specs.Program.{verdictText, text, line};
-ghost use Rattle.verdicts.specs.Means.Files.{TakesIn, WritesOf};
+ghost use Rattle.verdicts.specs.Files.{TakesIn, WritesOf};
 
 // The length that is kept of a file of more than 4,096 words, which has so many bytes more.
 fn past_room(size: usize, more: usize) -> usize

@@ -1,4 +1,4 @@
--- What is kept of a file, of any length, in a buffer of fixed size. Assumes nothing.
+-- Document 02, 2026-09: what is kept of a file, of any length, in a buffer of fixed size. Assumes nothing.
 use mathlib.Core.Path.{_≡_}
 use mathlib.Core.Bool.{cond}
 use mathlib.Core.List.{List, _++_}

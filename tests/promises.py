@@ -39,6 +39,7 @@ ARCHITECTURE = "docs/ARCHITECTURE.md"
 DOCS = (README, PROMISES, DECISIONS, ARCHITECTURE, "docs/FILING.md", "docs/CONSOLE.md", "docs/PERFORMANCE.md")
 DEMANDS, MISTAKES = "grid/specs/Demands.antt", "grid/specs/Mistakes.antt"
 CONTRACTS, HOST_CONTRACTS = "crates/grid/specs/Contracts.antt", "crates/contracts/specs/Host.antt"
+HOST_PROMISES = ("host/specs/Promises.antt", "host_sweeps/specs/Promises.antt")
 TABLE_CONTRACTS = "crates/contracts/specs/Soundings.antt"
 TABLE_PROMISES = ("tables/specs/Promises.antt", "coarse/specs/Promises.antt")
 SWEEP_CONTRACTS, SWEEP_PROMISES = "crates/contracts/specs/Sweeps.antt", "sweeps/specs/Promises.antt"
@@ -221,10 +222,10 @@ def of_sweep():
 @functools.cache
 def contracts():
     """Where calls are held to their promises: the file with a row for each, the files that have the record of promises,
-    a later one for calls that a request changed, and the calls."""
+    a later one for calls that a request changed or brought, and the calls."""
     return (
         (CONTRACTS, (DEMANDS,), "Demand1", calls()),
-        (HOST_CONTRACTS, ("host/specs/Promises.antt",), "OneAnswer", exported()),
+        (HOST_CONTRACTS, HOST_PROMISES, "OneAnswer", exported()),
         (TABLE_CONTRACTS, TABLE_PROMISES, "OneAnswer", of_table()),
         (SWEEP_CONTRACTS, (SWEEP_PROMISES,), "OneAnswer", of_sweep()),
     )

@@ -12,7 +12,8 @@ use Rattle.net.specs.Corners.{nameOf}
 use Rattle.net.specs.Refusals.{checkName}
 use Rattle.grid.specs.Contracts.{Slice}
 use Rattle.grid.specs.Writing.{towards}
-use Rattle.host.specs.Answers.{CrossBytes, FileBytes, ListBytes, SweepBytes}
+use Rattle.host_sweeps.specs.Answers.{SweepBytes}
+use Rattle.host.specs.Answers.{CrossBytes, FileBytes, ListBytes}
 use Rattle.host.proofs.grid_check_triangle.Reads as grid_check_triangle
 use Rattle.host.proofs.grid_check_name.Reads as grid_check_name
 use Rattle.host.proofs.grid_cross.Reads as grid_cross
@@ -20,7 +21,8 @@ use Rattle.host.proofs.grid_file.Reads as grid_file
 use Rattle.host.proofs.grid_list.Reads as grid_list
 use Rattle.host.proofs.grid_sweep.Reads as grid_sweep
 
--- The calls in the order of `OneAnswer`: for any plain numbers, any result, and bytes left with any contents.
+-- The calls in the order of `OneAnswer`, of the crate host and then of host_sweeps: for any plain numbers, any result,
+-- and bytes left with any contents.
 pub record Contracts : Type 0 where
   pub checkTriangle : (κs : Lfts 0) (word : ℕ) (r : ℕ)
       → Says (grid_check_triangle.Asked κs (word, tt)) (grid_check_triangle.Learnt κs (word, tt) r (word, tt))

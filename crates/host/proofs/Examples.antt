@@ -5,14 +5,12 @@ use Prim.Native.Nat.{ℕ, suc, _≤_}
 use native.Mathlib.Omega.{arith}
 use lib.ListN.{length, getD, take, replicate}
 use Rattle.frame.specs.Refusals.{firstOf}
-use Rattle.frame.specs.Lists.{firstPlace}
 use Rattle.frame.specs.Answers.{over}
 use Rattle.frame.specs.Promises.{_leaves_}
-use Rattle.frame.proofs.Answering.{gives-one, no-other, refusing, answering}
-use Rattle.octets.specs.Bytes.{bytes, readEach, signed}
+use Rattle.frame.proofs.Answering.{gives-one, no-other, refusing}
+use Rattle.octets.specs.Bytes.{bytes}
 use Rattle.golden.specs.Numbers.{_+φ_, negφ, _*φ_}
 use Rattle.words.specs.Words.{digits, path, wordOf}
-use Rattle.words.specs.Family.{codeAnswer, noCode}
 use Rattle.words.specs.Refusals.{checkCode}
 use Rattle.words.specs.declared.CodeAnswer.{CodeAnswer}
 use Rattle.words.specs.declared.TriangleCode.{TriangleCode}
@@ -34,14 +32,11 @@ use Rattle.grid.specs.Writing.{up}
 use Rattle.grid.proofs.Bounds as grid-bounds
 use Rattle.grid.proofs.Examples as grid
 use Rattle.grid.proofs.Showing.{lists}
-use Rattle.sweeps.specs.Sweeps.{done, then, sweepAnswer, told}
-use Rattle.host.specs.Refusals.{refuseCross, refuseFile, refuseList, refuseSweep}
+use Rattle.host.specs.Refusals.{refuseCross, refuseFile, refuseList}
 use Rattle.host.specs.Answers.{CodeAndEdge, FiledCode, CountAndCodes, CrossBytes, FileBytes, ListBytes}
-use Rattle.host.specs.Answers.{SweepBytes}
-use Rattle.host.specs.Examples.{two-directions, Examples, Bounds, Mistakes}
+use Rattle.host.specs.Examples.{Examples, Bounds, Mistakes}
 use Rattle.host.proofs.Calls.{cross-nine, file-nine, list-nine, cross-number, file-number, list-number}
 use Rattle.host.proofs.Calls.{cross-returns, file-returns, list-returns}
-use Rattle.host.proofs.OneByteSweep.{sweep-one}
 use Rattle.host.proofs.Exporting.{exported-one}
 use Rattle.host.proofs.Promises.{cross-same, file-same, list-same}
 
@@ -102,33 +97,8 @@ refused t k f out e =
     let is : CrossBytes t k out (suc f) out = refusing e (λ z. omega arith) in
     gives-one (exported-one (CodeAndEdge t k) out (cross-nine t k out) (cross-same t k)) is
 
--- E7 and (0,0,0) in a sweep
-
-two-swept : (codes out : List ℕ) → refuseSweep 2 two-directions codes out ≡ 0
-    → SweepBytes 2 two-directions codes out
-    leaves (0, (over (bytes 8 (written 21003 .0 ∷ 0 ∷ [])) codes, over (bytes 8 (1 ∷ 1 ∷ 7 ∷ [])) out))
-unfolding told firstPlace readEach signed directions.refuseFile firstOf
-two-swept codes out z =
-    gives-one (sweep-one 2 two-directions codes out)
-    (answering z (record {
-      told = sweepAnswer 0 1 1 7;
-      swept = record {
-        written = written 21003 .0 ∷ 0 ∷ [];
-        swept = record {
-          singles = codeAnswer 0 (written 21003) ∷ noCode 7 ∷ [];
-          each = then (grid.examples .e7 .meets) (then (refusing refl (λ z. omega (arith, z))) done);
-          answer = refl;
-          are = refl;
-        };
-        put = refl;
-      };
-      answered = refl;
-      put = refl;
-    }))
-
 pub examples : Examples
-unfolding bytes readEach signed refuseCross refuseFile refuseList refuseSweep checkCode firstOf decimals written
-    digits path wordOf
+unfolding bytes refuseCross refuseFile refuseList checkCode firstOf decimals written digits path wordOf
 examples = record {
   eight-bytes = refl;
   back = refl;
@@ -139,14 +109,10 @@ examples = record {
   six = six (replicate 56 9) refl;
   short = refused (written 1001) 2 8 (replicate 15 9) refl;
   no-edge = refused (written 1001) 4 4 (replicate 16 9) refl;
-  minus-two = refl;
-  swept = two-swept (replicate 17 9) (replicate 25 9) refl;
-  swept-short = gives-one (sweep-one 2 two-directions (replicate 15 9) (replicate 24 9))
-      (refusing refl (λ z. omega (arith, z)));
 }
 
 pub bounds : Bounds
-unfolding refuseCross refuseFile refuseList refuseSweep firstOf decimals written digits path wordOf
+unfolding refuseCross refuseFile refuseList firstOf decimals written digits path wordOf
 bounds = record {
   cross-15 = refl;
   cross-16 = refl;
@@ -159,29 +125,14 @@ bounds = record {
   degree-first = refl;
   zero-first = refl;
   far-first = refl;
-  sweep-0 = refl;
-  sweep-11 = refl;
-  sweep-12 = refl;
-  sweep-13 = refl;
-  sweep-codes-7 = refl;
-  sweep-out-23 = refl;
-  sweep-25 = refl;
 }
 
 -- byte i of what a call leaves
 abbrev byte : ℕ → ℕ × List ℕ → ℕ
 byte i x = getD (x .1) i 0
 
--- byte i of the codes that a sweep leaves, and of its answer
-abbrev code-byte : ℕ → ℕ × (List ℕ × List ℕ) → ℕ
-code-byte i x = getD (x .1 .0) i 0
-
-abbrev told-byte : ℕ → ℕ × (List ℕ × List ℕ) → ℕ
-told-byte i x = getD (x .1 .1) i 0
-
 pub mistakes : Mistakes
-unfolding bytes readEach signed refuseCross refuseFile refuseList refuseSweep checkCode firstOf decimals written
-    digits path wordOf
+unfolding bytes refuseCross refuseFile refuseList checkCode firstOf decimals written digits path wordOf
 mistakes = record {
   one-check = λ e. let f = sym (grid-bounds.bounds .not-canonical) ∙ e in absurd (omega (arith, f));
   reversed = no-other {s = (0, _)} (byte 0) (e3 (replicate 8 9) refl) refl;
@@ -190,9 +141,5 @@ mistakes = record {
   fifteen = no-other {s = (0, _)} (λ x. x .0) (examples .short) refl;
   cleared = no-other {s = (0, _)} (byte 55) (two (replicate 56 9) refl) refl;
   no-count = no-other {s = (0, _)} (byte 0) (two (replicate 56 9) refl) refl;
-  old-code = no-other {s = (0, _)} (code-byte 8) (two-swept (replicate 17 9) (replicate 24 9) refl) refl;
-  sweep-cleared = no-other {s = (0, _)} (code-byte 16) (two-swept (replicate 17 9) (replicate 24 9) refl) refl;
-  in-bytes = no-other {s = (0, _)} (told-byte 15) (two-swept (replicate 16 9) (replicate 24 9) refl) refl;
-  sweep-refused = no-other {s = (7, _)} (λ x. x .0) (two-swept (replicate 16 9) (replicate 24 9) refl) refl;
   longer = no-other {s = (9, _)} (λ x. x .0) (e3 (replicate 9 9) refl) refl;
 }

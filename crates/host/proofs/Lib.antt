@@ -1,8 +1,5 @@
 -- The laws of the exported calls, and the theorems of specs/Promises.antt and specs/Examples.antt.
 pub mod Exporting
-pub mod ByteSweeps
-pub mod FirstCodes
-pub mod OneByteSweep
 pub mod Calls
 pub mod Promises
 pub mod Examples

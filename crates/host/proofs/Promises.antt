@@ -27,11 +27,9 @@ use Rattle.directions.specs.Refusals as directions
 use Rattle.directions.specs.Answers.{FileAnswer, ListAnswer}
 use Rattle.directions.proofs.OneFiling.{file-some, list-some, how-many}
 use Rattle.host.specs.Answers.{CodeAndEdge, FiledCode, CountAndCodes, CrossBytes, FileBytes, ListBytes}
-use Rattle.host.specs.Promises.{OneAnswer, EightBytes, Hosted, AsTheGrid, AsTheSweep}
+use Rattle.host.specs.Promises.{OneAnswer, EightBytes, Hosted, AsTheGrid}
 use Rattle.host.proofs.Calls.{cross-nine, file-nine, list-nine, cross-number, file-number, list-number}
 use Rattle.host.proofs.Calls.{cross-numbers, file-numbers, list-numbers}
-use Rattle.host.proofs.ByteSweeps.{refuse-odd}
-use Rattle.host.proofs.OneByteSweep.{sweep-keeps, hosted-sweep}
 use Rattle.host.proofs.Exporting.{Fitting, exported-keeps, hosted}
 
 pub eight-bytes : EightBytes
@@ -99,7 +97,6 @@ one-answer = record {
       let places : List ℕ = replicate 6 0 in
       let x = list-some n d places in
       (_, list-numbers n d out places (x .0 .1) (omega arith) (x .1) z));
-  sweep = sweep-keeps;
 }
 
 -- ---- as document 01's calls
@@ -130,10 +127,3 @@ listed n d places left a out r new six p q =
 
 pub as-the-grid : AsTheGrid
 as-the-grid = record { cross = crossed; file = filed; list = listed }
-
-pub as-the-sweep : AsTheSweep
-as-the-sweep = record {
-  sweep = hosted-sweep;
-  odd = λ n dirs codes out r new l k p.
-      one-answer .sweep n dirs codes out .exactly (r, new) p ∙ sym (refuse-odd n dirs codes out l k);
-}

@@ -3,5 +3,3 @@ pub mod Refusals
 pub mod Answers
 pub mod Promises
 pub mod Examples
--- What the code is proved by, and no promise: see there.
-pub mod Means

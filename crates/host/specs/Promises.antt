@@ -1,7 +1,7 @@
--- Document 02, 2026-01 and 2026-04: what is promised of the exported calls. Assumes nothing.
+-- Document 02, 2026-01: what is promised of the exported calls. Assumes nothing.
 use mathlib.Core.Path.{_≡_}
 use mathlib.Core.List.{List, [], _∷_}
-use Prim.Native.Nat.{ℕ, _*_, _/_, _%_, _^_, _≤_, _<_}
+use Prim.Native.Nat.{ℕ, _*_, _^_, _≤_, _<_}
 use lib.ListN.{length, getD, take, drop}
 use Rattle.frame.specs.Promises.{Keeps, KeepsLent}
 use Rattle.octets.specs.Bytes.{bytesOf, numberOf, numberAt}
@@ -15,10 +15,8 @@ use Rattle.corners.specs.Answers.{CrossAnswer}
 use Rattle.corners.specs.declared.StepAnswer.{StepAnswer}
 use Rattle.corners.specs.declared.CountAnswer.{CountAnswer}
 use Rattle.directions.specs.Answers.{FileAnswer, ListAnswer}
-use Rattle.sweeps.specs.Answers.{SweepResult}
-use Rattle.sweeps.specs.declared.SweepAnswer.{SweepAnswer}
-use Rattle.host.specs.Refusals.{refuseCross, refuseFile, refuseList, refuseSweep}
-use Rattle.host.specs.Answers.{CrossBytes, FileBytes, ListBytes, directionsIn, SweepBytes}
+use Rattle.host.specs.Refusals.{refuseCross, refuseFile, refuseList}
+use Rattle.host.specs.Answers.{CrossBytes, FileBytes, ListBytes}
 
 -- Demand 1, of the exported calls: exactly one answer for every input. "Each call returns its refusal number."
 pub record OneAnswer : Type 0 where
@@ -30,8 +28,6 @@ pub record OneAnswer : Type 0 where
       → KeepsLent (refuseFile n d out) (FileBytes n d out) (λ r. r) (λ f. f) out
   pub list : (n : ℕ) (d : Direction) (out : List ℕ)
       → KeepsLent (refuseList n d out) (ListBytes n d out) (λ r. r) (λ f. f) out
-  pub sweep : (n : ℕ) (dirs codes out : List ℕ)
-      → KeepsLent (refuseSweep n dirs codes out) (SweepBytes n dirs codes out) (λ r. r) (λ f. f) (codes, out)
 
 -- "eight for each number, most significant first": there are eight, each is a byte, and read back they are the number.
 pub record EightBytes : Type 0 where
@@ -68,32 +64,3 @@ pub record AsTheGrid : Type 0 where
   pub list : (n : ℕ) (d : Direction) (places left : List ℕ) (a : CountAnswer) (out : List ℕ) (r : ℕ)
       (new : List ℕ) → 6 ≤ length places → ListAnswer n d places a left → ListBytes n d out r new
       → Hosted (a .refusal) (a .count ∷ take (a .count) left) 56 out r new
-
--- 2026-04: what a host has of a sweep over bytes, where the call on the numbers that they are answers a, and leaves
--- `left` of a list that is long enough. Each list of codes has m places, one for each direction.
-pub record HostedSweep (a : SweepAnswer) (left : List ℕ) (m : ℕ) (codes out : List ℕ) (r : ℕ)
-    (new : List ℕ × List ℕ)
-    : Type 0 where
-  pub refused : (a .refusal ≡ 0 → ⊥) → r ≡ a .refusal
-  pub short : a .refusal ≡ 0 → length codes < 8 * m → r ≡ 9
-  pub shortOut : a .refusal ≡ 0 → length out < 24 → r ≡ 9
-  pub answered : a .refusal ≡ 0 → 8 * m ≤ length codes → 24 ≤ length out → r ≡ 0
-  -- what the host reads is what that call answers and leaves
-  pub code : r ≡ 0 → (i : ℕ) → i < m → numberAt 8 (new .0) i ≡ getD left i 0
-  pub told : r ≡ 0 → (i : ℕ) → i < 3
-      → numberAt 8 (new .1) i ≡ getD (a .refused ∷ a .place ∷ a .first ∷ []) i 0
-  -- every later byte is as it was, and a refusal leaves all as they were
-  pub laterCodes : drop (8 * m) (new .0) ≡ drop (8 * m) codes
-  pub later : drop 24 (new .1) ≡ drop 24 out
-  pub kept : (r ≡ 0 → ⊥) → new ≡ (codes, out)
-  pub long : (length (new .0) ≡ length codes) × (length (new .1) ≡ length out)
-
-pub record AsTheSweep : Type 0 where
-  pub sweep : (n : ℕ) (dirs codes out places left : List ℕ) (a : SweepAnswer) (r : ℕ) (new : List ℕ × List ℕ)
-      → length dirs < 2 ^ 64 → length dirs % 12 ≡ 0 → length dirs / 12 ≤ length places
-      → SweepResult n (directionsIn dirs) places a left → SweepBytes n dirs codes out r new
-      → HostedSweep a left (length dirs / 12) codes out r new
-  -- bytes that are no whole number of directions
-  pub odd : (n : ℕ) (dirs codes out : List ℕ) (r : ℕ) (new : List ℕ × List ℕ) → n ≤ 24
-      → (length dirs % 12 ≡ 0 → ⊥)
-      → SweepBytes n dirs codes out r new → r ≡ 9

@@ -17,11 +17,11 @@ use Rattle.sweeps.proofs.Refused as numbers
 use Rattle.sweeps.proofs.OneSweep.{swept-one, swept-some, sweep-keeps as numbers-keep}
 use Rattle.sweeps.specs.Refusals.{refuseSweep as numbers-refusal}
 use Rattle.sweeps.proofs.SweptParts.{swept-long, swept-small}
-use Rattle.host.specs.Refusals.{refuseSweep}
-use Rattle.host.specs.Answers.{directionsIn, SentSweep, SweepBytes}
-use Rattle.host.specs.Promises.{HostedSweep}
-use Rattle.host.proofs.ByteSweeps.{in-long, fine, refuse-codes, refuse-out, refuse-nothing}
-use Rattle.host.proofs.ByteSweeps.{refuse-degree}
+use Rattle.host_sweeps.specs.Refusals.{refuseSweep}
+use Rattle.host_sweeps.specs.Answers.{directionsIn, SentSweep, SweepBytes}
+use Rattle.host_sweeps.specs.Promises.{HostedSweep}
+use Rattle.host_sweeps.proofs.ByteSweeps.{in-long, fine, refuse-codes, refuse-out, refuse-nothing}
+use Rattle.host_sweeps.proofs.ByteSweeps.{refuse-degree}
 
 -- ---- exactly one answer
 

@@ -12,10 +12,10 @@ use Rattle.octets.proofs.Laying.{read-long}
 use Rattle.net.specs.Steps.{nonZeros}
 use Rattle.directions.specs.Means.Numbers.{answerFor}
 use Rattle.sweeps.proofs.Told.{non-most}
-use Rattle.host.specs.Means.CountedBytes.{CountedBytes}
-use Rattle.host.proofs.ByteSweeps.{most, new-long, bytes-none, bytes-next}
-use Rattle.host.proofs.file_each_byte.Statement.{statement}
-use Rattle.host.proofs.file_each_byte.Tie as tie
+use Rattle.host_sweeps.specs.Means.CountedBytes.{CountedBytes}
+use Rattle.host_sweeps.proofs.ByteSweeps.{most, new-long, bytes-none, bytes-next}
+use Rattle.host_sweeps.proofs.file_each_byte.Statement.{statement}
+use Rattle.host_sweeps.proofs.file_each_byte.Tie as tie
 
 abbrev Inv-loop : tie.InvT-loop
 Inv-loop degree dirs codes₀ n refused₀ i₀ codes refused i =

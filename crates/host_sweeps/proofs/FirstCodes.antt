@@ -25,9 +25,9 @@ use Rattle.sweeps.specs.Promises.{directionAt}
 use Rattle.sweeps.specs.Means.Counted.{isZero, Tells}
 use Rattle.sweeps.specs.declared.SweepAnswer.{SweepAnswer}
 use Rattle.sweeps.proofs.CountedParts.{is-zero, not-zero, zero-inside, tells-swept}
-use Rattle.host.specs.Means.CountedBytes.{directionIn, CountedBytes, firstBytes}
-use Rattle.host.specs.Answers.{directionsIn, SweptBytes}
-use Rattle.host.proofs.ByteSweeps.{in-long, written-long}
+use Rattle.host_sweeps.specs.Means.CountedBytes.{directionIn, CountedBytes, firstBytes}
+use Rattle.host_sweeps.specs.Answers.{directionsIn, SweptBytes}
+use Rattle.host_sweeps.proofs.ByteSweeps.{in-long, written-long}
 
 -- ---- first bytes
 

@@ -1,8 +1,8 @@
 -- Three numbers one after the other (ByteSweeps). Assumes nothing.
 use borrow.Author.Needs.{needs}
-use Rattle.host.proofs.ByteSweeps.{laid-three}
-use Rattle.host.proofs.put_three.Statement.{statement}
-use Rattle.host.proofs.put_three.Tie as tie
+use Rattle.host_sweeps.proofs.ByteSweeps.{laid-three}
+use Rattle.host_sweeps.proofs.put_three.Statement.{statement}
+use Rattle.host_sweeps.proofs.put_three.Tie as tie
 
 put8-requires : tie.Need-put8-requires
 put8-requires c κs = search needs

@@ -2,11 +2,11 @@
 use mathlib.Core.Path.{refl, sym}
 use native.Mathlib.Omega.{arith}
 use Rattle.frame.proofs.Answering.{refusing, answering}
-use Rattle.host.proofs.ByteSweeps.{refuse-degree, refuse-odd, refuse-codes, refuse-out, refuse-nothing}
-use Rattle.host.proofs.FirstCodes.{zero-in, tells-bytes}
+use Rattle.host_sweeps.proofs.ByteSweeps.{refuse-degree, refuse-odd, refuse-codes, refuse-out, refuse-nothing}
+use Rattle.host_sweeps.proofs.FirstCodes.{zero-in, tells-bytes}
 use borrow.Author.Needs.{needs}
-use Rattle.host.proofs.grid_sweep.Statement.{statement}
-use Rattle.host.proofs.grid_sweep.Tie as tie
+use Rattle.host_sweeps.proofs.grid_sweep.Statement.{statement}
+use Rattle.host_sweeps.proofs.grid_sweep.Tie as tie
 
 returns : tie.Need-returns
 returns c = refusing (refuse-degree _ _ _ _ (omega arith)) (λ z. omega (arith, z))

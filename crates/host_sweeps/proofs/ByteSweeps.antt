@@ -22,9 +22,9 @@ use Rattle.net.specs.Steps.{nonZeros}
 use Rattle.directions.specs.Answers.{FileAnswer}
 use Rattle.sweeps.specs.Means.Counted.{Counted}
 use Rattle.sweeps.proofs.CountedParts.{counted-long, counted-most, counted-none, counted-append, counted-one}
-use Rattle.host.specs.Refusals.{refuseSweep}
-use Rattle.host.specs.Answers.{directionsIn}
-use Rattle.host.specs.Means.CountedBytes.{directionIn, CountedBytes}
+use Rattle.host_sweeps.specs.Refusals.{refuseSweep}
+use Rattle.host_sweeps.specs.Answers.{directionsIn}
+use Rattle.host_sweeps.specs.Means.CountedBytes.{directionIn, CountedBytes}
 
 pub in-long : (dirs : List ℕ) → length (directionsIn dirs) ≡ length dirs / 4
 in-long dirs = read-long (signed 4) 4 (length dirs / 4) dirs

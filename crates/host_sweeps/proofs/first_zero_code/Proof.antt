@@ -9,10 +9,10 @@ use Rattle.frame.specs.Lists.{firstPlace}
 use Rattle.frame.proofs.Scanning.{stops, passes, none-left}
 use Rattle.sweeps.specs.Means.Counted.{isZero}
 use Rattle.sweeps.proofs.CountedParts.{is-zero, not-zero}
-use Rattle.host.specs.Means.CountedBytes.{firstBytes}
-use Rattle.host.proofs.FirstCodes.{firsts-long, firsts-at}
-use Rattle.host.proofs.first_zero_code.Statement.{statement}
-use Rattle.host.proofs.first_zero_code.Tie as tie
+use Rattle.host_sweeps.specs.Means.CountedBytes.{firstBytes}
+use Rattle.host_sweeps.proofs.FirstCodes.{firsts-long, firsts-at}
+use Rattle.host_sweeps.proofs.first_zero_code.Statement.{statement}
+use Rattle.host_sweeps.proofs.first_zero_code.Tie as tie
 
 abbrev Inv-loop : tie.InvT-loop
 Inv-loop codes n place₀ place = (place ≤ n)

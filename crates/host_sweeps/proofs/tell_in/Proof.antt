@@ -1,4 +1,4 @@
--- `host::tell_in` meets its contract. Assumes nothing.
+-- `host_sweeps::tell_in` meets its contract. Assumes nothing.
 use mathlib.Core.Path.{refl, subst}
 use Prim.Native.Nat.{ℕ, _+_, _*_, _<_}
 use native.Mathlib.Omega.{arith}
@@ -8,11 +8,11 @@ use Rattle.directions.specs.Answers.{FileAnswer}
 use Rattle.directions.specs.Means.Numbers.{answerFor}
 use Rattle.sweeps.specs.Sweeps.{sweepAnswer, noSweep}
 use Rattle.sweeps.specs.Promises.{directionAt}
-use Rattle.host.specs.Answers.{directionsIn}
-use Rattle.host.proofs.FirstCodes.{direction-in}
+use Rattle.host_sweeps.specs.Answers.{directionsIn}
+use Rattle.host_sweeps.proofs.FirstCodes.{direction-in}
 use borrow.Author.Needs.{needs}
-use Rattle.host.proofs.tell_in.Statement.{statement}
-use Rattle.host.proofs.tell_in.Tie as tie
+use Rattle.host_sweeps.proofs.tell_in.Statement.{statement}
+use Rattle.host_sweeps.proofs.tell_in.Tie as tie
 
 put-three-requires : tie.Need-put-three-requires
 put-three-requires c κs = search needs

@@ -1,4 +1,4 @@
--- `host::file_byte_at` meets its contract: the direction is made of three numbers of the bytes. Assumes nothing.
+-- `host_sweeps::file_byte_at` meets its contract: the direction is made of three numbers of the bytes. Assumes nothing.
 use mathlib.Core.Path.{_≡_, _∙_, ap, subst}
 use mathlib.Core.List.{List}
 use Prim.Native.Nat.{ℕ, _+_, _-_, _*_}
@@ -13,8 +13,8 @@ use Rattle.filing.specs.declared.Direction.{Direction}
 use Rattle.directions.specs.Answers.{FileAnswer}
 use Rattle.directions.specs.Means.Numbers.{answerFor}
 use Rattle.grid.specs.Writing.{towards}
-use Rattle.host.proofs.file_byte_at.Statement.{statement}
-use Rattle.host.proofs.file_byte_at.Tie as tie
+use Rattle.host_sweeps.proofs.file_byte_at.Statement.{statement}
+use Rattle.host_sweeps.proofs.file_byte_at.Tie as tie
 
 -- the number of a part that starts at number j
 number : (bs : List ℕ) (k j : ℕ) → k ≡ 4 * j

@@ -1,4 +1,4 @@
-/* The calls of document 01 and of a table of soundings, as crates/bench exports them, and those that crates/host does:
+/* The calls of document 01, of a table of soundings and of a cell list, as crates/bench exports them, and those of host:
  * all of its own, and checking. */
 #include "../../include/dogrzewin.h"
 #include "directions.h"
@@ -12,7 +12,8 @@ uint64_t bench_file(uint64_t degree, int32_t x, int32_t y, int32_t z);
 uint64_t bench_weights(uint64_t code, uint64_t corner, uint64_t *out, size_t places);
 any_function bench_parent, bench_child, bench_cross, bench_back, bench_name_weights,
     bench_ring, bench_exact, bench_name_exact, bench_t, bench_name_t, bench_drawn, bench_name_drawn,
-    bench_list, bench_sweep, bench_get, bench_take, bench_set, bench_clear, bench_give, bench_work_out;
+    bench_list, bench_sweep, bench_get, bench_take, bench_set, bench_clear, bench_give, bench_work_out,
+    bench_check_cells, bench_cells_line;
 
 /* ---- words */
 
@@ -324,6 +325,48 @@ __attribute__((noinline)) static uint64_t host_singles(uint64_t degree, const ui
     return refused ^ place ^ first;
 }
 
+/* ---- cell lists: as many words as the call's name says, a list to accept. Each is the first triangle of its degree
+ * from a multiple of one number of triangles of degree 24 on. */
+
+static void put_word(uint8_t *bytes, uint64_t word) {
+    for (int k = 0; k < 8; k++) {
+        bytes[k] = (uint8_t)(word >> (56 - 8 * k));
+    }
+}
+
+static uint64_t cell_at(size_t place, uint64_t degree) {
+    uint64_t step = ((uint64_t)20 << 48) / sweep_length;
+    uint64_t least = 0;
+    while (least < degree && (uint64_t)2 << (48 - 2 * least) > step) {
+        least++;
+    }
+    uint64_t n = least + below(degree - least + 1);
+    uint64_t width = (uint64_t)1 << (48 - 2 * n);
+    uint64_t index = (place * step + width - 1) / width;
+    return word_of(4 + (index >> (2 * n)), n, index & (((uint64_t)1 << (2 * n)) - 1));
+}
+
+static int give_cells(struct input *in, const char *kind, uint64_t degree) {
+    uint64_t *words = new_list(sweep_length, sizeof *words);
+    for (size_t k = 0; k < sweep_length; k++) {
+        words[k] = cell_at(k, degree);
+    }
+    give_list(in, 0, words, sweep_length);
+    return is_random(kind);
+}
+
+/* The same as a file, with the two buffers that its line is made in. */
+static int give_file(struct input *in, const char *kind, uint64_t degree) {
+    uint8_t *bytes = new_list(sweep_length, 8);
+    for (size_t k = 0; k < sweep_length; k++) {
+        put_word(bytes + 8 * k, cell_at(k, degree));
+    }
+    give_list(in, 0, (uint64_t *)bytes, 8 * sweep_length);
+    give_list(in, 2, new_list(4096, 8), 32768);
+    give_list(in, 4, lent, sizeof lent);
+    return is_random(kind);
+}
+
 /* ---- the calls */
 
 const struct call calls[] = {
@@ -353,6 +396,8 @@ const struct call calls[] = {
     {"table-clear", bench_clear, WORD, give_desk},
     {"table-give", bench_give, WORD, give_desk},
     {"table-work-out", bench_work_out, WORD, give_readings_and_sums},
+    {"check-cells", bench_check_cells, WORD, give_cells},
+    {"cells-line", bench_cells_line, WORD, give_file},
     {"add-up", (any_function *)add_up, WORD, give_readings_alone},
     {"add-up-both", (any_function *)add_up_both, WORD, give_both_alone},
     {"host-cross", (any_function *)grid_cross, WEIGHTS, give_code_number_and_bytes},

@@ -1,5 +1,5 @@
-// The calls of document 01, and those of a table of soundings, exported to C, for `./bench` to count; checking is the
-// crate host's. Each is thin: it hands the numbers on, and answers one number that depends on all numbers of the
+// The calls of document 01, those of a table of soundings, and those of a cell list, exported to C, for `./bench` to
+// count; checking is the crate host's. Each is thin: it hands the numbers on, and answers one number that depends on all numbers of the
 // answer, so that the compiler can leave nothing out. Where a code or a name is answered, this is the code (with the
 // edge's number in its lowest bits) or the name, or the refusal's number.
 // Two calls are counted without all of their answer: crossing drops how the corners turned, as the call for a C host
@@ -13,7 +13,9 @@ use grid::Ticks;
 use grid::TriangleCode;
 use soundings::Sounding;
 ghost use mathlib.Core.Path.{_≡_};
+ghost use Prim.Native.Nat.{_≤_};
 ghost use lib.Bits.{bitXor};
+ghost use lib.ListN.{length};
 ghost use Rattle.words.specs.Family.{codeOf, ParentAnswer, ChildAnswer};
 ghost use Rattle.words.specs.declared.CodeAnswer.{CodeAnswer};
 ghost use Rattle.net.specs.Corners.{nameOf};
@@ -29,6 +31,9 @@ ghost use Rattle.tables.specs.Owners.{shared};
 ghost use Rattle.tables.specs.declared.TableAnswer.{TableAnswer};
 ghost use Rattle.coarse.specs.Sums.{coarse, chart};
 ghost use Rattle.coarse.specs.Answers.{TakeAnswer, SetAnswer, ClearAnswer, GiveAnswer, WorkOutAnswer};
+ghost use Rattle.cells.specs.Checking.{checked};
+ghost use Rattle.cells.specs.declared.Verdict.{Verdict};
+ghost use Rattle.verdicts.specs.Program.{line};
 
 // ---- words
 
@@ -326,4 +331,34 @@ pub extern "C" fn bench_work_out(
 {
     let r = soundings::work_out(degree, list, counts, sums);
     r.refusal ^ r.place
+}
+
+// ---- a cell list
+
+#[no_mangle]
+pub extern "C" fn bench_check_cells(words: &[u64]) -> u64
+    ensures { λ r. ⌜
+        ((a : Verdict) × (a ≡ checked (now (words .entry)))
+        × (r ≡ bitXor (a .reason) (a .place)))
+        ⌝ }
+{
+    let r = cells::check(words);
+    r.reason ^ r.place
+}
+
+// The length of the line of a file that comes in one part; 0 where a buffer is too small.
+#[no_mangle]
+pub extern "C" fn bench_cells_line(file: &[u8], head: &mut [u8], out: &mut [u8]) -> u64
+    ensures { λ r. ⌜
+        (32768 ≤ length (now (head .entry)) → 55 ≤ length (now (out .entry)) → r ≡ length (line (now (file .entry))))
+        ⌝ }
+{
+    if head.len() < 32768 {
+        return 0;
+    }
+    if out.len() < 55 {
+        return 0;
+    }
+    let size = verdicts::take_in(file, head, 0);
+    verdicts::put_line(head, size, out) as u64
 }

@@ -1,5 +1,6 @@
-"""What tests/plot.py and tests/sweep.py share: a checkout of its own for ./plot and ./sweep, with a toolkit whose rt
-only says that it proves, and a stand-in for the program; and how the two are run, there or as they are."""
+"""What tests/plot.py, tests/sweep.py and tests/cells.py share: a checkout of its own for ./plot, ./sweep and ./cells,
+with a toolkit whose rt only says that it proves, and a stand-in for the program; and how these are run, there or as they
+are."""
 import os
 import pathlib
 import shutil
@@ -31,7 +32,7 @@ def verdict(name, right):
 # rt counts its runs, reads what it is given, says what it proves, and leaves a program. While the file waits is in the
 # checkout it stays in the middle of a line, for some ten seconds; changes makes it change the source, fails fail.
 RT = """#!/bin/sh
-[ "$*" = "check plot_main" ] || [ "$*" = "check sweep_main" ] || exit 2
+case $* in "check plot_main" | "check sweep_main" | "check cells_main") ;; *) exit 2 ;; esac
 echo run >>runs
 head -c 1 >/dev/null
 printf 'rt: lines '
@@ -47,10 +48,10 @@ echo "rt: $2 proved (8 s)"
 echo 'rt: ok, 3 crates proved'
 """
 
-CRATES = "plot_main: console # the program\nsweep_main: console\nconsole: lines\nlines:\nother:\n"
+CRATES = "plot_main: console # the program\nsweep_main: console\ncells_main: console\nconsole: lines\nlines:\nother:\n"
 LOADER = '#!/bin/sh\nshift 2\nexec "$@"\n'
 EMULATOR = '#!/bin/sh\n[ -z "$QEMU_STRACE" ] || echo traced\nexec "$@"\n'
-TOOLS = "awk bash cat cp cut dirname find flock head mkdir mv od readlink sed sha256sum sh sleep sort tee xargs".split()
+TOOLS = "awk bash cat cp cut dirname find flock head mkdir mv od readlink sed sha256sum sh sleep sort tee tr xargs".split()
 
 
 def write(path, text, mode=0o644):
@@ -67,11 +68,11 @@ class StandIn:
         self.folder = pathlib.Path(tempfile.mkdtemp(prefix=f"{name}-"))
         self.folder.chmod(0o755)
         self.home, self.kit, self.tools = (self.folder / part for part in ("checkout", "kit", "tools"))
-        for script in "plot", "sweep", "scripts/programs.sh":
+        for script in "plot", "sweep", "cells", "scripts/programs.sh":
             write(self.home / script, (ROOT / script).read_text(), 0o755)
         write(self.home / "program", program, 0o755)
         write(self.home / "crates.txt", CRATES)
-        for crate in "lines", "console", "plot_main", "sweep_main", "other":
+        for crate in "lines", "console", "plot_main", "sweep_main", "cells_main", "other":
             write(self.home / "crates" / crate / "src" / "lib.rt", crate)
         shutil.copy(ROOT / "crates" / "plot_main" / "stdout", self.home / "crates" / "plot_main")
         write(self.kit / "KIT-ID", "a stand-in\n")

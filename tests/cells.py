@@ -1,0 +1,246 @@
+#!/usr/bin/env python3
+"""How ./cells is used and how it ends: its arguments, statuses and messages, and how it builds the program.
+
+As in tests/plot.py a copy of it stands in a checkout of its own, with stand-ins for the toolkit and the program, which
+knows four lists. What ./plot, ./sweep and ./cells share, scripts/programs.sh, is tested there.
+
+    cells.py                             ./cells with the stand-ins
+    cells.py --built                     ./cells itself, with the program that it builds, where no stand-in is needed
+    cells.py --cases FOLDER --built      ./cells itself on each case that `tests/second.py --cells FOLDER` wrote, and on
+                                         the examples of docs/CELLS.md; and the program alone, as ./cells runs it
+"""
+import faulthandler
+import os
+import pathlib
+import re
+import subprocess
+import sys
+import tempfile
+
+sys.dont_write_bytecode = True
+import standins
+from standins import NO_ERROR, ROOT, Built, end, expect, quietly, run, start, write
+
+GOOD, INSIDE = (ROOT / "examples" / "cells" / name for name in ("good", "inside"))
+USAGE = "cells: write it as ./cells check [-v] [--] FILE ..\n"
+UNWRITTEN = "cells: the lines could not be written\n"
+UNREAD = "cells: the list could not be read\n"
+SECOND = "  10012 0x2098000000000000 is inside an earlier one, 1001 0x2050000000000000\n"
+EXAMPLE = ROOT / "crates" / "cells_main"
+SEVEN = "\0" * 7
+
+# The program writes what the real one does for the two examples, for seven bytes and for none. `dies` is a way in which
+# that one never ends.
+PROGRAM = r"""#!/usr/bin/env bash
+given=$(od -An -v -tx1 2>/dev/null | tr -d ' \n'; echo "${PIPESTATUS[0]}")
+case $given in
+*[!0]) echo 'cells: the list could not be read' >&2; exit ;;
+esac
+case ${given%0} in
+64696573) exit 9 ;;
+20500000000000002098000000000000) text='place 1 reason 4'
+    more='  10012 0x2098000000000000 is inside an earlier one, 1001 0x2050000000000000' ;;
+00000000000000) text='bad length' more='  its length is not a multiple of 8' ;;
+*) text=accepted more= ;;
+esac
+[ "${1-}" = -v ] && [ -n "$more" ] && text+=$'\n'$more
+printf '%s\n' "$text" 2>/dev/null || echo 'cells: the line could not be written' >&2
+"""
+
+
+def stand_in(program=PROGRAM):
+    return standins.StandIn("cells", program)
+
+
+def line_of(path, text):
+    return f"{path}: {text}\n"
+
+
+# ---- what ./cells writes, and its statuses
+
+def test_lists(place):
+    # The first may have to build the program.
+    expect("accepted", quietly(place, "check", GOOD), (0, line_of(GOOD, "accepted"), ""))
+    expect("not accepted", run(place, "check", INSIDE), (1, line_of(INSIDE, "place 1 reason 4"), ""))
+    both = line_of(INSIDE, "place 1 reason 4") + line_of(GOOD, "accepted")
+    expect("two files", run(place, "check", INSIDE, GOOD), (1, both, ""))
+    expect("the same twice", run(place, "check", GOOD, GOOD), (0, line_of(GOOD, "accepted") * 2, ""))
+    expect("-v, accepted", run(place, "check", "-v", GOOD), (0, line_of(GOOD, "accepted"), ""))
+    expect("-v", run(place, "check", "-v", INSIDE, GOOD),
+           (1, line_of(INSIDE, "place 1 reason 4") + SECOND + line_of(GOOD, "accepted"), ""))
+    expect("standard input", run(place, "check", given=SEVEN), (1, "bad length\n", ""))
+    expect("standard input, -v", run(place, "check", "-v", given=SEVEN),
+           (1, "bad length\n  its length is not a multiple of 8\n", ""))
+    expect("nothing on standard input", run(place, "check", given=""), (0, "accepted\n", ""))
+    with open(INSIDE) as file:
+        expect("a file on standard input", run(place, "check", stdin=file), (1, "place 1 reason 4\n", ""))
+    expect("standard error closed", run(place, "check", INSIDE, **NO_ERROR),
+           (1, line_of(INSIDE, "place 1 reason 4"), None))
+
+
+def test_names(place):
+    """Any name of a file is taken as it is."""
+    with tempfile.TemporaryDirectory() as folder:
+        for name in "-v", "check", "a b", "*", "-", "--", "é":
+            (pathlib.Path(folder) / name).write_bytes(GOOD.read_bytes())
+            expect(f"a file {name}", run(place, "check", "--", name, cwd=folder), (0, line_of(name, "accepted"), ""))
+        expect("-v and a file -v", run(place, "check", "-v", "--", "-v", cwd=folder), (0, line_of("-v", "accepted"), ""))
+        expect("a file without --", run(place, "check", "a b", cwd=folder), (0, line_of("a b", "accepted"), ""))
+
+
+def test_arguments(place):
+    # They are refused before there is a program, or a toolkit for one.
+    for words in ([], [""], ["mend"], ["check", "-x"], ["check", "-v", "-v"], ["check", "--"], ["check", "-v", "--"],
+                  ["-v", "check"], ["check", "-"], ["check", "--help"], [GOOD]):
+        got = run(place, *words, given="", env={"PATH": os.defpath})
+        expect(f"arguments {words}", got, (2, "", USAGE))
+
+
+def test_unread(place):
+    with tempfile.TemporaryDirectory() as folder:
+        none = pathlib.Path(folder) / "none"
+        said = f"cells: {none} could not be read\n"
+        expect("no such file", run(place, "check", none), (3, "", said))
+        expect("the others are checked", run(place, "check", none, INSIDE, GOOD),
+               (3, line_of(INSIDE, "place 1 reason 4") + line_of(GOOD, "accepted"), said))
+        expect("a folder", run(place, "check", folder), (3, "", f"cells: {folder} could not be read\n"))
+        # One that can be opened, and not read.
+        expect("a file that no read takes from", run(place, "check", "/proc/self/mem"), (3, "", UNREAD))
+    expect("standard input is a folder", standins.from_folder(place, "check"), (3, "", UNREAD))
+    expect("standard input closed", standins.without_input(place, "check"), (3, "", UNREAD))
+
+
+def test_lost(place):
+    for how, got, wanted in standins.each_lost(place, ["check", GOOD], None, UNWRITTEN):
+        expect(f"a line, {how}", got, wanted)
+
+
+def test_pieces(place):
+    """However the input is cut: each read brings what one write took."""
+    given = INSIDE.read_bytes()
+    for size in (1, 3, 8, 15):
+        process = start(place, "check", stdin=subprocess.PIPE, text=False, bufsize=0)
+        for at in range(0, len(given), size):
+            process.stdin.write(given[at : at + size])
+        process.stdin.close()
+        process.stdin = None
+        expect(f"in pieces of {size} bytes", end(process), (1, b"place 1 reason 4\n", b""))
+
+
+def test_help(place):
+    status, out, err = run(place, "--help")
+    expect("--help", (status, out.startswith("./cells check "), err), (0, True, ""))
+    expect("-h", run(place, "-h"), (status, out, err))
+    expect("--help, input closed", standins.without_input(place, "--help"), (status, out, err))
+    documented = (ROOT / "docs" / "CELLS.md").read_text().split("## The status")[1]
+    statuses, same = (re.findall(r"^    \d    .*$", text, re.M) for text in (out, documented))
+    expect("the statuses of --help", [line.split()[0] for line in statuses], list("01234"))
+    expect("the statuses of docs/CELLS.md", same, statuses)
+    for how, got, wanted in standins.each_lost(place, ["--help"], None, UNWRITTEN):
+        expect(f"--help, {how}", got, wanted)
+
+
+def test_checking(place):
+    for test in (test_lists, test_names, test_arguments, test_unread, test_lost, test_pieces, test_help):
+        test(place)
+
+
+# ---- what needs the stand-ins
+
+def test_program_fails(place):
+    expect("a program that dies", run(place, "check", given="dies"),
+           (4, "", "cells: the program could not be run to its end (status 9)\n"))
+
+
+def test_toolkit(place):
+    status, out, err = run(place, "check", GOOD, env={"PATH": str(place.tools)})
+    expect("no rt", (status, out, err.count("\n"), "rt is not on the PATH" in err), (4, "", 1, True))
+    expect("--help without rt", run(place, "--help", env={"PATH": str(place.tools)})[0], 0)
+    (place.home / "scripts" / "programs.sh").unlink()
+    status, out, err = run(place, "check", GOOD)
+    expect("no scripts/programs.sh", (status, out, "programs.sh" in err), (4, "", True))
+
+
+def test_build():
+    with stand_in() as place:
+        status, out, err = run(place, "check", GOOD)
+        wanted = ("cells: proving and building the program first, which can take some minutes\n"
+                  "cells: crate 2 of 3: console proved (7 s)\ncells: crate 3 of 3: cells_main proved (8 s)\n"
+                  "cells: the program is proved and built (N s)\n")
+        expect("a build", (status, out, re.sub(r"built \(\d+ s\)", "built (N s)", err)),
+               (0, line_of(GOOD, "accepted"), wanted))
+        run(place, "check", GOOD, GOOD)
+        expect("the second run builds nothing", place.runs(), 1)
+        write(place.home / "crates" / "cells_main" / "stdin", "other")
+        expect("another stored example is compared", (run(place, "check", GOOD)[0], place.runs()), (0, 2))
+
+
+# ---- the examples of docs/CELLS.md, and the cases of tests/second.py
+
+def page_examples(page):
+    """Each call of the page, as words, with what is written."""
+    blocks = re.findall(r"^    \$ \./cells (.*)\n((?:    .*\n)+)", (ROOT / page).read_text(), re.M)
+    return [(words.split(), re.sub(r"^    ", "", text, flags=re.M)) for words, text in blocks]
+
+
+def test_stored_example():
+    """What `rt ci` holds the program to is an example of the page; that of README.md is another."""
+    expect("crates/cells_main/stdin", (EXAMPLE / "stdin").read_bytes(), INSIDE.read_bytes())
+    stored = (EXAMPLE / "stdout").read_text()
+    expect("crates/cells_main/stdout", any(f"examples/cells/inside: {stored}" in text for _, text in
+                                           page_examples("docs/CELLS.md")), True)
+    for example in page_examples("README.md"):
+        expect(f"the example {example} of README.md", example in page_examples("docs/CELLS.md"), True)
+    expect("whether README.md has an example", bool(page_examples("README.md")), True)
+
+
+def program_words():
+    """What ./cells runs, and how: its program is named by its source, and what stands before it by the machine."""
+    told = subprocess.run(
+        ["bash", "-c", f"home={ROOT} me=cells crate=cells_main called='the program' unwritten=; "
+         ". scripts/programs.sh; find_kit; name_program; printf '%s\\n' \"${run[@]}\" \"$program\""],
+        cwd=ROOT, capture_output=True, text=True, check=True)
+    return told.stdout.splitlines()
+
+
+def test_cases(place, folder):
+    for words, text in page_examples("docs/CELLS.md"):
+        got = quietly(place, *words, cwd=ROOT)
+        expect(f"./cells {words}", got[1:], (text, ""))
+    program = program_words()
+    cases = sorted(folder.glob("*.bin"))
+    expect(f"whether there are cases in {folder}", bool(cases), True)
+    all_lines, all_more = "", ""
+    for case in cases:
+        line, more = (case.with_suffix(f".{part}").read_text() for part in ("line", "more"))
+        for words, wanted in (([], line), (["-v"], line + more)):
+            with case.open("rb") as file:
+                got = subprocess.run([*program, *words], stdin=file, capture_output=True, text=True)
+            expect(f"the program {words} on case {case.stem}", (got.stdout, got.stderr, got.returncode), (wanted, "", 0))
+        all_lines += line_of(case.name, line[:-1])
+        all_more += line_of(case.name, line[:-1]) + more
+    names = [case.name for case in cases]
+    expect("./cells on all cases", run(place, "check", *names, cwd=folder), (1, all_lines, ""))
+    expect("./cells -v on all cases", run(place, "check", "-v", *names, cwd=folder), (1, all_more, ""))
+    return len(cases)
+
+
+built = Built("cells")
+if sys.argv[1:2] == ["--cases"] and sys.argv[3:] == ["--built"]:
+    compared = test_cases(built, pathlib.Path(sys.argv[2]))
+    right = f"its lines and statuses are those of {compared} cases, and of the examples of docs/CELLS.md"
+elif sys.argv[1:] == ["--built"]:
+    test_checking(built)
+    right = "its statuses are as documented"
+elif not sys.argv[1:]:
+    faulthandler.dump_traceback_later(300, exit=True)
+    test_stored_example()
+    with stand_in() as checkout:
+        test_checking(checkout)
+        test_program_fails(checkout)
+        test_toolkit(checkout)
+    test_build()
+    right = "its statuses are as documented, and it builds what it must"
+else:
+    sys.exit(__doc__)
+standins.verdict("cells", right)

@@ -17,7 +17,7 @@ demands' it may be one of grid/specs/Demands.antt, and above its table one that 
 answers the second column has fields of records `Mistakes`, those of grid/specs/Mistakes.antt by their names and others
 as places, all of them, and the last one must-fail edits, as `crate/edit`; a crate holds for the edits after it in its
 row. In the table by calls each call of document 01 (a method of words/src/lib.rt's TriangleCode, or what
-grid/src/lib.rt hands on), each call of a table, each of a sweep and each exported to C has its row, with two edits or
+grid/src/lib.rt hands on), each call of a table, each of a sweep, each of a cell list and each exported to C has its row, with two edits or
 more of code. Every edit stands in a row. Each of these calls has its row where contracts are held to promises, under
 the name that its promise has.
 
@@ -43,6 +43,7 @@ HOST_PROMISES = ("host/specs/Promises.antt", "host_sweeps/specs/Promises.antt")
 TABLE_CONTRACTS = "crates/contracts/specs/Soundings.antt"
 TABLE_PROMISES = ("tables/specs/Promises.antt", "coarse/specs/Promises.antt")
 SWEEP_CONTRACTS, SWEEP_PROMISES = "crates/contracts/specs/Sweeps.antt", "sweeps/specs/Promises.antt"
+CELLS_CONTRACTS, CELLS_PROMISES = "crates/contracts/specs/Cells.antt", "cells/specs/Promises.antt"
 ASKED = "The demands"
 WRONG_ANSWERS = "Wrong answers that are ruled out, as theorems"
 BY_CALL = "Wrong programs and definitions, call by call"
@@ -220,6 +221,13 @@ def of_sweep():
 
 
 @functools.cache
+def of_cells():
+    """The calls on a cell list: the functions that need nothing asked."""
+    lib = (CRATES / "cells/src/lib.rt").read_text(encoding="utf-8")
+    return re.findall(r"^pub fn (\w+)\([^{]*\n    ensures ", lib, re.MULTILINE)
+
+
+@functools.cache
 def contracts():
     """Where calls are held to their promises: the file with a row for each, the files that have the record of promises,
     a later one for calls that a request changed or brought, and the calls."""
@@ -228,6 +236,7 @@ def contracts():
         (HOST_CONTRACTS, HOST_PROMISES, "OneAnswer", exported()),
         (TABLE_CONTRACTS, TABLE_PROMISES, "OneAnswer", of_table()),
         (SWEEP_CONTRACTS, (SWEEP_PROMISES,), "OneAnswer", of_sweep()),
+        (CELLS_CONTRACTS, (CELLS_PROMISES,), "OneAnswer", of_cells()),
     )
 
 
@@ -371,7 +380,7 @@ class Documents:
 
     def check_promises(self):
         refuted, named, titles = set(), set(), set()
-        of_call = {c: set() for c in calls() + of_table() + of_sweep() + exported()}
+        of_call = {c: set() for c in calls() + of_table() + of_sweep() + of_cells() + exported()}
         for title, rows, other in self.sections(PROMISES):
             titles.add(title)
             width = 3 if title == WRONG_ANSWERS else 2
@@ -388,7 +397,7 @@ class Documents:
                         if call in of_call:
                             of_call[call].update(e for e in found if edits()[e])
                         elif not call.startswith("./"):
-                            self.say(PROMISES, f"{call} is no call of document 01, of a table, of a sweep or for C")
+                            self.say(PROMISES, f"{call} is no call of document 01, of a table, of a sweep, of a cell list or for C")
                 else:
                     self.check_bare(PROMISES, row[1], [DEMANDS] if title == ASKED else [])
             if title == ASKED:
@@ -523,6 +532,8 @@ TAKEN = (
     ("an exported call's row", PROMISES, "`grid_cross`", "grid_cross has fewer than two"),
     ("a table call's contract", TABLE_CONTRACTS, "Says (clear.Asked", "clear has not one row"),
     ("a table call's row", PROMISES, "`clear`", "clear has fewer than two"),
+    ("a cell list's contract", CELLS_CONTRACTS, "Says (check.Asked", "check has not one row"),
+    ("a cell list's row", PROMISES, "`check`", "check has fewer than two"),
     ("a mistake's row of another file", PROMISES, "Mistakes.reversed", "no row for Mistakes.reversed"),
 )
 

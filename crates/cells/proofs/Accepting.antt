@@ -18,7 +18,7 @@ use Rattle.frame.proofs.Scanning.{first-there, none-before, none-each, none-the
 use Rattle.frame.proofs.Below.{length-below, at-below}
 use Rattle.cells.specs.Order.{valid, lessThan, insideOf}
 use Rattle.cells.specs.Checking.{reasonAt, reasons, offends, verdict, accepted, checked, Accepted}
-use Rattle.cells.specs.Promises.{FirstOffence, Checks, LastDecides}
+use Rattle.cells.specs.Promises.{OneAnswer, FirstOffence, Checks, LastDecides}
 use Rattle.cells.specs.Means.Ranks.{ClearTo}
 use Rattle.cells.specs.declared.Verdict.{Verdict}
 use Rattle.cells.proofs.Dictionary.{known, clash}
@@ -204,9 +204,11 @@ module _ (ws : List ℕ) where
       (λ i. verdict (f .reason i) (r .place))
       ∙ sym (first-offence (r .place) (f .there) (f .first) (λ z. f .some (f .reason ∙ z)))
 
+pub one-answer : OneAnswer
+one-answer = record { check = λ ws. (checked ws, record { meets = refl; only = λ s e. e }) }
+
 pub checks : Checks
 checks = record {
-  one = λ ws. (checked ws, record { meets = refl; only = λ s e. e });
   exactly = exactly;
   offence = offence;
   only = only;

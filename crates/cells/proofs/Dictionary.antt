@@ -1,8 +1,8 @@
 -- The order of a dictionary on lists of numbers, and beginnings. Assumes nothing.
-use mathlib.Core.Path.{_≡_, _∙_, refl, sym}
+use mathlib.Core.Path.{_≡_, _∙_, refl, sym, ap}
 use mathlib.Core.Bool.{Bool, true, false, true≢false}
-use mathlib.Core.Logic.{_⊎_, inl, inr, ⊎-elim}
-use mathlib.Core.List.{List, [], _∷_}
+use mathlib.Core.Logic.{_⊎_, inl, inr, ⊎-elim, _↔_}
+use mathlib.Core.List.{List, [], _∷_, _++_}
 use Prim.Native.Nat.{ℕ, _<_}
 use native.Mathlib.Omega.{arith}
 use lib.Dec.{eqb}
@@ -128,3 +128,37 @@ begins-longer [] [] h = absurd (true≢false (sym h))
 begins-longer [] (y ∷ ys) h = omega arith
 begins-longer (x ∷ xs) [] h = absurd (true≢false (sym h))
 begins-longer (x ∷ xs) (y ∷ ys) h = omega (arith, begins-longer xs ys (begins-cons x y xs ys h .1))
+
+-- nothing begins before no letter, or before one alone
+pub begins-one : (xs : List ℕ) (x y : ℕ) → begins (x ∷ xs) (y ∷ []) ≡ false
+unfolding begins
+begins-one [] x y = ⊎-elim (λ e. rw e) (λ e. rw e) (known (eqb x y))
+begins-one (z ∷ xs) x y = ⊎-elim (λ e. rw e) (λ e. rw e) (known (eqb x y))
+
+-- what begins a word with one letter more is the word, or begins it
+pub begins-append : (xs ys : List ℕ) (d : ℕ) → (begins xs (ys ++ (d ∷ [])) ≡ true)
+    ↔ ((xs ≡ ys) ⊎ (begins xs ys ≡ true))
+unfolding begins
+begins-append [] [] d = (λ e. inl refl, λ e. refl)
+begins-append [] (y ∷ ys) d = (λ e. inr refl, λ e. refl)
+begins-append (x ∷ xs) [] d = (
+  λ e. absurd (clash e (begins-one xs x d)),
+  ⊎-elim (λ e. absurd (omega (arith, ap (λ (l : List ℕ). length l) e))) (λ e. absurd (true≢false (sym e))),
+)
+begins-append (x ∷ xs) (y ∷ ys) d = go (begins-append xs ys d)
+  where
+    go : (begins xs (ys ++ (d ∷ [])) ≡ true) ↔ ((xs ≡ ys) ⊎ (begins xs ys ≡ true))
+        → (begins (x ∷ xs) ((y ∷ ys) ++ (d ∷ [])) ≡ true) ↔ ((x ∷ xs ≡ y ∷ ys) ⊎ (begins (x ∷ xs) (y ∷ ys) ≡ true))
+    go ih = (
+      λ e.
+          let p = begins-cons x y xs (ys ++ (d ∷ [])) e in
+          ⊎-elim (λ q. inl (λ i. p .0 i ∷ q i)) (λ q. inr (begins-same x y xs ys (p .0) ∙ q)) (ih .0 (p .1)),
+      ⊎-elim
+      (λ e.
+          let q : x ≡ y = cc in
+          let r : xs ≡ ys = cc in
+          begins-same x y xs (ys ++ (d ∷ [])) q ∙ ih .1 (inl r))
+      (λ e.
+          let p = begins-cons x y xs ys e in
+          begins-same x y xs (ys ++ (d ∷ [])) (p .0) ∙ ih .1 (inr (p .1))),
+    )

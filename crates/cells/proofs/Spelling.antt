@@ -2,19 +2,21 @@
 -- after. Assumes nothing.
 use mathlib.Core.Path.{_≡_, _∙_, refl, sym, ap}
 use mathlib.Core.Bool.{true, false}
-use mathlib.Core.Logic.{⊎-elim}
-use mathlib.Core.List.{List, reverse, reverse-reverse}
-use Prim.Native.Nat.{ℕ, zero, suc}
+use mathlib.Core.Logic.{_⊎_, inl, inr, ⊎-elim, _↔_}
+use mathlib.Core.List.{List, [], _∷_, _++_, reverse, reverse-reverse, reverse-cons}
+use Prim.Native.Nat.{ℕ, zero, suc, _-_}
+use native.Mathlib.Omega.{arith}
 use lib.ListN.{length}
-use borrow.Author.Tests.{eqb-true}
-use Rattle.words.specs.Words.{degreeOf, digits, sideOf}
+use borrow.Author.Tests.{eqb-true, eq-eqb}
+use Rattle.words.specs.Words.{degreeOf, digitOf, digits, sideOf}
 use Rattle.words.specs.Refusals.{IsCode}
-use Rattle.words.specs.Family.{codeOf}
+use Rattle.words.specs.Family.{codeOf, refuseParent, parentOf}
 use Rattle.words.proofs.Codes.{is-code, same-code}
-use Rattle.cells.specs.Order.{valid, spelled, lessThan, insideOf}
-use Rattle.cells.specs.Promises.{Ordered}
+use Rattle.words.proofs.ParentChild.{parent-passes, parent-has}
+use Rattle.cells.specs.Order.{valid, spelled, begins, lessThan, insideOf}
+use Rattle.cells.specs.Promises.{Ordered, Inside}
 use Rattle.cells.proofs.Dictionary.{known, clash, sooner-self, sooner-trans, sooner-total}
-use Rattle.cells.proofs.Dictionary.{begins-sooner, begins-between}
+use Rattle.cells.proofs.Dictionary.{begins-sooner, begins-between, begins-one, begins-append}
 
 pub valid-code : (w : ℕ) → valid w ≡ true → IsCode (degreeOf w) (codeOf w)
 valid-code w v = is-code (codeOf w) (eqb-true _ _ v)
@@ -78,6 +80,46 @@ pub inside-between : (e p w : ℕ) → lessThan e p ≡ true → lessThan p w �
     → insideOf p e ≡ true
 unfolding insideOf lessThan
 inside-between e p w h k b = begins-between (spelled e) (spelled p) (spelled w) h k b
+
+-- ---- by parents
+
+inside-side : (w u : ℕ) → degreeOf w ≡ 0 → insideOf w u ≡ false
+unfolding insideOf spelled digits
+inside-side w u e =
+    let s : sideOf w ∷ reverse (digits w (degreeOf w)) ≡ sideOf w ∷ [] =
+    ap (λ (n : ℕ). sideOf w ∷ reverse (digits w n)) e in
+    ap (begins (spelled u)) s ∙ begins-one (reverse (digits u (degreeOf u))) (sideOf u) (sideOf w)
+
+-- a code is written as its parent, and one digit more
+spelled-parent : (w : ℕ) → refuseParent (codeOf w) ≡ 0
+    → spelled w ≡ spelled (parentOf (codeOf w) .0) ++ (digitOf w (degreeOf w) ∷ [])
+unfolding spelled digits
+spelled-parent w e =
+    let n = degreeOf w in
+    let p = parentOf (codeOf w) .0 in
+    let h = parent-has (codeOf w) e in
+    let m : n ≡ suc (n - 1) = omega (arith, parent-passes (codeOf w) .0 e .1) in
+    let d : digits w n ≡ digitOf w n ∷ digits w (n - 1) =
+    ap (digits w) m ∙ ap (λ (k : ℕ). digitOf w k ∷ digits w (n - 1)) (sym m) in
+    let up : digits p (degreeOf p) ≡ digits w (n - 1) =
+    ap (digits p) (h .code .degreeIs) ∙ h .digitsAre in
+    (λ i. sideOf w ∷ reverse (d i)) ∙ ap (λ (l : List ℕ). sideOf w ∷ l) (reverse-cons (digitOf w n) (digits w (n - 1)))
+    ∙ (λ i. (sym (h .side) i ∷ reverse (sym up i)) ++ (digitOf w n ∷ []))
+
+inside-parent : (w u : ℕ) → refuseParent (codeOf w) ≡ 0 → valid u ≡ true
+    → let p = parentOf (codeOf w) .0 in (insideOf w u ≡ true) ↔ ((u ≡ p) ⊎ (insideOf p u ≡ true))
+unfolding insideOf
+inside-parent w u e v =
+    let p = parentOf (codeOf w) .0 in
+    let s = spelled-parent w e in
+    let good : valid p ≡ true = eq-eqb _ 0 (parent-has (codeOf w) e .code .passes) in
+    let b = begins-append (spelled u) (spelled p) (digitOf w (degreeOf w)) in (
+      λ h. ⊎-elim (λ q. inl (spelled-one u p v good q)) inr (b .0 (ap (begins (spelled u)) (sym s) ∙ h)),
+      λ h. ap (begins (spelled u)) s ∙ b .1 (⊎-elim (λ q. inl (ap spelled q)) inr h),
+    )
+
+pub inside : Inside
+inside = record { side = inside-side; parent = inside-parent }
 
 pub ordered : Ordered
 ordered = record { total = less-total; onward = less-trans; notItself = less-self; ancestor = inside-less }

@@ -3,3 +3,4 @@ pub mod Host
 pub mod Sweeps
 pub mod Soundings
 pub mod Cells
+pub mod Verdicts

@@ -14,14 +14,14 @@ import re
 import sys
 
 ROOT = pathlib.Path(__file__).resolve().parent.parent
-CONSOLE = ROOT / "crates" / "console" / "src"
+TEXTS = ROOT / "crates" / "replies" / "src"
 PAIR = ROOT / "crates" / "plot_main"
 wrong = []
 
 
 def constant(file, name):
     """The text of a constant of the console."""
-    return re.search(rf'const {name}: \[u8; \d+\] = \*b"(.*?)";', (CONSOLE / file).read_text(), re.S)[1]
+    return re.search(rf'const {name}: \[u8; \d+\] = \*b"(.*?)";', (TEXTS / file).read_text(), re.S)[1]
 
 
 HELP = constant("help.rt", "HELP")
@@ -38,7 +38,7 @@ def stored():
     text = (PAIR / "stdout").read_text()
     answers = text[len(HELP) + 1 :].splitlines()
     if calls[:1] != ["help"] or "help" in calls[1:] or not text.startswith(HELP + "\n"):
-        wrong.append("plot_main: stdin begins with its one call help, stdout with all of HELP of console/src/help.rt")
+        wrong.append("plot_main: stdin begins with its one call help, stdout with all of HELP of replies/src/help.rt")
     if len(calls) != len(answers) + 1:
         wrong.append(f"plot_main: stdin has {len(calls) - 1} lines after help, and stdout {len(answers)}")
     return list(zip(calls[1:], answers))

@@ -21,7 +21,7 @@ import sys
 ROOT = pathlib.Path(__file__).resolve().parent.parent
 HEADER = ROOT / "include" / "dogrzewin.h"
 EXPORTS = ROOT / "crates" / "host" / "src"
-REASONS = ROOT / "crates" / "console" / "src" / "texts.rt"
+REASONS = ROOT / "crates" / "replies" / "src" / "texts.rt"
 ORDER = ROOT / "crates" / "frame" / "specs" / "Refusals.antt"
 
 # What a number of Rattle is in C, and what a slice is: a pointer, and then a length.

@@ -101,7 +101,7 @@ def test_link(place):
 
 
 def test_help(place):
-    shown = (ROOT / "crates" / "console" / "src" / "help.rt").read_text().split('*b"')[1].split('";')[0]
+    shown = (ROOT / "crates" / "replies" / "src" / "help.rt").read_text().split('*b"')[1].split('";')[0]
     status, out, err = run(place, "--help")
     expect("--help", (status, out.endswith("\n\n" + shown + "\n"), err), (0, True, ""))
     expect("-h", run(place, "-h"), (status, out, err))

@@ -1,28 +1,23 @@
 // The console: one line of text to its answer. The first word names a call, the others are its arguments (texts). It
 // holds a table of soundings, which the caller keeps for it: `Held`, and four lists, of readings and of owners with
 // 81,921 places each, and of counts and of sums with 20,481.
-mod answers;
-mod arguments;
-mod asking;
-mod calls;
-mod desks;
-mod held;
-mod help;
-mod items;
-mod laying;
-mod lists;
-mod showing;
-mod sweeping;
-
+use cellcalls::checking;
+use gridcalls::calls;
+use gridcalls::lists;
+use gridcalls::sweeping;
+use replies::answers;
+use replies::help;
+use tablecalls::desks;
+use tablecalls::held;
 ghost use Prim.Native.Nat.{_≤_};
 ghost use lib.ListN.{length};
-pub use held::Held;
-pub use held::Part;
-pub use held::Reply;
-pub use held::Shown;
+pub use tablecalls::held::Held;
+pub use tablecalls::held::Part;
+pub use tablecalls::held::Reply;
+pub use tablecalls::held::Shown;
 
 // The answer of many places goes on.
-pub use showing::go_on;
+pub use tablecalls::showing::go_on;
 
 // Before the first line no table is open.
 pub fn none_held() -> Held {
@@ -81,6 +76,8 @@ fn call_answer(call: u64, line: &[u8], at: usize, out: &mut [u8]) -> usize
         20 => calls::of_weights(line, at, out),
         // sweep
         21 => sweeping::answer(line, at, out),
+        // check-cells
+        34 => checking::answer(line, at, out),
         _ => unknown(out),
     }
 }

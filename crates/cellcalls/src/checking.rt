@@ -1,0 +1,42 @@
+// The call that checks a cell list (document 02, 2026-09).
+use cells::Verdict;
+use replies::arguments;
+ghost use Prim.Native.Nat.{_≤_};
+ghost use lib.ListN.{length};
+
+// Accepted, or the first offending place with its reason, as a number and in words.
+fn put_verdict(v: Verdict, out: &mut [u8]) -> usize
+    requires { ⌜ 8192 ≤ length (now out) ⌝ }
+    ensures { λ n. ⌜ n ≤ 200 ⌝ }
+{
+    if v.reason == 0 {
+        return lines::put_bytes(b"accepted", out, 0);
+    }
+    let place = lines::put_bytes(b"place ", out, 0);
+    let end = lines::put_decimal(v.place, out, place);
+    let reason = lines::put_bytes(b" reason ", out, end);
+    let colon = lines::put_decimal(v.reason, out, reason);
+    let words = lines::put_bytes(b": ", out, colon);
+    texts::put_offence(v.reason, out, words)
+}
+
+// Of the first n words; 0 where the list has fewer, since they could not be read then.
+fn of_first(list: &[u64], n: usize, out: &mut [u8]) -> usize
+    requires { ⌜ 8192 ≤ length (now out) ⌝ }
+    ensures { λ r. ⌜ r ≤ 8000 ⌝ }
+{
+    if list.len() < n {
+        return 0;
+    }
+    put_verdict(cells::check(&list[..n]), out)
+}
+
+// 0 where the arguments cannot be read. A line has no room for more than 500 codes.
+pub fn answer(line: &[u8], at: usize, out: &mut [u8]) -> usize
+    requires { ⌜ (at ≤ length (now line)) × (8192 ≤ length (now out)) ⌝ }
+    ensures { λ r. ⌜ r ≤ 8000 ⌝ }
+{
+    let mut list = [0u64; 500];
+    let n = arguments::entries_at(line, at, true, &mut list);
+    of_first(&list, n, out)
+}

@@ -1,2 +1,0 @@
--- The laws that the proofs of `console` cite.
-pub mod Floats

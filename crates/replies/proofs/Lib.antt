@@ -1,0 +1,2 @@
+-- The laws that the proofs of `replies` cite.
+pub mod Floats

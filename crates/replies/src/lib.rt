@@ -1,0 +1,4 @@
+// What all calls of the console share: how arguments are read and answers written, and the help.
+pub mod answers;
+pub mod arguments;
+pub mod help;

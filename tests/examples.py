@@ -14,22 +14,22 @@ import re
 import sys
 
 ROOT = pathlib.Path(__file__).resolve().parent.parent
-TEXTS = ROOT / "crates" / "replies" / "src"
-PAIR = ROOT / "crates" / "plot_main"
+CRATES = ROOT / "crates"
+PAIR = CRATES / "plot_main"
 wrong = []
 
 
 def constant(file, name):
     """The text of a constant of the console."""
-    return re.search(rf'const {name}: \[u8; \d+\] = \*b"(.*?)";', (TEXTS / file).read_text(), re.S)[1]
+    return re.search(rf'const {name}: \[u8; \d+\] = \*b"(.*?)";', (CRATES / file).read_text(), re.S)[1]
 
 
-HELP = constant("help.rt", "HELP")
-FORMS = constant("texts.rt", "CALLS").splitlines()
+HELP = constant("replies/src/help.rt", "HELP")
+FORMS = constant("texts/src/lib.rt", "CALLS").splitlines()
 NAMES = [form.split()[0] for form in FORMS]
 # How a document may write a form that has optional parts: without them, and with them.
 SPELLED = {form.split(" [")[0] for form in FORMS} | {form.replace("[", "").replace("]", "") for form in FORMS}
-ON_TABLE = NAMES[NAMES.index("table") :]
+ON_TABLE = NAMES[NAMES.index("table") : NAMES.index("check-cells")]
 
 
 def stored():
@@ -66,7 +66,7 @@ def compare_row(place, examples):
 
 def compare_forms(place, forms):
     for form in sorted(set(forms) ^ set(FORMS)):
-        wrong.append(f"{place}: the form {form!r} is {'not in texts.rt' if form in forms else 'missing'}")
+        wrong.append(f"{place}: the form {form!r} is {'not in texts/src/lib.rt' if form in forms else 'missing'}")
     if len(forms) != len(set(forms)):
         wrong.append(f"{place}: a form stands there twice")
 
@@ -158,7 +158,7 @@ def check_table():
     for name, form in zip(NAMES, FORMS):
         # A call that can be read without arguments cannot be read with its own name as one.
         needs_none = form[len(name) :].lstrip()[:1] in ("", "[")
-        compare("texts.rt", f"{name} {name}" if needs_none else name, f"error: write it as {form}")
+        compare("texts/src/lib.rt", f"{name} {name}" if needs_none else name, f"error: write it as {form}")
 
 
 counts = {

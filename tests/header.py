@@ -3,7 +3,7 @@
 
 Every line of the header is read by one of a few forms, and what fits none is an error. So is an exported function of
 crates/host/src/ that cannot be read. Held together are: the calls' names, their parameters with names, types and order,
-and the type of what is returned; the refusal numbers, each under the sentence that the console has for it (texts.rt);
+and the type of what is returned; the refusal numbers, each under the sentence that the console has for it (crate texts);
 the order of refusals (frame/specs/Refusals.antt), in which each call names its own.
 
     python3 tests/header.py                         a line for each thing that is wrong; status 1 if there is one
@@ -21,7 +21,7 @@ import sys
 ROOT = pathlib.Path(__file__).resolve().parent.parent
 HEADER = ROOT / "include" / "dogrzewin.h"
 EXPORTS = ROOT / "crates" / "host" / "src"
-REASONS = ROOT / "crates" / "replies" / "src" / "texts.rt"
+REASONS = ROOT / "crates" / "texts" / "src" / "lib.rt"
 ORDER = ROOT / "crates" / "frame" / "specs" / "Refusals.antt"
 
 # What a number of Rattle is in C, and what a slice is: a pointer, and then a length.

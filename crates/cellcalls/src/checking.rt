@@ -4,18 +4,15 @@ use replies::arguments;
 ghost use Prim.Native.Nat.{_≤_};
 ghost use lib.ListN.{length};
 
-// Accepted, or the first offending place with its reason, as a number and in words.
-fn put_verdict(v: Verdict, out: &mut [u8]) -> usize
+// The verdict, and its reason in words.
+fn put_answer(v: Verdict, out: &mut [u8]) -> usize
     requires { ⌜ 8192 ≤ length (now out) ⌝ }
     ensures { λ n. ⌜ n ≤ 200 ⌝ }
 {
+    let colon = verdicts::put_verdict(v, out);
     if v.reason == 0 {
-        return lines::put_bytes(b"accepted", out, 0);
+        return colon;
     }
-    let place = lines::put_bytes(b"place ", out, 0);
-    let end = lines::put_decimal(v.place, out, place);
-    let reason = lines::put_bytes(b" reason ", out, end);
-    let colon = lines::put_decimal(v.reason, out, reason);
     let words = lines::put_bytes(b": ", out, colon);
     texts::put_offence(v.reason, out, words)
 }
@@ -28,7 +25,7 @@ fn of_first(list: &[u64], n: usize, out: &mut [u8]) -> usize
     if list.len() < n {
         return 0;
     }
-    put_verdict(cells::check(&list[..n]), out)
+    put_answer(cells::check(&list[..n]), out)
 }
 
 // 0 where the arguments cannot be read. A line has no room for more than 500 codes.

@@ -55,8 +55,8 @@ pub fn check_words(bytes: &[u8], count: usize) -> Verdict
     cells::check(&words[..count])
 }
 
-// A verdict as text.
-fn put_verdict(v: Verdict, out: &mut [u8]) -> usize
+// A verdict as text, over the front of a buffer.
+pub fn put_verdict(v: Verdict, out: &mut [u8]) -> usize
     requires { ⌜ 54 ≤ length (now out) ⌝ }
     ensures { λ r. ⌜ Wrote 54 (verdictText v) 0 r (now (out .entry)) (now (out .exit)) ⌝ }
 {

@@ -1,4 +1,4 @@
--- `console::calls::name_back_from` is safe: the first n places are n. Assumes nothing.
+-- `gridcalls::calls::name_back_from` is safe: the first n places are n. Assumes nothing.
 use mathlib.Core.Path.{sym}
 use denote.Ref.{now}
 use lib.Seq.{length-take-le}

@@ -1,4 +1,4 @@
--- `console::sweeping::in_first` is safe: the first n places are n. Assumes nothing.
+-- `gridcalls::sweeping::in_first` is safe: the first n places are n. Assumes nothing.
 use mathlib.Core.Path.{sym}
 use native.Mathlib.Omega.{arith}
 use denote.Ref.{now}

@@ -1,4 +1,4 @@
--- `console::sweeping::of_first` is safe: the first n numbers are n. Assumes nothing.
+-- `gridcalls::sweeping::of_first` is safe: the first n numbers are n. Assumes nothing.
 use mathlib.Core.Path.{sym}
 use denote.Ref.{now}
 use lib.Seq.{length-take-le}

@@ -1,4 +1,4 @@
--- `console::answers::put_bits` is safe: a float that equals itself has bits. Assumes nothing.
+-- `replies::answers::put_bits` is safe: a float that equals itself has bits. Assumes nothing.
 use Rattle.replies.proofs.Floats.{no-nan}
 use borrow.Author.Needs.{needs}
 use Rattle.replies.proofs.answers.put_bits.Statement.{statement}

@@ -1,4 +1,4 @@
--- `console::arguments::numbers_at` is safe and ends. The loop's invariant: the place is in the line, and the list has
+-- `replies::arguments::numbers_at` is safe and ends. The loop's invariant: the place is in the line, and the list has
 -- its length. The measure is what is left of the list. Assumes nothing.
 use mathlib.Core.Path.{_≡_}
 use Prim.Native.Nat.{_≤_, _-_}

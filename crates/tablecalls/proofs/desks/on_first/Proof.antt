@@ -1,4 +1,4 @@
--- `console::desks::on_first` is safe: the first n places of a list are n. Assumes nothing.
+-- `tablecalls::desks::on_first` is safe: the first n places of a list are n. Assumes nothing.
 use mathlib.Core.Path.{sym}
 use denote.Ref.{now}
 use lib.Seq.{length-take-le}

@@ -1,4 +1,4 @@
--- `console::desks::stored` is safe: what is not refused is a code. Assumes nothing.
+-- `tablecalls::desks::stored` is safe: what is not refused is a code. Assumes nothing.
 use borrow.Author.Needs.{needs}
 use Rattle.tablecalls.proofs.desks.stored.Statement.{statement}
 use Rattle.tablecalls.proofs.desks.stored.Tie as tie

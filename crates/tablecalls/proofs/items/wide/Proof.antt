@@ -1,4 +1,4 @@
--- `console::items::wide` is safe: what fits 32 bits fits 64. Assumes nothing.
+-- `tablecalls::items::wide` is safe: what fits 32 bits fits 64. Assumes nothing.
 use mir.Syntax.{w32}
 use mir.Facts.{sfits-widen}
 use mir.ValLaws.{toZ-ofZ}

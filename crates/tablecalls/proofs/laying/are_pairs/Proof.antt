@@ -1,4 +1,4 @@
--- `console::laying::are_pairs` is safe and ends. The loop's invariant: the place is in the line. The measure is a
+-- `tablecalls::laying::are_pairs` is safe and ends. The loop's invariant: the place is in the line. The measure is a
 -- count of pairs that no line has. Assumes nothing.
 use Prim.Native.Nat.{_≤_}
 use lib.ListN.{length}

@@ -1,4 +1,4 @@
--- `console::laying::put_pairs` is safe and ends. The loop's invariant: the place is in the line, and the lists have
+-- `tablecalls::laying::put_pairs` is safe and ends. The loop's invariant: the place is in the line, and the lists have
 -- their lengths. The measure is a count of pairs that no line has. Assumes nothing.
 use mathlib.Core.Path.{_≡_}
 use Prim.Native.Nat.{_≤_}

@@ -1,4 +1,4 @@
--- `console::showing::count` is safe and ends. The loop's invariant: no more are counted than were looked at. The
+-- `tablecalls::showing::count` is safe and ends. The loop's invariant: no more are counted than were looked at. The
 -- measure is how many are left. Assumes nothing.
 use Prim.Native.Nat.{_≤_, _-_}
 use borrow.Author.Needs.{needs}

@@ -17,8 +17,8 @@ demands' it may be one of grid/specs/Demands.antt, and above its table one that 
 answers the second column has fields of records `Mistakes`, those of grid/specs/Mistakes.antt by their names and others
 as places, all of them, and the last one must-fail edits, as `crate/edit`; a crate holds for the edits after it in its
 row. In the table by calls each call of document 01 (a method of words/src/lib.rt's TriangleCode, or what
-grid/src/lib.rt hands on), each call of a table, each of a sweep, each of a cell list and each exported to C has its row, with two edits or
-more of code. Every edit stands in a row. Each of these calls has its row where contracts are held to promises, under
+grid/src/lib.rt hands on), each call of a table, each of a sweep, each on a cell list and each exported to C has its
+row, with two edits or more of code. Every edit stands in a row. Each of these calls has its row where contracts are held to promises, under
 the name that its promise has.
 
 The crates in the tables of README.md and ARCHITECTURE.md are the libraries of crates.txt, and the modules that
@@ -36,7 +36,7 @@ ROOT = pathlib.Path(__file__).resolve().parent.parent
 CRATES = ROOT / "crates"
 README, PROMISES, DECISIONS = "README.md", "docs/PROMISES.md", "docs/DECISIONS.md"
 ARCHITECTURE = "docs/ARCHITECTURE.md"
-DOCS = (README, PROMISES, DECISIONS, ARCHITECTURE, "docs/FILING.md", "docs/CONSOLE.md", "docs/PERFORMANCE.md")
+DOCS = (README, PROMISES, DECISIONS, ARCHITECTURE, "docs/FILING.md", "docs/CONSOLE.md", "docs/CELLS.md", "docs/PERFORMANCE.md")
 DEMANDS, MISTAKES = "grid/specs/Demands.antt", "grid/specs/Mistakes.antt"
 CONTRACTS, HOST_CONTRACTS = "crates/grid/specs/Contracts.antt", "crates/contracts/specs/Host.antt"
 HOST_PROMISES = ("host/specs/Promises.antt", "host_sweeps/specs/Promises.antt")

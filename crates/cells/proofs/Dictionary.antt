@@ -121,15 +121,7 @@ begins-between (x ∷ xs) (y ∷ ys) (z ∷ zs) h k b =
     go ih (inr a) (inl c) (e, d) = absurd (omega (arith, a .0, e))
     go ih (inr a) (inr c) (e, d) = begins-same x y xs ys (a .0) ∙ ih (a .1) (c .1) d
 
--- and is longer than it
-pub begins-longer : (xs ys : List ℕ) → begins xs ys ≡ true → length xs < length ys
-unfolding begins
-begins-longer [] [] h = absurd (true≢false (sym h))
-begins-longer [] (y ∷ ys) h = omega arith
-begins-longer (x ∷ xs) [] h = absurd (true≢false (sym h))
-begins-longer (x ∷ xs) (y ∷ ys) h = omega (arith, begins-longer xs ys (begins-cons x y xs ys h .1))
-
--- nothing begins before no letter, or before one alone
+-- nothing with a letter begins a word of one and goes on
 pub begins-one : (xs : List ℕ) (x y : ℕ) → begins (x ∷ xs) (y ∷ []) ≡ false
 unfolding begins
 begins-one [] x y = ⊎-elim (λ e. rw e) (λ e. rw e) (known (eqb x y))

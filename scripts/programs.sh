@@ -1,6 +1,6 @@
-# What ./plot and ./sweep share, to be read by `.`: messages, the toolkit, and how a program is proved, built and kept.
-# The script that reads it has its own name in `me`, the checkout in `home`, the program's crate in `crate`, what it
-# calls the program in `called`, and what it says of a standard output that takes nothing in `unwritten`.
+# What ./plot, ./sweep and ./cells share, to be read by `.`: messages, the toolkit, and how a program is proved, built
+# and kept. The script that reads it has its own name in `me`, the checkout in `home`, the program's crate in `crate`,
+# what it calls the program in `called`, and what it says of a standard output that takes nothing in `unwritten`.
 work=$home/target/$me
 log=$work/build.log
 lock=$home/target/programs.lock

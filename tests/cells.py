@@ -84,7 +84,8 @@ def test_names(place):
         for name in "-v", "check", "a b", "*", "-", "--", "é":
             (pathlib.Path(folder) / name).write_bytes(GOOD.read_bytes())
             expect(f"a file {name}", run(place, "check", "--", name, cwd=folder), (0, line_of(name, "accepted"), ""))
-        expect("-v and a file -v", run(place, "check", "-v", "--", "-v", cwd=folder), (0, line_of("-v", "accepted"), ""))
+        both = run(place, "check", "-v", "--", "-v", cwd=folder)
+        expect("-v and a file -v", both, (0, line_of("-v", "accepted"), ""))
         expect("a file without --", run(place, "check", "a b", cwd=folder), (0, line_of("a b", "accepted"), ""))
 
 
@@ -216,7 +217,8 @@ def test_cases(place, folder):
         for words, wanted in (([], line), (["-v"], line + more)):
             with case.open("rb") as file:
                 got = subprocess.run([*program, *words], stdin=file, capture_output=True, text=True)
-            expect(f"the program {words} on case {case.stem}", (got.stdout, got.stderr, got.returncode), (wanted, "", 0))
+            expect(f"the program {words} on case {case.stem}", (got.stdout, got.stderr, got.returncode),
+                   (wanted, "", 0))
         all_lines += line_of(case.name, line[:-1])
         all_more += line_of(case.name, line[:-1]) + more
     names = [case.name for case in cases]

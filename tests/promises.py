@@ -18,8 +18,8 @@ answers the second column has fields of records `Mistakes`, those of grid/specs/
 as places, all of them, and the last one must-fail edits, as `crate/edit`; a crate holds for the edits after it in its
 row. In the table by calls each call of document 01 (a method of words/src/lib.rt's TriangleCode, or what
 grid/src/lib.rt hands on), each call of a table, each of a sweep, each on a cell list and each exported to C has its
-row, with two edits or more of code. Every edit stands in a row. Each of these calls has its row where contracts are held to promises, under
-the name that its promise has.
+row, with two edits or more of code. Every edit stands in a row. Each of these calls has its row where contracts are
+held to promises, under the name that its promise has.
 
 The crates in the tables of README.md and ARCHITECTURE.md are the libraries of crates.txt, and the modules that
 ARCHITECTURE.md names stand in their crates. LANDINGS.md tells what was, and is not read.
@@ -36,7 +36,8 @@ ROOT = pathlib.Path(__file__).resolve().parent.parent
 CRATES = ROOT / "crates"
 README, PROMISES, DECISIONS = "README.md", "docs/PROMISES.md", "docs/DECISIONS.md"
 ARCHITECTURE = "docs/ARCHITECTURE.md"
-DOCS = (README, PROMISES, DECISIONS, ARCHITECTURE, "docs/FILING.md", "docs/CONSOLE.md", "docs/CELLS.md", "docs/PERFORMANCE.md")
+DOCS = (README, PROMISES, DECISIONS, ARCHITECTURE, "docs/FILING.md", "docs/CONSOLE.md", "docs/CELLS.md")
+DOCS += ("docs/PERFORMANCE.md",)
 DEMANDS, MISTAKES = "grid/specs/Demands.antt", "grid/specs/Mistakes.antt"
 CONTRACTS, HOST_CONTRACTS = "crates/grid/specs/Contracts.antt", "crates/contracts/specs/Host.antt"
 HOST_PROMISES = ("host/specs/Promises.antt", "host_sweeps/specs/Promises.antt")
@@ -397,7 +398,7 @@ class Documents:
                         if call in of_call:
                             of_call[call].update(e for e in found if edits()[e])
                         elif not call.startswith("./"):
-                            self.say(PROMISES, f"{call} is no call of document 01, of a table, of a sweep, of a cell list or for C")
+                            self.say(PROMISES, f"{call} is no call of document 01, of a request or for C")
                 else:
                     self.check_bare(PROMISES, row[1], [DEMANDS] if title == ASKED else [])
             if title == ASKED:

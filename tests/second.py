@@ -7050,8 +7050,7 @@ def write_cells_cases(folder):
         check_cells_case(data, ran[name])
         for end, text in {"bin": data.decode("latin-1"), "line": line, "more": more}.items():
             write_bytes(os.path.join(folder, f"{name}.{end}"), text)
-        print(f"{len(data):8} {name}: {line}", end="")
-    print(f"{len(cases):8} cases")
+    print(f"{len(cases):8} cases of ./cells")
 
 
 if __name__ == "__main__":

@@ -1,6 +1,6 @@
 """What tests/plot.py, tests/sweep.py and tests/cells.py share: a checkout of its own for ./plot, ./sweep and ./cells,
-with a toolkit whose rt only says that it proves, and a stand-in for the program; and how these are run, there or as they
-are."""
+with a toolkit whose rt only says that it proves, and a stand-in for the program; and how these are run, there or as
+they are."""
 import os
 import pathlib
 import shutil
@@ -51,7 +51,9 @@ echo 'rt: ok, 3 crates proved'
 CRATES = "plot_main: console # the program\nsweep_main: console\ncells_main: console\nconsole: lines\nlines:\nother:\n"
 LOADER = '#!/bin/sh\nshift 2\nexec "$@"\n'
 EMULATOR = '#!/bin/sh\n[ -z "$QEMU_STRACE" ] || echo traced\nexec "$@"\n'
-TOOLS = "awk bash cat cp cut dirname find flock head mkdir mv od readlink sed sha256sum sh sleep sort tee tr xargs".split()
+TOOLS = (
+    "awk bash cat cp cut dirname find flock head mkdir mv od readlink sed sha256sum sh sleep sort tee tr xargs"
+).split()
 
 
 def write(path, text, mode=0o644):

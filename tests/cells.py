@@ -106,7 +106,8 @@ def test_unread(place):
                (3, line_of(INSIDE, "place 1 reason 4") + line_of(GOOD, "accepted"), said))
         expect("a folder", run(place, "check", folder), (3, "", f"cells: {folder} could not be read\n"))
         # One that can be opened, and not read.
-        expect("a file that no read takes from", run(place, "check", "/proc/self/mem"), (3, "", UNREAD))
+        expect("a file that no read takes from", run(place, "check", "/proc/self/mem", GOOD),
+               (3, line_of(GOOD, "accepted"), "cells: /proc/self/mem could not be read\n"))
     expect("standard input is a folder", standins.from_folder(place, "check"), (3, "", UNREAD))
     expect("standard input closed", standins.without_input(place, "check"), (3, "", UNREAD))
 

@@ -146,11 +146,11 @@ begins-append (x ∷ xs) (y ∷ ys) d = go (begins-append xs ys d)
           let p = begins-cons x y xs (ys ++ (d ∷ [])) e in
           ⊎-elim (λ q. inl (λ i. p .0 i ∷ q i)) (λ q. inr (begins-same x y xs ys (p .0) ∙ q)) (ih .0 (p .1)),
       ⊎-elim
-      (λ e.
+          (λ e.
           let q : x ≡ y = cc in
           let r : xs ≡ ys = cc in
           begins-same x y xs (ys ++ (d ∷ [])) q ∙ ih .1 (inl r))
-      (λ e.
+          (λ e.
           let p = begins-cons x y xs ys e in
           begins-same x y xs (ys ++ (d ∷ [])) (p .0) ∙ ih .1 (inr (p .1))),
     )

@@ -1,5 +1,5 @@
-// Texts that the programs share. Tables, a row to a line: the forms of the console's calls, the reasons of refusals, and
-// those of a cell list. And codes as they are shown.
+// Texts that the programs share. Tables, a row to a line: the forms of the console's calls, the reasons of refusals,
+// and those of a cell list. And codes as they are shown.
 ghost use Prim.Native.Nat.{_+_, _≤_};
 ghost use lib.ListN.{length};
 

@@ -77,7 +77,7 @@ module _ (file : List ℕ) where
         m,
         omega (arith, l, words),
         reason-none (wordsIn file) (⊎-elim (λ z. z)
-        (λ z. absurd (eqb-false 112 97 refl (sym z ∙ ap (λ (l : List ℕ). getD l 0 0) (sym t ∙ e)))) verdict-first),
+            (λ z. absurd (eqb-false 112 97 refl (sym z ∙ ap (λ (l : List ℕ). getD l 0 0) (sym t ∙ e)))) verdict-first),
       )
 
       from : (n % 8 ≡ 0) × (length (wordsIn file) ≤ 4096) × Accepted (wordsIn file) → Case

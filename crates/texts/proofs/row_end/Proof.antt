@@ -1,5 +1,5 @@
--- `texts::row_end` meets its contract. The loop's invariant: the place has only grown, and is in the table. The measure is what
--- is left of the table. Assumes nothing.
+-- `texts::row_end` meets its contract. The loop's invariant: the place has only grown, and is in the table. The measure
+-- is what is left of the table. Assumes nothing.
 use Prim.Native.Nat.{_≤_, _-_}
 use lib.ListN.{length}
 use borrow.Author.Needs.{needs}

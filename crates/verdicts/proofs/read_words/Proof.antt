@@ -74,7 +74,7 @@ loop-again c =
       omega (arith, t),
       length-set (l .words) (l .i) (c .get8 .result) ∙ l .inv .1,
       one-more bytes (s .args .words .now) (l .i) (omega (arith, t, s .pre .1)) (l .inv .2)
-      (c .get8 .ensures ∙ ap (λ (x : List ℕ). numberOf (take 8 x)) e),
+          (c .get8 .ensures ∙ ap (λ (x : List ℕ). numberOf (take 8 x)) e),
     )
 
 same-length : tie.Need-same-length Inv-loop μ-loop

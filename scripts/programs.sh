@@ -1,6 +1,8 @@
 # What ./plot, ./sweep and ./cells share, to be read by `.`: messages, the toolkit, and how a program is proved, built
 # and kept. The script that reads it has its own name in `me`, the checkout in `home`, the program's crate in `crate`,
 # what it calls the program in `called`, and what it says of a standard output that takes nothing in `unwritten`.
+# A shell by the standard of POSIX would end where a redirection fails.
+set +o posix
 work=$home/target/$me
 log=$work/build.log
 lock=$home/target/programs.lock
@@ -16,6 +18,14 @@ die() {
 
 # Writes a text and a line end to standard output.
 put() { printf '%s\n' "$1" 2>/dev/null || die 3 "$unwritten"; }
+
+# A closed descriptor would be the next pipe's. In its place stands one on which every read or write fails, also where
+# it is opened once more, by its name.
+hold_descriptors() {
+    { : 3<&0; } 2>/dev/null || exec 0<"$home"
+    { : 3>&1; } 2>/dev/null || exec 1</dev/null
+    { : 3>&2; } 2>/dev/null || exec 2</dev/null
+}
 
 # ---- the toolkit
 

@@ -13,6 +13,7 @@ import faulthandler
 import os
 import pathlib
 import re
+import shlex
 import subprocess
 import sys
 import tempfile
@@ -37,7 +38,7 @@ case $given in
 *[!0]) echo 'cells: the list could not be read' >&2; exit ;;
 esac
 case ${given%0} in
-64696573) exit 9 ;;
+64696573) echo 'what it says' >&2; exit 9 ;;
 20500000000000002098000000000000) text='place 1 reason 4'
     more='  10012 0x2098000000000000 is inside an earlier one, 1001 0x2050000000000000' ;;
 00000000000000) text='bad length' more='  its length is not a multiple of 8' ;;
@@ -87,6 +88,27 @@ def test_names(place):
         both = run(place, "check", "-v", "--", "-v", cwd=folder)
         expect("-v and a file -v", both, (0, line_of("-v", "accepted"), ""))
         expect("a file without --", run(place, "check", "a b", cwd=folder), (0, line_of("a b", "accepted"), ""))
+        (pathlib.Path(folder) / "a: accepted\nb").write_bytes(INSIDE.read_bytes())
+        expect("a name with a line end", run(place, "check", "a: accepted\nb", cwd=folder),
+               (1, "$'a: accepted\\nb': place 1 reason 4\n", ""))
+        (pathlib.Path(folder) / "-v").unlink()
+        expect("-v after a file is a file", run(place, "check", "a b", "-v", cwd=folder),
+               (3, line_of("a b", "accepted"), "cells: -v could not be read\n"))
+
+
+def test_descriptors(place):
+    """Names of open files, and of ones that are closed."""
+    with open(INSIDE) as file:
+        expect("/dev/stdin", run(place, "check", "/dev/stdin", stdin=file),
+               (1, line_of("/dev/stdin", "place 1 reason 4"), ""))
+    expect("/dev/stdin closed", standins.without_input(place, "check", "/dev/stdin"),
+           (3, "", "cells: /dev/stdin could not be read\n"))
+    with open(GOOD) as file:
+        expect("/dev/fd", run(place, "check", f"/dev/fd/{file.fileno()}", pass_fds=[file.fileno()]),
+               (0, line_of(f"/dev/fd/{file.fileno()}", "accepted"), ""))
+    strict = {**place.environment, "POSIXLY_CORRECT": "1"}
+    expect("by POSIX", run(place, "check", "none", GOOD, env=strict),
+           (3, line_of(GOOD, "accepted"), "cells: none could not be read\n"))
 
 
 def test_arguments(place):
@@ -143,7 +165,8 @@ def test_help(place):
 
 
 def test_checking(place):
-    for test in (test_lists, test_names, test_arguments, test_unread, test_lost, test_pieces, test_help):
+    for test in (test_lists, test_names, test_descriptors, test_arguments, test_unread, test_lost, test_pieces,
+                 test_help):
         test(place)
 
 
@@ -151,7 +174,7 @@ def test_checking(place):
 
 def test_program_fails(place):
     expect("a program that dies", run(place, "check", given="dies"),
-           (4, "", "cells: the program could not be run to its end (status 9)\n"))
+           (4, "", "cells: the program could not be run to its end (status 9): what it says\n"))
 
 
 def test_toolkit(place):
@@ -199,7 +222,7 @@ def test_stored_example():
 def program_words():
     """What ./cells runs, and how: its program is named by its source, and what stands before it by the machine."""
     told = subprocess.run(
-        ["bash", "-c", f"home={ROOT} me=cells crate=cells_main called='the program' unwritten=; "
+        ["bash", "-c", f"home={shlex.quote(str(ROOT))} me=cells crate=cells_main called='the program' unwritten=; "
          ". scripts/programs.sh; find_kit; name_program; printf '%s\\n' \"${run[@]}\" \"$program\""],
         cwd=ROOT, capture_output=True, text=True, check=True)
     return told.stdout.splitlines()

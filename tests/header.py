@@ -3,8 +3,8 @@
 
 Every line of the header is read by one of a few forms, and what fits none is an error. So is an exported function of
 crates/host/src/ that cannot be read. Held together are: the calls' names, their parameters with names, types and order,
-and the type of what is returned; the refusal numbers, each under the sentence that the console has for it (crate texts);
-the order of refusals (frame/specs/Refusals.antt), in which each call names its own.
+and the type of what is returned; the refusal numbers, each under the sentence that crate texts has for it; the order of
+refusals (frame/specs/Refusals.antt), in which each call names its own.
 
     python3 tests/header.py                         a line for each thing that is wrong; status 1 if there is one
     python3 tests/header.py --seen CALLS ANSWERS    the refusals that each call names, and the bytes that it needs, are

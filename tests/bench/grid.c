@@ -1,5 +1,5 @@
-/* The calls of document 01, of a table of soundings and of a cell list, as crates/bench exports them, and those of host:
- * all of its own, and checking. */
+/* The calls of document 01, of a table of soundings and of a cell list, as crates/bench exports them, and those of the
+ * crate host: all of its own, and checking. */
 #include "../../include/dogrzewin.h"
 #include "directions.h"
 #include "driver.h"

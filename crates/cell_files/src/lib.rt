@@ -3,7 +3,7 @@
 // write fails, standard error says so.
 //
 // No contract can say what is read or written. Proved is that it returns, given that each read and write does, that it
-// stays in its buffers, and that it takes in what is read, and has its line, by the contracts of `verdicts`.
+// stays in its buffers, and that it uses `verdicts` by its contracts.
 mod telling;
 
 ghost use Prim.Native.Nat.{_≤_};

@@ -27,7 +27,7 @@ fn put_invalid(w: u64, refusal: u64, out: &mut [u8], at: usize) -> usize
 }
 
 // A code, its reason, and the word before it.
-fn put_code(w: u64, reason: u64, before: u64, out: &mut [u8], at: usize) -> usize
+fn put_misplaced(w: u64, reason: u64, before: u64, out: &mut [u8], at: usize) -> usize
     requires { ⌜ at + 250 ≤ length (now out) ⌝ }
     ensures { λ r. ⌜ r ≤ at + 250 ⌝ }
 {
@@ -39,7 +39,7 @@ fn put_code(w: u64, reason: u64, before: u64, out: &mut [u8], at: usize) -> usiz
 }
 
 // The word at a place, and its reason.
-fn put_offence(bytes: &[u8], place: u64, reason: u64, out: &mut [u8], at: usize) -> usize
+fn put_at_place(bytes: &[u8], place: u64, reason: u64, out: &mut [u8], at: usize) -> usize
     requires { ⌜ (32768 ≤ length (now bytes)) × (at + 250 ≤ length (now out)) ⌝ }
     ensures { λ r. ⌜ r ≤ at + 250 ⌝ }
 {
@@ -52,11 +52,11 @@ fn put_offence(bytes: &[u8], place: u64, reason: u64, out: &mut [u8], at: usize)
     if place == 0 {
         return at;
     }
-    put_code(w, reason, word_at(bytes, place - 1), out, at)
+    put_misplaced(w, reason, word_at(bytes, place - 1), out, at)
 }
 
 // The line but for its end; nothing where the list is accepted.
-fn put_words(head: &[u8], size: usize, out: &mut [u8], at: usize) -> usize
+fn put_told(head: &[u8], size: usize, out: &mut [u8], at: usize) -> usize
     requires { ⌜ (32768 ≤ length (now head)) × (at + 300 ≤ length (now out)) ⌝ }
     ensures { λ r. ⌜ r ≤ at + 300 ⌝ }
 {
@@ -71,7 +71,7 @@ fn put_words(head: &[u8], size: usize, out: &mut [u8], at: usize) -> usize
         return at;
     }
     let word = lines::put_bytes(b"  ", out, at);
-    put_offence(head, v.place, v.reason, out, word)
+    put_at_place(head, v.place, v.reason, out, word)
 }
 
 // The second line of what is held, after the first.
@@ -79,7 +79,7 @@ pub fn put_more(head: &[u8], size: usize, out: &mut [u8], at: usize) -> usize
     requires { ⌜ (32768 ≤ length (now head)) × (at + 400 ≤ length (now out)) ⌝ }
     ensures { λ r. ⌜ r ≤ at + 400 ⌝ }
 {
-    let end = put_words(head, size, out, at);
+    let end = put_told(head, size, out, at);
     if end == at {
         return at;
     }

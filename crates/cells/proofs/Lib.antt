@@ -5,4 +5,5 @@ pub mod Filling
 pub mod Ranks
 pub mod Accepting
 pub mod OnePass
+pub mod OneDegree
 pub mod Examples

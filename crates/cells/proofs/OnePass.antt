@@ -19,7 +19,7 @@ use Rattle.frame.proofs.Refusing.{First, refuse-first}
 use Rattle.frame.proofs.Scanning.{none-each, none-there}
 use Rattle.words.specs.Words.{degreeOf, digits, sideOf, path, wordOf}
 use Rattle.words.proofs.WordLayout.{below-degree}
-use Rattle.words.proofs.Digits.{digits-are, path-lt}
+use Rattle.words.proofs.Digits.{side-top, digits-are, path-lt}
 use Rattle.words.proofs.Codes.{code-side, code-word}
 use Rattle.cells.specs.Order.{valid, lessThan, insideOf}
 use Rattle.cells.specs.Checking.{reasonAt, offends}
@@ -150,6 +150,10 @@ module _ (w : ℕ) (v : valid w ≡ true) where
       let q : p * 2 ^ (54 - 2 * n) ≡ 64 * (p * 2 ^ (48 - 2 * n)) =
       ap (λ (k : ℕ). p * k) unit-width ∙ omega arith in
       omega (arith, m, q)
+
+  -- a word is its side and degree, and what its start has below them
+  pub word-start : w ≡ sideOf w * 2 ^ 59 + n * 2 ^ 54 + w % 2 ^ 54
+  word-start = omega (arith, side-top w)
 
   pub start-fits : 64 * start w < 2 ^ 60
   start-fits = omega (arith, start-word, code-side (valid-code w v) .1)

@@ -1,4 +1,4 @@
--- Valid codes are told apart by how they are written; so the order of the tree is one, and what lies inside comes
+-- Valid codes are told apart by how they are written; so the order of the tree is an order, and what lies inside comes
 -- after. Assumes nothing.
 use mathlib.Core.Path.{_≡_, _∙_, refl, sym, ap}
 use mathlib.Core.Bool.{true, false}
@@ -14,7 +14,7 @@ use Rattle.words.specs.Family.{codeOf, refuseParent, parentOf}
 use Rattle.words.proofs.Codes.{is-code, same-code}
 use Rattle.words.proofs.ParentChild.{parent-passes, parent-has}
 use Rattle.cells.specs.Order.{valid, spelled, begins, lessThan, insideOf}
-use Rattle.cells.specs.Promises.{Ordered, Inside}
+use Rattle.cells.specs.Promises.{Inside}
 use Rattle.cells.proofs.Dictionary.{known, clash, sooner-self, sooner-trans, sooner-total}
 use Rattle.cells.proofs.Dictionary.{begins-sooner, begins-between, begins-one, begins-append}
 
@@ -120,6 +120,3 @@ inside-parent w u e v =
 
 pub inside : Inside
 inside = record { side = inside-side; parent = inside-parent }
-
-pub ordered : Ordered
-ordered = record { total = less-total; onward = less-trans; notItself = less-self; ancestor = inside-less }

@@ -11,7 +11,7 @@ use Rattle.words.specs.Family.{codeOf}
 abbrev pub valid : ℕ → Bool
 valid w = eqb (checkCode (codeOf w)) 0
 
--- A code as document 01 writes it: its side, then its digits, the first first.
+-- A code by its letters: its side as one number, then its digits, the first first.
 unfoldable pub spelled : ℕ → List ℕ
 spelled w = sideOf w ∷ reverse (digits w (degreeOf w))
 

@@ -33,13 +33,17 @@ pub record Checks : Type 0 where
   -- "The empty list is accepted."
   pub empty : checked [] ≡ accepted
 
--- "Codes of different degree compare": the order is one. Of two valid codes that are not equal just one is less
+-- "Codes of different degree compare": it is an order, so that of two valid codes that are not equal just one is less;
+-- and between codes of one degree it is document 01's.
 pub record Ordered : Type 0 where
   pub total : (w u : ℕ) → valid w ≡ true → valid u ≡ true → lessThan w u ≡ false → lessThan u w ≡ false → w ≡ u
   pub onward : (v w u : ℕ) → lessThan v w ≡ true → lessThan w u ≡ true → lessThan v u ≡ true
   pub notItself : (w : ℕ) → lessThan w w ≡ false
   -- "an ancestor before its descendants"
   pub ancestor : (w u : ℕ) → insideOf w u ≡ true → lessThan u w ≡ true
+  -- "codes of one degree being compared as 64-bit words"
+  pub oneDegree : (w u : ℕ) → valid w ≡ true → valid u ≡ true → degreeOf w ≡ degreeOf u
+      → (lessThan w u ≡ true) ↔ (w < u)
 
 -- What "lies inside" is, by document 01's parents: of a valid code those that contain it are its parent, and those that
 -- contain its parent.

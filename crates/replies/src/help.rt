@@ -3,7 +3,7 @@ use crate::arguments;
 ghost use Prim.Native.Nat.{_≤_};
 ghost use lib.ListN.{length};
 
-const HELP: [u8; 6716] = *b"The grid of the globe: one call to a line, and one line for its answer.
+const HELP: [u8; 6714] = *b"The grid of the globe: one call to a line, and one line for its answer.
 
   WORD     0x and 1 to 16 hexadecimal digits
   CODE     a triangle code, as 10003 for side 100 and digits 0 and 3; or a WORD
@@ -82,7 +82,7 @@ sweep DEGREE PLACES [NUMBER]..      files many directions, three numbers each, i
                                     are refused, and of the first of them the place, from 0, and the refusal
   sweep 2 2 0 0 1 0 0 0             1 refused, first at place 1 with 7 | 0x208C000000000000 0x0000000000000000
 
-check-cells [CODE]..                whether a list of cells is good: rising as the tree does, none inside another;
+check-cells [CODE]..                whether a cell list is accepted: valid codes that rise, none inside another;
                                     else the first offending place, from 0, and its reason
   check-cells 10003 1001 101        accepted
   check-cells 1001 10012            place 1 reason 4: inside an earlier one

@@ -2,7 +2,7 @@
 use mathlib.Core.Path.{_≡_, _∙_, refl, sym, ap}
 use mathlib.Core.Bool.{true, false}
 use mathlib.Core.Logic.{_↔_, _⊎_, inl, inr, ⊎-elim}
-use mathlib.Core.List.{List, []}
+use mathlib.Core.List.{List, [], _++_}
 use Prim.Native.Nat.{ℕ, _/_, _%_, _^_, _≤_, _<_}
 use native.Mathlib.Omega.{arith}
 use lib.Dec.{ltb, eqb}
@@ -10,14 +10,16 @@ use lib.ListN.{length, getD}
 use borrow.Author.Tests.{ltb-true, ltb-false, eqb-true, eqb-false}
 use Rattle.octets.specs.Bytes.{bytes, readEach, numbers}
 use Rattle.octets.proofs.Laying.{bytes-long, read-long, numbers-back}
+use Rattle.lines.specs.Writing.{decimal}
 use Rattle.cells.specs.Checking.{checked, Accepted}
+use Rattle.cells.specs.Promises.{FirstOffence}
 use Rattle.cells.specs.declared.Verdict.{Verdict}
 use Rattle.cells.proofs.Dictionary.{known}
 use Rattle.cells.proofs.Accepting.{checks, reason-none}
-use Rattle.verdicts.specs.Program.{wordsIn, acceptedText, badLengthText, tooLongText}
+use Rattle.verdicts.specs.Program.{wordsIn, acceptedText, badLengthText, tooLongText, placeText, reasonText}
 use Rattle.verdicts.specs.Program.{verdictText, text}
 use Rattle.verdicts.specs.Promises.{Lines}
-use Rattle.verdicts.proofs.Texts.{text-accepted}
+use Rattle.verdicts.proofs.Texts.{text-accepted, text-place}
 
 -- a text is told from another by its first byte
 differ : (xs ys : List ℕ) → eqb (getD xs 0 0) (getD ys 0 0) ≡ false → xs ≡ ys → ⊥
@@ -113,6 +115,20 @@ module _ (file : List ℕ) where
       from p (isLong k l t) = t
       from p (isChecked k l t) = absurd (omega (arith, l, p .1, words))
 
+  offends : n % 8 ≡ 0 → length (wordsIn file) ≤ 4096 → (Accepted (wordsIn file) → ⊥)
+      → (r : Verdict) × FirstOffence (wordsIn file) r
+      × (text file ≡ placeText ++ decimal (r .place) ++ reasonText ++ decimal (r .reason))
+  offends m l bad = go cases
+    where
+      f : FirstOffence (wordsIn file) (checked (wordsIn file))
+      f = checks .offence (wordsIn file) bad
+
+      go : Case → (r : Verdict) × FirstOffence (wordsIn file) r
+          × (text file ≡ placeText ++ decimal (r .place) ++ reasonText ++ decimal (r .reason))
+      go (isBad k t) = absurd (k m)
+      go (isLong k h t) = absurd (omega (arith, h, l, words))
+      go (isChecked k h t) = (checked (wordsIn file), f, t ∙ sym (text-place (checked (wordsIn file)) (f .some)))
+
 back : (ws : List ℕ) → ((i : ℕ) → i < length ws → getD ws i 0 < 2 ^ 64) → wordsIn (bytes 8 ws) ≡ ws
 back ws h =
     let e : length (bytes 8 ws) / 8 ≡ length ws = omega (arith, bytes-long 8 ws) in
@@ -122,6 +138,7 @@ pub lines : Lines
 unfolding n readEach
 lines = record {
   accepts = accepts;
+  offends = offends;
   empty = accepts [] .1 (refl, omega (arith, words []), checks .exactly [] .0 (checks .empty));
   bad = bad;
   long = long;

@@ -1,18 +1,26 @@
 -- Document 02, 2026-09: what is promised of the program's line. Assumes nothing.
 use mathlib.Core.Path.{_≡_}
 use mathlib.Core.Logic.{_↔_}
-use mathlib.Core.List.{List, []}
+use mathlib.Core.List.{List, [], _++_}
 use Prim.Native.Nat.{ℕ, _%_, _^_, _<_, _≤_}
 use lib.ListN.{length, getD}
 use Rattle.octets.specs.Bytes.{bytes}
+use Rattle.lines.specs.Writing.{decimal}
 use Rattle.cells.specs.Checking.{Accepted}
-use Rattle.verdicts.specs.Program.{wordsIn, acceptedText, badLengthText, tooLongText, text, line}
+use Rattle.cells.specs.Promises.{FirstOffence}
+use Rattle.cells.specs.declared.Verdict.{Verdict}
+use Rattle.verdicts.specs.Program.{wordsIn, acceptedText, badLengthText, tooLongText, placeText, reasonText}
+use Rattle.verdicts.specs.Program.{text, line}
 use Rattle.verdicts.specs.Files.{Holds}
 
 pub record Lines : Type 0 where
   -- "accept a list exactly when": the file of such a list, of at most 4,096 words, and no other
   pub accepts : (file : List ℕ) → (text file ≡ acceptedText)
       ↔ ((length file % 8 ≡ 0) × (length (wordsIn file) ≤ 4096) × Accepted (wordsIn file))
+  -- `"place P reason R" in decimal`: any other file of whole words, at most 4,096, by its first offence
+  pub offends : (file : List ℕ) → length file % 8 ≡ 0 → length (wordsIn file) ≤ 4096 → (Accepted (wordsIn file) → ⊥)
+      → (r : Verdict) × FirstOffence (wordsIn file) r
+      × (text file ≡ placeText ++ decimal (r .place) ++ reasonText ++ decimal (r .reason))
   -- "The empty list is accepted."
   pub empty : text [] ≡ acceptedText
   -- `A file whose length isn't a multiple of 8 is "bad length", checked first`

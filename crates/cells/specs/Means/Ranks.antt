@@ -16,7 +16,7 @@ start w = sideOf w * 2 ^ 48 + path (digits w (degreeOf w)) * 2 ^ (48 - 2 * degre
 unfoldable pub width : ℕ → ℕ
 width w = 2 ^ (48 - 2 * degreeOf w)
 
--- Side, digits and degree: the fields in the order of the tree. Those of degree 24 inside it have ranks below its end.
+-- Side, digits and degree: the fields in the order of the tree. Those inside it have ranks below its end.
 unfoldable pub rank : ℕ → ℕ
 rank w = 64 * start w + degreeOf w
 

@@ -1,5 +1,5 @@
--- `gridcalls::lists::put_rest` is safe and keeps to its room. The loop's invariant: each entry so far took at most 48 bytes, and the buffer
--- has its length. The measure is what is left of the entries. Assumes nothing.
+-- `gridcalls::lists::put_rest` is safe and keeps to its room. The loop's invariant: each entry so far took at most 48
+-- bytes, and the buffer has its length. The measure is what is left of the entries. Assumes nothing.
 use mathlib.Core.Path.{_≡_}
 use Prim.Native.Nat.{_+_, _*_, _≤_, _-_}
 use lib.ListN.{length}

@@ -1,5 +1,5 @@
--- `tablecalls::laying::fill` is safe and ends. The loop's invariant: the lists have their lengths. The measure is how many
--- places are left. Assumes nothing.
+-- `tablecalls::laying::fill` is safe and ends. The loop's invariant: the lists have their lengths. The measure is how
+-- many places are left. Assumes nothing.
 use mathlib.Core.Path.{_≡_}
 use Prim.Native.Nat.{_-_}
 use lib.ListN.{length}

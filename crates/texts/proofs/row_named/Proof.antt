@@ -1,5 +1,5 @@
--- `texts::row_named` is safe and ends. The loop's invariant: the place is in the table. The measure is how many rows are
--- left to look at. Assumes nothing.
+-- `texts::row_named` is safe and ends. The loop's invariant: the place is in the table. The measure is how many rows
+-- are left to look at. Assumes nothing.
 use Prim.Native.Nat.{_≤_, _-_}
 use lib.ListN.{length}
 use borrow.Author.Needs.{needs}

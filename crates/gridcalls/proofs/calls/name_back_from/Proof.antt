@@ -7,7 +7,8 @@ use Rattle.gridcalls.proofs.calls.name_back_from.Statement.{statement}
 use Rattle.gridcalls.proofs.calls.name_back_from.Tie as tie
 
 slice-aggregate-name-back : tie.Need-slice-aggregate-name-back
-slice-aggregate-name-back c = let s = c .before .before in sym (length-take-le (s .args .n) (now (s .args .list)) (s .pre))
+slice-aggregate-name-back c =
+    let s = c .before .before in sym (length-take-le (s .args .n) (now (s .args .list)) (s .pre))
 
 name-back-requires : tie.Need-name-back-requires
 name-back-requires c κs = search needs

@@ -11,10 +11,14 @@ slice-relend-prefix-in-list : tie.Need-slice-relend-prefix-in-list
 slice-relend-prefix-in-list c = search needs
 
 slice-aggregate-in-list : tie.Need-slice-aggregate-in-list
-slice-aggregate-in-list c = let s = c .before .before .before in sym (length-take-le (s .args .n) (now (s .args .list)) (s .pre .0))
+slice-aggregate-in-list c =
+    let s = c .before .before .before in sym (length-take-le (s .args .n) (now (s .args .list)) (s .pre .0))
 
 in-list-requires : tie.Need-in-list-requires
-in-list-requires c κs = let s = c .before .before .before .before in let e = length-take-le (s .args .n) (now (s .args .list)) (s .pre .0) in (omega arith, s .pre .2)
+in-list-requires c κs =
+    let s = c .before .before .before .before in
+    let e = length-take-le (s .args .n) (now (s .args .list)) (s .pre .0) in
+    (omega arith, s .pre .2)
 
 same-length : tie.Need-same-length
 same-length c = search needs

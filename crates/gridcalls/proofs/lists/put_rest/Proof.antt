@@ -8,7 +8,8 @@ use Rattle.gridcalls.proofs.lists.put_rest.Statement.{statement}
 use Rattle.gridcalls.proofs.lists.put_rest.Tie as tie
 
 abbrev Inv-loop : tie.InvT-loop
-Inv-loop e list from n out₀ at i₀ place₀ out i place = (from ≤ i) × (i ≤ n) × (place ≤ at + 48 * (i - from)) × (length out ≡ length out₀)
+Inv-loop e list from n out₀ at i₀ place₀ out i place =
+    (from ≤ i) × (i ≤ n) × (place ≤ at + 48 * (i - from)) × (length out ≡ length out₀)
 
 abbrev μ-loop : tie.MeasureT-loop
 μ-loop e list from n out₀ at i₀ place₀ out i place = n - i

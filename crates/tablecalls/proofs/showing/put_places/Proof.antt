@@ -1,5 +1,5 @@
--- `tablecalls::showing::put_places` is safe and ends. The loop's invariant: each place shown takes at most 90 bytes, and
--- the buffer has its length. The measure is how many are left. Assumes nothing.
+-- `tablecalls::showing::put_places` is safe and ends. The loop's invariant: each place shown takes at most 90 bytes,
+-- and the buffer has its length. The measure is how many are left. Assumes nothing.
 use mathlib.Core.Path.{_≡_}
 use Prim.Native.Nat.{_+_, _*_, _≤_}
 use lib.ListN.{length}

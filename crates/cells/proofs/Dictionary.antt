@@ -121,6 +121,19 @@ begins-between (x ∷ xs) (y ∷ ys) (z ∷ zs) h k b =
     go ih (inr a) (inl c) (e, d) = absurd (omega (arith, a .0, e))
     go ih (inr a) (inr c) (e, d) = begins-same x y xs ys (a .0) ∙ ih (a .1) (c .1) d
 
+-- what begins a beginning begins what it begins
+pub begins-trans : (xs ys zs : List ℕ) → begins xs ys ≡ true → begins ys zs ≡ true → begins xs zs ≡ true
+unfolding begins
+begins-trans [] [] zs h k = absurd (true≢false (sym h))
+begins-trans [] (y ∷ ys) [] h k = absurd (true≢false (sym k))
+begins-trans [] (y ∷ ys) (z ∷ zs) h k = refl
+begins-trans (x ∷ xs) [] zs h k = absurd (true≢false (sym h))
+begins-trans (x ∷ xs) (y ∷ ys) [] h k = absurd (true≢false (sym k))
+begins-trans (x ∷ xs) (y ∷ ys) (z ∷ zs) h k =
+    let p = begins-cons x y xs ys h in
+    let q = begins-cons y z ys zs k in
+    begins-same x z xs zs (p .0 ∙ q .0) ∙ begins-trans xs ys zs (p .1) (q .1)
+
 -- nothing with a letter begins a word of one and goes on
 pub begins-one : (xs : List ℕ) (x y : ℕ) → begins (x ∷ xs) (y ∷ []) ≡ false
 unfolding begins

@@ -16,10 +16,14 @@ use Rattle.words.proofs.ParentChild.{parent-passes, parent-has}
 use Rattle.cells.specs.Order.{valid, spelled, begins, lessThan, insideOf}
 use Rattle.cells.specs.Promises.{Inside}
 use Rattle.cells.proofs.Dictionary.{known, clash, sooner-self, sooner-trans, sooner-total}
-use Rattle.cells.proofs.Dictionary.{begins-sooner, begins-between, begins-one, begins-append}
+use Rattle.cells.proofs.Dictionary.{begins-sooner, begins-between, begins-trans, begins-one}
+use Rattle.cells.proofs.Dictionary.{begins-append}
 
 pub valid-code : (w : ℕ) → valid w ≡ true → IsCode (degreeOf w) (codeOf w)
 valid-code w v = is-code (codeOf w) (eqb-true _ _ v)
+
+pub code-valid : {n : ℕ} (w : ℕ) → IsCode n (codeOf w) → valid w ≡ true
+code-valid w c = eq-eqb _ 0 (c .passes)
 
 pub digits-length : (w n : ℕ) → length (digits w n) ≡ n
 unfolding digits
@@ -74,6 +78,11 @@ inside-less w u h = begins-sooner (spelled u) (spelled w) h
 -- so what does not come after lies inside nothing
 pub not-inside : (w u : ℕ) → (lessThan u w ≡ true → ⊥) → insideOf w u ≡ false
 not-inside w u n = ⊎-elim (λ h. absurd (n (inside-less w u h))) (λ h. h) (known (insideOf w u))
+
+-- what lies inside what lies inside a triangle lies inside it
+pub inside-trans : (w u v : ℕ) → insideOf w u ≡ true → insideOf u v ≡ true → insideOf w v ≡ true
+unfolding insideOf
+inside-trans w u v h k = begins-trans (spelled v) (spelled u) (spelled w) k h
 
 -- what comes between a triangle and one inside it lies inside it too
 pub inside-between : (e p w : ℕ) → lessThan e p ≡ true → lessThan p w ≡ true → insideOf w e ≡ true

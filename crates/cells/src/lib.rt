@@ -17,9 +17,9 @@ pub struct Verdict {
 
 // Where a triangle stands in the order of the tree: its rank is below that of each triangle inside it, these are below
 // its end, and those of all that follow are not.
-struct Reach {
-    rank: u64,
-    end: u64,
+pub struct Reach {
+    pub rank: u64,
+    pub end: u64,
 }
 
 // The side and the digits of a code, as they stand in it, without its degree.
@@ -31,7 +31,7 @@ fn start_of(w: u64) -> u64
 }
 
 // The reach of a code. Below its digits there is room for the degree.
-fn reach_of(w: u64) -> Reach
+pub fn reach_of(w: u64) -> Reach
     requires { ⌜ valid w ≡ true ⌝ }
     ensures { λ r. ⌜ r ≡ reach w ⌝ }
 {

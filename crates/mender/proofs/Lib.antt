@@ -1,0 +1,5 @@
+-- The laws of the mender's functions.
+pub mod Written
+pub mod Rows
+pub mod Passes
+pub mod Dropped

@@ -1,8 +1,9 @@
 /* The calls of document 01, of a table of soundings and of a cell list, as crates/bench exports them, and those of the
- * crate host: all of its own, and checking. */
+ * crate host: all of its own, and checking; and mending in C. */
 #include "../../include/dogrzewin.h"
 #include "directions.h"
 #include "driver.h"
+#include "mend.h"
 
 #include <string.h>
 
@@ -13,7 +14,7 @@ uint64_t bench_weights(uint64_t code, uint64_t corner, uint64_t *out, size_t pla
 any_function bench_parent, bench_child, bench_cross, bench_back, bench_name_weights,
     bench_ring, bench_exact, bench_name_exact, bench_t, bench_name_t, bench_drawn, bench_name_drawn,
     bench_list, bench_sweep, bench_get, bench_take, bench_set, bench_clear, bench_give, bench_work_out,
-    bench_check_cells, bench_cells_line;
+    bench_check_cells, bench_cells_line, bench_mend_cells;
 
 /* ---- words */
 
@@ -367,6 +368,86 @@ static int give_file(struct input *in, const char *kind, uint64_t degree) {
     return is_random(kind);
 }
 
+/* A list to mend: codes of random degrees up to this one; `whole`: all of a degree of one side, shuffled, of which as
+ * many are taken as the list has words; `falling`: codes of the degree, each before the last; `nested`: in chains, each
+ * code inside the one after it. */
+static uint64_t cell_to_mend(const char *kind, size_t place, uint64_t degree) {
+    uint64_t all = (uint64_t)1 << (2 * degree);
+    if (strcmp(kind, "whole") == 0) {
+        return word_of(4, degree, place % all);
+    }
+    if (strcmp(kind, "falling") == 0) {
+        return word_of(23, degree, 5 * (sweep_length - place) % all);
+    }
+    if (strcmp(kind, "nested") == 0) {
+        uint64_t depth = degree - place % degree;
+        return word_of(4 + place / degree % 20, depth, (place / degree / 20) & (((uint64_t)1 << (2 * depth)) - 1));
+    }
+    return random_code(below(degree + 1));
+}
+
+static void shuffle(uint64_t *words) {
+    for (size_t k = sweep_length; k > 1; k--) {
+        size_t other = below(k);
+        uint64_t word = words[k - 1];
+        words[k - 1] = words[other];
+        words[other] = word;
+    }
+}
+
+static int is_to_mend(const char *kind) {
+    return is_random(kind) || strcmp(kind, "whole") == 0 || strcmp(kind, "falling") == 0 || strcmp(kind, "nested") == 0;
+}
+
+static uint64_t *cells_to_mend(const char *kind, uint64_t degree) {
+    uint64_t *words = new_list(sweep_length, sizeof *words);
+    for (size_t k = 0; k < sweep_length; k++) {
+        words[k] = cell_to_mend(kind, k, degree);
+    }
+    if (strcmp(kind, "whole") == 0) {
+        shuffle(words);
+    }
+    return words;
+}
+
+/* With the three lists that the answer goes to, which all calls share. */
+static int give_mend(struct input *in, const char *kind, uint64_t degree) {
+    static uint64_t *mended, *changed, *reasons;
+    mended = mended == NULL ? new_list(sweep_length, sizeof *mended) : mended;
+    changed = changed == NULL ? new_list(sweep_length, sizeof *changed) : changed;
+    reasons = reasons == NULL ? new_list(sweep_length, sizeof *reasons) : reasons;
+    give_list(in, 0, cells_to_mend(kind, degree), sweep_length);
+    give_list(in, 2, mended, sweep_length);
+    give_list(in, 4, changed, sweep_length);
+    give_list(in, 6, reasons, sweep_length);
+    return is_to_mend(kind);
+}
+
+/* The same lists in bytes, for a program in C. */
+static int give_cells_in_bytes(struct input *in, const char *kind, uint64_t degree) {
+    int known = give_file(in, kind, degree);
+    give_bytes(in, 2);
+    return known;
+}
+
+static int give_mend_in_bytes(struct input *in, const char *kind, uint64_t degree) {
+    static uint8_t *mended, *changed, *reasons;
+    uint64_t *words = cells_to_mend(kind, degree);
+    uint8_t *bytes = new_list(sweep_length, 8);
+    for (size_t k = 0; k < sweep_length; k++) {
+        put_word(bytes + 8 * k, words[k]);
+    }
+    mended = mended == NULL ? new_list(sweep_length, 8) : mended;
+    changed = changed == NULL ? new_list(sweep_length, 8) : changed;
+    reasons = reasons == NULL ? new_list(sweep_length, 8) : reasons;
+    give_list(in, 0, (uint64_t *)bytes, 8 * sweep_length);
+    give_list(in, 2, (uint64_t *)mended, 8 * sweep_length);
+    give_list(in, 4, (uint64_t *)changed, 8 * sweep_length);
+    give_list(in, 6, (uint64_t *)reasons, 8 * sweep_length);
+    give_list(in, 8, lent, sizeof lent);
+    return is_to_mend(kind);
+}
+
 /* ---- the calls */
 
 const struct call calls[] = {
@@ -398,6 +479,8 @@ const struct call calls[] = {
     {"table-work-out", bench_work_out, WORD, give_readings_and_sums},
     {"check-cells", bench_check_cells, WORD, give_cells},
     {"cells-line", bench_cells_line, WORD, give_file},
+    {"mend-cells", bench_mend_cells, WORD, give_mend},
+    {"mend-in-c", (any_function *)mend_in_c, WORD, give_mend},
     {"add-up", (any_function *)add_up, WORD, give_readings_alone},
     {"add-up-both", (any_function *)add_up_both, WORD, give_both_alone},
     {"host-cross", (any_function *)grid_cross, WEIGHTS, give_code_number_and_bytes},
@@ -405,5 +488,7 @@ const struct call calls[] = {
     {"host-sweep", (any_function *)host_sweep, WORD, give_sweep_in_bytes},
     {"host-singles", (any_function *)host_singles, WORD, give_sweep_in_bytes},
     {"host-list", (any_function *)grid_list, WEIGHTS, give_direction_and_bytes},
+    {"host-check-cells", (any_function *)grid_check_cells, WORD, give_cells_in_bytes},
+    {"host-mend-cells", (any_function *)grid_mend_cells, WORD, give_mend_in_bytes},
 };
 const size_t calls_count = sizeof calls / sizeof calls[0];

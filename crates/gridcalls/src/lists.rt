@@ -9,11 +9,10 @@ use grid::weights_of;
 use grid::weights_of_name;
 use replies::answers;
 use replies::arguments;
+use replies::places;
+use replies::places::Entry;
 ghost use Prim.Native.Nat.{_+_, _-_, _*_, _≤_};
 ghost use lib.ListN.{length};
-
-// What a lent list holds before a call. As many of its places are lent as the line asks for.
-pub const LENT: [u64; 16] = [1, 2, 3, 4, 5, 6, 7, 8, 9, 10, 11, 12, 13, 14, 15, 16];
 
 // What is asked of a lent list.
 pub enum Asked {
@@ -23,70 +22,39 @@ pub enum Asked {
     Holders(u64, Direction),
 }
 
-// How an entry of a list is written.
-pub enum Entry {
-    Decimal,
-    Word,
-    Code,
-}
-
-fn put_entry(e: Entry, w: u64, out: &mut [u8], at: usize) -> usize
-    requires { ⌜ at + 46 ≤ length (now out) ⌝ }
-    ensures { λ r. ⌜ r ≤ at + 46 ⌝ }
-{
-    match e {
-        Entry::Decimal => lines::put_decimal(w, out, at),
-        Entry::Word => lines::put_word(w, out, at),
-        Entry::Code => texts::put_code(w, out, at),
-    }
-}
-
-// Codes are separated by a comma too.
-fn put_separator(e: Entry, out: &mut [u8], at: usize) -> usize
-    requires { ⌜ at + 2 ≤ length (now out) ⌝ }
-    ensures { λ r. ⌜ r ≤ at + 2 ⌝ }
-{
-    match e {
-        Entry::Code => {
-            let space = lines::put_byte(b',', out, at);
-            lines::put_byte(b' ', out, space)
-        }
-        _ => lines::put_byte(b' ', out, at),
-    }
-}
-
-fn put_next(e: Entry, w: u64, out: &mut [u8], at: usize) -> usize
+fn put_next(w: u64, out: &mut [u8], at: usize) -> usize
     requires { ⌜ at + 48 ≤ length (now out) ⌝ }
     ensures { λ r. ⌜ r ≤ at + 48 ⌝ }
 {
-    let place = put_separator(e, out, at);
-    put_entry(e, w, out, place)
+    let space = lines::put_byte(b',', out, at);
+    let code = lines::put_byte(b' ', out, space);
+    texts::put_code(w, out, code)
 }
 
-// The places from `from` to below n, each after a separator.
-fn put_rest(e: Entry, list: &[u64], from: usize, n: usize, out: &mut [u8], at: usize) -> usize
-    requires { ⌜ (from ≤ n) × (n ≤ length (now list)) × (n ≤ 16) × (at + 48 * (n - from) ≤ length (now out)) ⌝ }
-    ensures { λ r. ⌜ r ≤ at + 48 * (n - from) ⌝ }
+// The codes from place 1 to below n, each after a comma and a space.
+fn put_others(list: &[u64], n: usize, out: &mut [u8], at: usize) -> usize
+    requires { ⌜ (1 ≤ n) × (n ≤ length (now list)) × (n ≤ 16) × (at + 48 * (n - 1) ≤ length (now out)) ⌝ }
+    ensures { λ r. ⌜ r ≤ at + 48 * (n - 1) ⌝ }
 {
-    let mut i = from;
+    let mut i = 1;
     let mut place = at;
     while i < n {
-        place = put_next(e, list[i], out, place);
+        place = put_next(list[i], out, place);
         i += 1;
     }
     place
 }
 
-// The first n places, with separators between them.
-fn put_first(e: Entry, list: &[u64], n: usize, out: &mut [u8], at: usize) -> usize
+// The codes of the first n places.
+fn put_first(list: &[u64], n: usize, out: &mut [u8], at: usize) -> usize
     requires { ⌜ (n ≤ length (now list)) × (n ≤ 16) × (at + 800 ≤ length (now out)) ⌝ }
     ensures { λ r. ⌜ r ≤ at + 800 ⌝ }
 {
     if n == 0 {
         return at;
     }
-    let place = put_entry(e, list[0], out, at);
-    put_rest(e, list, 1, n, out, place)
+    let place = texts::put_code(list[0], out, at);
+    put_others(list, n, out, place)
 }
 
 // A count and as many codes.
@@ -104,7 +72,7 @@ fn put_codes(count: u64, list: &[u64], out: &mut [u8]) -> usize
     if list.len() < n {
         return first;
     }
-    put_first(Entry::Code, list, n, out, first)
+    put_first(list, n, out, first)
 }
 
 // The twelve weights.
@@ -115,7 +83,8 @@ fn put_weights(list: &[u64], out: &mut [u8]) -> usize
     if list.len() < 12 {
         return 0;
     }
-    put_first(Entry::Decimal, list, 12, out, 0)
+    let place = lines::put_decimal(list[0], out, 0);
+    places::put_rest(Entry::Decimal, list, 1, 12, out, place)
 }
 
 // The call.
@@ -155,16 +124,6 @@ fn put_answer(q: Asked, r: CountAnswer, list: &[u64], out: &mut [u8]) -> usize
     }
 }
 
-// All places of the list as the call left them.
-pub fn put_places(e: Entry, list: &[u64], out: &mut [u8], at: usize) -> usize
-    requires { ⌜ (length (now list) ≤ 16) × (at + 800 ≤ length (now out)) ⌝ }
-    ensures { λ r. ⌜ r ≤ at + 800 ⌝ }
-{
-    let bar = lines::put_byte(b' ', out, at);
-    let place = lines::put_byte(b'|', out, bar);
-    put_rest(e, list, 0, list.len(), out, place)
-}
-
 fn in_list(q: Asked, list: &mut [u64], shown: bool, out: &mut [u8]) -> usize
     requires { ⌜ (length (now list) ≤ 16) × (8192 ≤ length (now out)) ⌝ }
     ensures { λ r. ⌜ r ≤ 8000 ⌝ }
@@ -172,7 +131,7 @@ fn in_list(q: Asked, list: &mut [u64], shown: bool, out: &mut [u8]) -> usize
     let r = fill(q, list);
     let at = put_answer(q, r, list, out);
     if shown {
-        return put_places(entry_of(q), list, out, at);
+        return places::put_places(entry_of(q), list, out, at);
     }
     at
 }
@@ -193,7 +152,7 @@ fn with_places(q: Asked, line: &[u8], at: usize, usual: usize, out: &mut [u8]) -
     if !p.read {
         return 0;
     }
-    let mut list = LENT;
+    let mut list = places::LENT;
     in_first(q, &mut list, p.count, p.shown, out)
 }
 

@@ -1,8 +1,8 @@
 // The call that files many directions (document 02, 2026-04), from a list of numbers into a lent list of codes.
-use crate::lists;
-use crate::lists::Entry;
 use replies::answers;
 use replies::arguments;
+use replies::places;
+use replies::places::Entry;
 use sweeps::SweepAnswer;
 use sweeps::sweep;
 ghost use Prim.Native.Nat.{_≤_};
@@ -41,7 +41,7 @@ fn in_list(degree: u64, dirs: &[i32], codes: &mut [u64], out: &mut [u8]) -> usiz
 {
     let r = sweep(degree, dirs, codes);
     let at = put_answer(r, out);
-    lists::put_places(Entry::Word, codes, out, at)
+    places::put_places(Entry::Word, codes, out, at)
 }
 
 // Into the first places of a list.
@@ -60,7 +60,7 @@ fn of_first(degree: u64, numbers: &[i32], n: usize, places: usize, out: &mut [u8
     if numbers.len() < n {
         return 0;
     }
-    let mut codes = lists::LENT;
+    let mut codes = places::LENT;
     in_first(degree, &numbers[..n], &mut codes, places, out)
 }
 

@@ -3,3 +3,6 @@ pub mod Written
 pub mod Rows
 pub mod Passes
 pub mod Dropped
+pub mod ByRanks
+pub mod Joined
+pub mod Refusals

@@ -6,7 +6,9 @@ use Prim.Native.Nat.{ℕ, suc, _+_, _-_, _^_, _≤_, _<_}
 use native.Mathlib.Omega.{arith}
 use lib.ListN.{length, getD, take, drop}
 use lib.Seq.{length-take-le, getD-take, drop-drop}
-use Rattle.mender.specs.Means.Joining.{Small, joined, joins, inRanks, before, joinedAt, joinsAt}
+use Rattle.mending.specs.Means.InRows.{joined, joins}
+use Rattle.mender.specs.Means.Joining.{Small, inRanks, before, joinedAt, joinsAt}
+use Rattle.mending.specs.Means.InRows.{joined, joins}
 use Rattle.mender.specs.Means.Joining.{joinedBelow, joinsBelow, startsFour}
 use Rattle.mender.proofs.Written.{Shrinking, rest-length, no-place, at-rest, unread-head}
 use Rattle.mender.proofs.Rows.{row-some, joined-true, joined-false, joins-true, joins-false}

@@ -10,11 +10,12 @@ use lib.Dec.{eqb}
 use lib.ListN.{length, getD}
 use lib.Pow.{pow-pos, pow-mono, pow-add, mod-mod-pow}
 use borrow.Author.Tests.{eqb-true, eq-eqb, ne-eqb}
-use Rattle.mender.specs.Means.Joining.{Small, joined, joins, inRanks, before, joinedAt, joinsAt}
+use Rattle.mending.specs.Means.InRows.{joined, joins}
+use Rattle.mender.specs.Means.Joining.{Small, inRanks, before, joinedAt, joinsAt}
 
 -- ---- the test
 
-abbrev unit : ℕ → ℕ
+abbrev pub unit : ℕ → ℕ
 unit d = 2 ^ (52 - 2 * d)
 
 pub unit-some : (d : ℕ) → 0 < unit d
@@ -24,7 +25,7 @@ pub unit-most : (d : ℕ) → unit d ≤ 2 ^ 52
 unit-most d = pow-mono {i = 52 - 2 * d} {j = 52} (omega arith)
 
 -- the degree of the first is told by its last six bits
-row-degree : (d a : ℕ) → d < 24 → a % (4 * unit d) ≡ suc d → a % 64 ≡ suc d
+pub row-degree : (d a : ℕ) → d < 24 → a % (4 * unit d) ≡ suc d → a % 64 ≡ suc d
 row-degree d a l e =
     let k : 52 - 2 * d + 2 ≡ 48 - 2 * d + 6 = omega arith in
     let p : 4 * unit d ≡ 2 ^ (48 - 2 * d + 6) =
@@ -84,16 +85,9 @@ row-some d a b c e h =
 abbrev pub Each : (ℕ → Type 0) → List ℕ → Type 0
 Each P xs = (i : ℕ) → i < length xs → P (getD xs i 0)
 
-module _ (P : ℕ → Type 0) (x : ℕ) (xs : List ℕ) where
-  each-head : Each P (x ∷ xs) → P x
-  each-head p = p 0 (omega arith)
-
-  each-tail : Each P (x ∷ xs) → Each P xs
-  each-tail p i l = p (suc i) (omega arith)
-
-  each-cons : P x → Each P xs → Each P (x ∷ xs)
-  each-cons p q zero l = p
-  each-cons p q (suc i) l = q i (omega arith)
+each-cons : (P : ℕ → Type 0) (x : ℕ) (xs : List ℕ) → P x → Each P xs → Each P (x ∷ xs)
+each-cons P x xs p q zero l = p
+each-cons P x xs p q (suc i) l = q i (omega arith)
 
 -- ---- joining
 

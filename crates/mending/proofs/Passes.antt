@@ -15,7 +15,7 @@ use Rattle.cells.specs.Order.{valid, lessThan, insideOf}
 use Rattle.cells.proofs.Dictionary.{known, clash}
 use Rattle.cells.proofs.Spelling.{less-ne, less-trans, above, inside-less, inside-between}
 use Rattle.mending.specs.Mending.{mergesAt, replaced}
-use Rattle.mending.specs.Means.InRows.{inRow, passed, passedMerges}
+use Rattle.mending.specs.Means.InRows.{joined, joins, inRow, passed, passedMerges}
 use Rattle.mending.proofs.Nodes.{four-of}
 use Rattle.mending.proofs.WordNodes.{up, up-valid, up-degree, up-inside}
 use Rattle.mending.proofs.Members.{not-so, true-and, both-true, Mem, mem-cast, mem-some, some-mem, Rises}
@@ -168,7 +168,7 @@ module _ (d : ℕ) (d< : d < 24) (all : List ℕ) (g : Good (suc d) all) where
 
   skip-list : (a : ℕ) (rest : List ℕ) → ((w : ℕ) → Mem w (a ∷ rest) → Mem w all) → some (insideOf a) ms ≡ false
       → (passed d (a ∷ rest) ≡ a ∷ passed d rest) × (passedMerges d (a ∷ rest) ≡ passedMerges d rest)
-  unfolding passed passedMerges
+  unfolding joined joins
   skip-list a [] f n = (refl, refl)
   skip-list a (b ∷ []) f n = (refl, refl)
   skip-list a (b ∷ c ∷ []) f n = (refl, refl)
@@ -239,7 +239,7 @@ module _ (d : ℕ) (d< : d < 24) (all : List ℕ) (g : Good (suc d) all) where
 
   four-list : (u : ℕ) (ws : List ℕ) → Mem u ms
       → (passed d (four u ws) ≡ u ∷ passed d ws) × (passedMerges d (four u ws) ≡ u ∷ passedMerges d ws)
-  unfolding passed passedMerges
+  unfolding joined joins
   four-list u ws m =
       let t = row-true u m in
       let e : up (kid u 0) ≡ u = up-kid u 0 (good u m) (low u m) (lit< tt) in
@@ -325,7 +325,7 @@ module _ (d : ℕ) (d< : d < 24) (all : List ℕ) (g : Good (suc d) all) where
   -- ---- the whole pass
 
   did-nothing : Did []
-  unfolding passed passedMerges
+  unfolding joined joins
   did-nothing = record {
     from = λ w m. absurd m;
     to = λ w o. ⊎-elim (λ p. absurd (p .0)) (λ p. absurd (p .1)) o;

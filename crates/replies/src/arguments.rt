@@ -35,6 +35,13 @@ pub struct Aim {
     pub next: usize,
 }
 
+// How many places a lent list has, in the same way.
+pub struct FoundLength {
+    pub read: bool,
+    pub count: usize,
+    pub next: usize,
+}
+
 // How many places a lent list has, and whether the line asked for that.
 pub struct Places {
     pub read: bool,
@@ -47,6 +54,15 @@ pub struct Lending {
     pub read: bool,
     pub degree: u64,
     pub places: usize,
+    pub next: usize,
+}
+
+// How many places each of the three lent lists of a mending has.
+pub struct Lengths {
+    pub read: bool,
+    pub mended: usize,
+    pub words: usize,
+    pub reasons: usize,
     pub next: usize,
 }
 
@@ -167,6 +183,27 @@ pub fn degree_and_direction(line: &[u8], at: usize) -> Aim
     }
 }
 
+// How many places a lent list has, which has at most so many.
+fn length_at(line: &[u8], at: usize, most: usize) -> FoundLength
+    requires { ⌜ at ≤ length (now line) ⌝ }
+    ensures { λ r. ⌜ (r .count ≤ most) × (r .next ≤ length (now (line .entry))) ⌝ }
+{
+    let n = number_at(line, at);
+    let count = n.value as usize;
+    if most < count {
+        return FoundLength {
+            read: false,
+            count: 0,
+            next: n.next,
+        };
+    }
+    FoundLength {
+        read: n.read,
+        count,
+        next: n.next,
+    }
+}
+
 // The optional last argument of a call with a lent list, which has `usual` places without it.
 pub fn places_at(line: &[u8], at: usize, usual: usize) -> Places
     requires { ⌜ (at ≤ length (now line)) × (usual ≤ 16) ⌝ }
@@ -179,18 +216,11 @@ pub fn places_at(line: &[u8], at: usize, usual: usize) -> Places
             count: usual,
         };
     }
-    let n = number_at(line, at);
-    if 16 < n.value {
-        return Places {
-            read: false,
-            shown: false,
-            count: 0,
-        };
-    }
+    let n = length_at(line, at, 16);
     Places {
         read: n.read & at_end(line, n.next),
         shown: true,
-        count: n.value as usize,
+        count: n.count,
     }
 }
 
@@ -200,20 +230,31 @@ pub fn degree_and_places(line: &[u8], at: usize) -> Lending
     ensures { λ r. ⌜ (r .places ≤ 16) × (r .next ≤ length (now (line .entry))) ⌝ }
 {
     let d = number_at(line, at);
-    let p = number_at(line, d.next);
-    if 16 < p.value {
-        return Lending {
-            read: false,
-            degree: 0,
-            places: 0,
-            next: p.next,
-        };
-    }
+    let p = length_at(line, d.next, 16);
     Lending {
         read: d.read & p.read,
         degree: d.value,
-        places: p.value as usize,
+        places: p.count,
         next: p.next,
+    }
+}
+
+// What stands before the codes of a mending.
+pub fn three_lengths(line: &[u8], at: usize) -> Lengths
+    requires { ⌜ at ≤ length (now line) ⌝ }
+    ensures { λ r. ⌜
+        (r .mended ≤ 64) × (r .words ≤ 64) × (r .reasons ≤ 64) × (r .next ≤ length (now (line .entry)))
+        ⌝ }
+{
+    let m = length_at(line, at, 64);
+    let w = length_at(line, m.next, 64);
+    let r = length_at(line, w.next, 64);
+    Lengths {
+        read: m.read & w.read & r.read,
+        mended: m.count,
+        words: w.count,
+        reasons: r.count,
+        next: r.next,
     }
 }
 

@@ -3,7 +3,7 @@ use crate::arguments;
 ghost use Prim.Native.Nat.{_≤_};
 ghost use lib.ListN.{length};
 
-const HELP: [u8; 6714] = *b"The grid of the globe: one call to a line, and one line for its answer.
+const HELP: [u8; 7416] = *b"The grid of the globe: one call to a line, and one line for its answer.
 
   WORD     0x and 1 to 16 hexadecimal digits
   CODE     a triangle code, as 10003 for side 100 and digits 0 and 3; or a WORD
@@ -86,6 +86,14 @@ check-cells [CODE]..                whether a cell list is accepted: valid codes
                                     else the first offending place, from 0, and its reason
   check-cells 10003 1001 101        accepted
   check-cells 1001 10012            place 1 reason 4: inside an earlier one
+
+mend-cells MENDED WORDS REASONS [CODE]..
+                                    mends a cell list: how many codes are in the mended list, and how many changes
+                                    were made. Then the three lent lists, each of as many places as asked, 0 to 64:
+                                    the mended list, and of each change the word and the reason: 1 invalid, 3 equal
+                                    to an earlier word, 4 inside another word, 5 a merge, named by its parent
+  mend-cells 1 1 1 600              words 0, changes 1 | 0x0000000000000001 | 0xC000000000000000 | 1
+  mend-cells 4 4 4 1003 1001 1000 1002  words 1, changes 1 | 0x2000000000000000 0x0000000000000002 ..
 
 table DEGREE [LENGTH FILL [PLACE VALUE]..]
                                     opens a table of soundings with no readings, of degree 0 to 6; or any

@@ -4,7 +4,7 @@ ghost use Prim.Native.Nat.{_+_, _≤_};
 ghost use lib.ListN.{length};
 
 // How each call is written. A call is known by the number of its row, from 0.
-const CALLS: [u8; 655] = *b"help
+const CALLS: [u8; 696] = *b"help
 check CODE
 parent CODE
 check-name NAME
@@ -38,7 +38,8 @@ coarse [CODE]
 work-out
 counts LENGTH FILL [PLACE N]..
 sums LENGTH FILL [PLACE N]..
-check-cells [CODE]..";
+check-cells [CODE]..
+mend-cells MENDED WORDS REASONS [CODE]..";
 
 // Document 01, 'Refusal numbers': when each is given, from 1.
 const REASONS: [u8; 559] = *b"a degree, as field or argument, is above 24
@@ -171,9 +172,9 @@ fn row_named(table: &[u8], rows: u64, word: &[u8]) -> u64 {
 
 // ---- what is told
 
-// The call that a word names; 35 where it names none.
+// The call that a word names; 36 where it names none.
 pub fn call_named(word: &[u8]) -> u64 {
-    row_named(&CALLS, 35, word)
+    row_named(&CALLS, 36, word)
 }
 
 // The form of a call.

@@ -5,6 +5,7 @@ use mathlib.Core.List.{List, [], _∷_, _++_, map}
 use Prim.Native.Nat.{ℕ, zero, suc, _+_, _-_, _*_, _/_, _%_, _^_, _<_}
 use lib.Dec.{eqb}
 use lib.ListN.{length, getD, take, drop}
+use Rattle.mending.specs.Means.InRows.{joined, joins}
 
 -- ---- ranks and words
 
@@ -14,26 +15,6 @@ Small rs = (i : ℕ) → i < length rs → getD rs i 0 < 2 ^ 59
 -- side, digits and degree of a rank in the places of a word
 unfoldable pub wordAt : ℕ → ℕ
 wordAt r = r / 2 ^ 54 * 2 ^ 59 + r % 32 * 2 ^ 54 + (r % 2 ^ 54 - r % 32)
-
--- ---- joining
-
--- four in a row become one: `row` is the test, `up` of the first of them is what they become
-unfoldable pub joined : (row : ℕ → ℕ → ℕ → ℕ → Bool) (up : ℕ → ℕ) → List ℕ → List ℕ
-joined row up [] = []
-joined row up (a ∷ []) = a ∷ []
-joined row up (a ∷ b ∷ []) = a ∷ b ∷ []
-joined row up (a ∷ b ∷ c ∷ []) = a ∷ b ∷ c ∷ []
-joined row up (a ∷ b ∷ c ∷ e ∷ ws) =
-    cond (row a b c e) (up a ∷ joined row up ws) (a ∷ joined row up (b ∷ c ∷ e ∷ ws))
-
--- and what they became
-unfoldable pub joins : (row : ℕ → ℕ → ℕ → ℕ → Bool) (up : ℕ → ℕ) → List ℕ → List ℕ
-joins row up [] = []
-joins row up (a ∷ []) = []
-joins row up (a ∷ b ∷ []) = []
-joins row up (a ∷ b ∷ c ∷ []) = []
-joins row up (a ∷ b ∷ c ∷ e ∷ ws) =
-    cond (row a b c e) (up a ∷ joins row up ws) (joins row up (b ∷ c ∷ e ∷ ws))
 
 -- ---- by ranks
 

@@ -1,18 +1,18 @@
--- `gridcalls::lists::put_rest` is safe and keeps to its room. The loop's invariant: each entry so far took at most 48
--- bytes, and the buffer has its length. The measure is what is left of the entries. Assumes nothing.
+-- `gridcalls::lists::put_others` is safe and keeps to its room. The loop's invariant: each code so far took at most 48
+-- bytes, and the buffer has its length. The measure is what is left of the codes. Assumes nothing.
 use mathlib.Core.Path.{_≡_}
 use Prim.Native.Nat.{_+_, _*_, _≤_, _-_}
 use lib.ListN.{length}
 use borrow.Author.Needs.{needs}
-use Rattle.gridcalls.proofs.lists.put_rest.Statement.{statement}
-use Rattle.gridcalls.proofs.lists.put_rest.Tie as tie
+use Rattle.gridcalls.proofs.lists.put_others.Statement.{statement}
+use Rattle.gridcalls.proofs.lists.put_others.Tie as tie
 
 abbrev Inv-loop : tie.InvT-loop
-Inv-loop e list from n out₀ at i₀ place₀ out i place =
-    (from ≤ i) × (i ≤ n) × (place ≤ at + 48 * (i - from)) × (length out ≡ length out₀)
+Inv-loop list n out₀ at i₀ place₀ out i place =
+    (1 ≤ i) × (i ≤ n) × (place ≤ at + 48 * (i - 1)) × (length out ≡ length out₀)
 
 abbrev μ-loop : tie.MeasureT-loop
-μ-loop e list from n out₀ at i₀ place₀ out i place = n - i
+μ-loop list n out₀ at i₀ place₀ out i place = n - i
 
 loop-holds : tie.Need-loop-holds Inv-loop μ-loop
 loop-holds c = search needs
@@ -41,8 +41,8 @@ same-length c = search needs
 returns : tie.Need-returns Inv-loop μ-loop
 returns c = search needs
 
-pub put-rest-spec : {M : Type 1} → statement M
-put-rest-spec =
+pub put-others-spec : {M : Type 1} → statement M
+put-others-spec =
     tie.close
     (tie.spec
     Inv-loop

@@ -16,10 +16,12 @@
  *
  *     - The program is for x86-64 Linux: the toolchain makes static libraries for no other processor.
  *     - out points to out_length bytes that may be read and written, or it is any pointer, as NULL, with the length 0;
- *       so does codes with codes_length, and dirs with dirs_length to bytes that may be read. No two of these overlap.
+ *       so do codes, mended, words and reasons, each with its length, and dirs and list to bytes that may be read. No
+ *       two of these overlap.
  *     - Nothing else touches these bytes before the call returns: no other thread and no signal handler, and where they
  *       lie in a mapped file or in shared memory no other process and no other mapping.
- *     - There is room on the stack. No proof speaks of the stack.
+ *     - There is room on the stack: 300 KB for grid_mend_cells, a few KB for any other call. No proof speaks of the
+ *       stack.
  *
  * What the caller may count on. Any numbers may be handed in; what does not fit is refused. A call that refuses writes
  * nothing. A call that answers writes just the bytes that are named at it; the rest of out stays, and a longer out is
@@ -38,8 +40,9 @@ extern "C" {
 #endif
 
 /* What a call returns: 0, or a refusal number of the grid's rules. Where several refusals hold, the first in the order
- * 1, 2, 3, 4, 10, 5, 6, 8, 7, 9, 11 is given; each call below names its own in that order. No call here gives 6 or 11.
- * For 9 the lent list is out, or one of a sweep's, and what it needs stands at each call, in bytes. */
+ * 32, 1, 2, 3, 4, 10, 5, 6, 8, 7, 9, 11 is given: 32 is checked before all others. Each call below names its own in
+ * that order. No call here gives 6 or 11. For 9 the lent list is out, or one of a sweep's or of a cell list's, and what
+ * it needs stands at each call, in bytes. */
 enum grid_refusal {
     /* answered */
     GRID_ANSWERED = 0,
@@ -64,7 +67,9 @@ enum grid_refusal {
     /* a word passes 1 to 4 as a corner name and is not the canonical one */
     GRID_NOT_CANONICAL = 10,
     /* no corner of the degree has the twelve weights */
-    GRID_NO_SUCH_CORNER = 11
+    GRID_NO_SUCH_CORNER = 11,
+    /* a list has more than 4,096 words */
+    GRID_TOO_LONG = 32
 };
 
 /* The least out_length of each call that writes. */
@@ -72,7 +77,9 @@ enum grid_bytes {
     GRID_CROSS_BYTES = 16,
     GRID_FILE_BYTES = 8,
     GRID_LIST_BYTES = 56,
-    GRID_SWEEP_BYTES = 24
+    GRID_SWEEP_BYTES = 24,
+    GRID_CHECK_CELLS_BYTES = 16,
+    GRID_MEND_CELLS_BYTES = 16
 };
 
 /* The number in eight bytes, the most significant first: number k of an answer, from 0, is grid_number(out + 8 * k). */
@@ -125,6 +132,31 @@ uint64_t grid_list(uint64_t degree, int32_t x, int32_t y, int32_t z, uint8_t *ou
  * out_length below GRID_SWEEP_BYTES.) */
 uint64_t grid_sweep(uint64_t degree, const uint8_t *dirs, size_t dirs_length, uint8_t *codes, size_t codes_length,
                     uint8_t *out, size_t out_length);
+
+/* Checks a list of cells: it is accepted where every word is the code of a triangle, the words rise, and none lies
+ * inside another. Codes of any degrees rise by side and then by digits, an ancestor before its descendants. list has
+ * eight bytes for each word, the most significant first; there may be any number of them. A list that is not accepted
+ * is no refusal.
+ *
+ * Writes: 16 bytes: the reason of the first word that offends, and its place, from 0; both are 0 where the list is
+ * accepted. The reason is 1 for a word that is no code, 2 for one that is less than the word before, 3 for one that is
+ * equal to it, 4 for one inside an earlier word; where several hold, the least.
+ * Refusals: 9. (9 where list_length is no multiple of 8, or out_length is below GRID_CHECK_CELLS_BYTES.) */
+uint64_t grid_check_cells(const uint8_t *list, size_t list_length, uint8_t *out, size_t out_length);
+
+/* Mends a list of cells, at most 4,096 words: drops what is no code, repeats, and triangles inside others, puts the
+ * rest in order, and replaces four whole children by their parent as long as any four remain. list is as for
+ * grid_check_cells, which accepts the mended list.
+ *
+ * Writes: 8 bytes of mended for each code of the mended list; for each change 8 bytes of words and 8 of reasons; and 16
+ * bytes of out: how many codes and how many changes. First of the changes comes each word that is dropped, in the order
+ * of the list, with the reason 1 where it is no code, 3 where it is equal to an earlier word, 4 where it is inside
+ * another; where several hold, the least. Then comes each parent that takes its children's place, with the reason 5,
+ * the deepest first and rising within one degree. There are never more codes, nor more changes, than words of list.
+ * Refusals: 32, 9. (32 where list has more than 4,096 whole words; 9 where list_length is no multiple of 8, or
+ * mended_length, words_length or reasons_length is below list_length, or out_length below GRID_MEND_CELLS_BYTES.) */
+uint64_t grid_mend_cells(const uint8_t *list, size_t list_length, uint8_t *mended, size_t mended_length, uint8_t *words,
+                         size_t words_length, uint8_t *reasons, size_t reasons_length, uint8_t *out, size_t out_length);
 
 #ifdef __cplusplus
 }

@@ -2,7 +2,7 @@
 """How ./cells is used and how it ends: its arguments, statuses and messages, and how it builds the program.
 
 As in tests/plot.py a copy of it stands in a checkout of its own, with stand-ins for the toolkit and the program, which
-knows four lists. What ./plot, ./sweep and ./cells share, scripts/programs.sh, is tested there.
+knows some lists. What ./plot, ./sweep and ./cells share, scripts/programs.sh, is tested there.
 
     cells.py                             ./cells with the stand-ins
     cells.py --built                     ./cells itself, with the program that it builds, where no stand-in is needed
@@ -22,23 +22,43 @@ sys.dont_write_bytecode = True
 import standins
 from standins import NO_ERROR, ROOT, Built, end, expect, quietly, run, start, write
 
-GOOD, INSIDE = (ROOT / "examples" / "cells" / name for name in ("good", "inside"))
-USAGE = "cells: write it as ./cells check [-v] [--] FILE ..\n"
+GOOD, INSIDE, DAMAGED = (ROOT / "examples" / "cells" / name for name in ("good", "inside", "damaged"))
+USAGE = "cells: write it as ./cells check [-v] [--] FILE .. or ./cells mend [-n] [--] FILE\n"
 UNWRITTEN = "cells: the lines could not be written\n"
 UNREAD = "cells: the list could not be read\n"
+LOST_LIST = "cells: the list could not be written\n"
 SECOND = "  10012 0x2098000000000000 is inside an earlier one, 1001 0x2050000000000000\n"
+DROPPED = "place 1: 10012 0x2098000000000000 is dropped: inside another word\n"
+COUNTS = "words in {}, words out {}; dropped: invalid 0, equal to an earlier word 0, inside another word {}; merges 0\n"
 EXAMPLE = ROOT / "crates" / "cells_main"
 SEVEN = "\0" * 7
 
-# The program writes what the real one does for the two examples, for seven bytes and for none. `dies` is a way in which
-# that one never ends.
+# The program writes what the real one does for the two examples, for seven bytes and for none. `dies` and `cut` are
+# ways in which that one never ends.
 PROGRAM = r"""#!/usr/bin/env bash
 given=$(od -An -v -tx1 2>/dev/null | tr -d ' \n'; echo "${PIPESTATUS[0]}")
 case $given in
 *[!0]) echo 'cells: the list could not be read' >&2; exit ;;
 esac
-case ${given%0} in
+given=${given%0} inside=0
+case $given in
 64696573) echo 'what it says' >&2; exit 9 ;;
+637574) echo 'place 0: cut' >&2; exit ;;
+esac
+put_list() { printf "$(sed 's/../\\x&/g' <<<"$list")" 2>/dev/null; }
+if [ "${1-}" = mend ]; then
+    list=$given text=
+    case $given in
+    00000000000000) echo 'bad length' >&2; exit ;;
+    20500000000000002098000000000000) list=2050000000000000 inside=1
+        text=$'place 1: 10012 0x2098000000000000 is dropped: inside another word\n' ;;
+    esac
+    [ "${2-}" = -n ] || put_list || { echo 'cells: the list could not be written' >&2; exit; }
+    text+="words in $((${#given} / 16)), words out $((${#list} / 16)); dropped: invalid 0, equal to an earlier word 0"
+    echo "$text, inside another word $inside; merges 0" >&2
+    exit
+fi
+case $given in
 20500000000000002098000000000000) text='place 1 reason 4'
     more='  10012 0x2098000000000000 is inside an earlier one, 1001 0x2050000000000000' ;;
 00000000000000) text='bad length' more='  its length is not a multiple of 8' ;;
@@ -57,7 +77,18 @@ def line_of(path, text):
     return f"{path}: {text}\n"
 
 
-# ---- what ./cells writes, and its statuses
+def mend(place, *words, **how):
+    """The status of ./cells mend, its list, in bytes, and its report."""
+    status, out, err = run(place, "mend", *words, text=False, **how)
+    return status, out, err if err is None else err.decode(errors="replace")
+
+
+def counts(many, left):
+    """The closing line of the report where what is dropped is inside another word."""
+    return COUNTS.format(many, left, many - left)
+
+
+# ---- what ./cells check writes, and its statuses
 
 def test_lists(place):
     # The first may have to build the program.
@@ -113,8 +144,11 @@ def test_descriptors(place):
 
 def test_arguments(place):
     # They are refused before there is a program, or a toolkit for one.
-    for words in ([], [""], ["mend"], ["check", "-x"], ["check", "-v", "-v"], ["check", "--"], ["check", "-v", "--"],
-                  ["-v", "check"], ["check", "-"], ["check", "--help"], [GOOD]):
+    for words in ([], [""], ["amend"], ["check", "-x"], ["check", "-v", "-v"], ["check", "--"], ["check", "-v", "--"],
+                  ["-v", "check"], ["check", "-"], ["check", "--help"], [GOOD], ["check", "-n"], ["mend", "-v"],
+                  ["mend", "-n", "-n"], ["mend", "--"], ["mend", "-n", "--"], ["-n", "mend"], ["mend", "-"],
+                  ["mend", "--help"], ["mend", GOOD, GOOD], ["mend", "-n", GOOD, INSIDE], ["mend", "--", GOOD, GOOD],
+                  ["mend", GOOD, "-n"]):
         got = run(place, *words, given="", env={"PATH": os.defpath})
         expect(f"arguments {words}", got, (2, "", USAGE))
 
@@ -151,30 +185,107 @@ def test_pieces(place):
         expect(f"in pieces of {size} bytes", end(process), (1, b"place 1 reason 4\n", b""))
 
 
+# ---- what ./cells mend writes, and its statuses
+
+def test_mended(place):
+    good, inside = GOOD.read_bytes(), INSIDE.read_bytes()
+    report = DROPPED + counts(2, 1)
+    expect("nothing to mend", mend(place, GOOD), (0, good, counts(4, 4)))
+    expect("mended", mend(place, INSIDE), (0, inside[:8], report))
+    expect("-n", mend(place, "-n", INSIDE), (0, b"", report))
+    expect("mend, standard input", mend(place, given=inside), (0, inside[:8], report))
+    expect("-n, standard input", mend(place, "-n", given=inside), (0, b"", report))
+    with open(INSIDE) as file:
+        expect("mend, /dev/stdin", mend(place, "/dev/stdin", stdin=file), (0, inside[:8], report))
+    expect("mend, nothing on standard input", mend(place, given=b""), (0, b"", counts(0, 0)))
+    for words in [], ["-n"]:
+        expect(f"bad length {words}", mend(place, *words, given=b"\0" * 7), (1, b"", "bad length\n"))
+    expect("mended again", mend(place, given=inside[:8]), (0, inside[:8], counts(1, 1)))
+
+
+def test_names_to_mend(place):
+    with tempfile.TemporaryDirectory() as folder:
+        for name in "-n", "mend", "a b", "*", "-", "--", "é", "a\nb":
+            (pathlib.Path(folder) / name).write_bytes(GOOD.read_bytes())
+            expect(f"to mend, a file {name}", mend(place, "--", name, cwd=folder), (0, GOOD.read_bytes(), counts(4, 4)))
+        expect("-n and a file -n", mend(place, "-n", "--", "-n", cwd=folder), (0, b"", counts(4, 4)))
+        expect("no such file to mend", mend(place, "c\nd", cwd=folder), (3, b"", "cells: $'c\\nd' could not be read\n"))
+        expect("to mend, a folder", mend(place, folder), (3, b"", f"cells: {folder} could not be read\n"))
+    expect("to mend, a file that no read takes from", mend(place, "/proc/self/mem"),
+           (3, b"", "cells: /proc/self/mem could not be read\n"))
+    expect("to mend, standard input is a folder", standins.from_folder(place, "mend"), (3, "", UNREAD))
+    expect("to mend, standard input closed", standins.without_input(place, "mend"), (3, "", UNREAD))
+
+
+def test_lost_list(place):
+    for how, got, wanted in standins.each_lost(place, ["mend", INSIDE], None, LOST_LIST):
+        expect(f"a mended list, {how}", got, wanted)
+    # Nothing of it is to be written.
+    for how, got, (_, *wanted) in standins.each_lost(place, ["mend", "-n", GOOD], None, counts(4, 4)):
+        expect(f"-n, {how}", got, (3 if wanted[-1] is None else 0, *wanted))
+    with open("/dev/full", "w") as full:
+        expect("no word to write, output full", mend(place, given=b"", stdout=full), (0, None, counts(0, 0)))
+        expect("a lost report", mend(place, INSIDE, stderr=full), (3, INSIDE.read_bytes()[:8], None))
+    expect("no standard error", mend(place, INSIDE, **NO_ERROR), (3, INSIDE.read_bytes()[:8], None))
+    reading, writing = os.pipe()
+    os.close(reading)
+    expect("nobody reads the report", mend(place, INSIDE, stderr=writing), (3, INSIDE.read_bytes()[:8], None))
+    os.close(writing)
+
+
+def test_no_output(place):
+    with tempfile.TemporaryDirectory() as folder:
+        path = pathlib.Path(folder) / "list"
+        path.write_bytes(INSIDE.read_bytes())
+        same = "cells: the list cannot be written to the file that it is read from\n"
+        with open(path, "ab") as out:
+            expect("mended over itself", mend(place, path, stdout=out), (2, None, same))
+            with open(path) as file:
+                expect("standard input over itself", mend(place, stdin=file, stdout=out), (2, None, same))
+            expect("-n, over itself", mend(place, "-n", path, stdout=out), (0, None, DROPPED + counts(2, 1)))
+        expect("what stood there", path.read_bytes(), INSIDE.read_bytes())
+    leader, terminal = os.openpty()
+    shown = "standard output is a terminal: write the list to a file, or ask with -n for the report alone"
+    expect("to a terminal", mend(place, INSIDE, stdout=terminal), (2, None, f"cells: {shown}\n"))
+    expect("-n, to a terminal", mend(place, "-n", INSIDE, stdout=terminal), (0, None, DROPPED + counts(2, 1)))
+    os.close(terminal)
+    os.close(leader)
+
+
+# ---- the help
+
+def documented_statuses():
+    """The statuses of docs/CELLS.md: of check, and of mend."""
+    checking, mending = (ROOT / "docs" / "CELLS.md").read_text().split("## The status")[1].split("## Mending")
+    return checking + mending.split("The status is")[1]
+
+
 def test_help(place):
     status, out, err = run(place, "--help")
     expect("--help", (status, out.startswith("./cells check "), err), (0, True, ""))
     expect("-h", run(place, "-h"), (status, out, err))
     expect("--help, input closed", standins.without_input(place, "--help"), (status, out, err))
-    documented = (ROOT / "docs" / "CELLS.md").read_text().split("## The status")[1]
-    statuses, same = (re.findall(r"^    \d    .*$", text, re.M) for text in (out, documented))
-    expect("the statuses of --help", [line.split()[0] for line in statuses], list("01234"))
+    statuses, same = (re.findall(r"^    \d    .*$", text, re.M) for text in (out, documented_statuses()))
+    expect("the statuses of --help", [line.split()[0] for line in statuses], list("0123401234"))
     expect("the statuses of docs/CELLS.md", same, statuses)
     for how, got, wanted in standins.each_lost(place, ["--help"], None, UNWRITTEN):
         expect(f"--help, {how}", got, wanted)
 
 
-def test_checking(place):
+def test_calls(place):
     for test in (test_lists, test_names, test_descriptors, test_arguments, test_unread, test_lost, test_pieces,
-                 test_help):
+                 test_mended, test_names_to_mend, test_lost_list, test_no_output, test_help):
         test(place)
 
 
 # ---- what needs the stand-ins
 
 def test_program_fails(place):
-    expect("a program that dies", run(place, "check", given="dies"),
-           (4, "", "cells: the program could not be run to its end (status 9): what it says\n"))
+    died = "cells: the program could not be run to its end (status 9): what it says\n"
+    expect("a program that dies", run(place, "check", given="dies"), (4, "", died))
+    expect("a program that dies, mending", run(place, "mend", given="dies"), (4, "", died))
+    expect("a report that is cut short", run(place, "mend", given="cut"),
+           (3, "", "cells: the report has no closing line: place 0: cut\n"))
 
 
 def test_toolkit(place):
@@ -203,13 +314,28 @@ def test_build():
 # ---- the examples of docs/CELLS.md, and the cases of tests/second.py
 
 def page_examples(page):
-    """Each call of the page, as words, with what is written."""
-    blocks = re.findall(r"^    \$ \./cells (.*)\n((?:    .*\n)+)", (ROOT / page).read_text(), re.M)
-    return [(words.split(), re.sub(r"^    ", "", text, flags=re.M)) for words, text in blocks]
+    """Each call of the page, as a line for the shell, with what is written."""
+    blocks = re.findall(r"^    \$ (\./cells .*)\n((?:    .*\n)+)", (ROOT / page).read_text(), re.M)
+    return [(line, re.sub(r"^    ", "", text, flags=re.M)) for line, text in blocks]
+
+
+def bytes_of(code):
+    """A code as document 01 writes it, or a word as a number, in eight bytes."""
+    if code.startswith("0x"):
+        return int(code, 16).to_bytes(8, "big")
+    side, digits = 4 * int(code[0]) + int(code[1:3], 2), code[3:]
+    word = side << 59 | len(digits) << 54 | int("0" + digits, 4) << 54 - 2 * len(digits)
+    return word.to_bytes(8, "big")
+
+
+def named_bytes(what):
+    """The list whose words the page names after these words."""
+    named = re.search(rf"{what} ((?:\w+, )*\w+\sand\s\w+)\.", (ROOT / "docs" / "CELLS.md").read_text())[1]
+    return b"".join(map(bytes_of, re.findall(r"\b\d\w*", named)))
 
 
 def test_stored_example():
-    """What `rt ci` holds the program to is an example of the page; that of README.md is another."""
+    """What `rt ci` holds the program to is an example of the page; those of README.md are others."""
     expect("crates/cells_main/stdin", (EXAMPLE / "stdin").read_bytes(), INSIDE.read_bytes())
     stored = (EXAMPLE / "stdout").read_text()
     expect("crates/cells_main/stdout", any(f"examples/cells/inside: {stored}" in text for _, text in
@@ -217,6 +343,7 @@ def test_stored_example():
     for example in page_examples("README.md"):
         expect(f"the example {example} of README.md", example in page_examples("docs/CELLS.md"), True)
     expect("whether README.md has an example", bool(page_examples("README.md")), True)
+    expect("examples/cells/damaged", DAMAGED.read_bytes(), named_bytes("The file has"))
 
 
 def program_words():
@@ -228,41 +355,73 @@ def program_words():
     return told.stdout.splitlines()
 
 
+def test_examples(place):
+    """The calls of the page, one after the other, in a folder where ./cells and the examples stand."""
+    with tempfile.TemporaryDirectory() as name:
+        folder = pathlib.Path(name)
+        for part in "cells", "examples":
+            (folder / part).symlink_to(ROOT / part)
+        for line, text in page_examples("docs/CELLS.md"):
+            _, out, err = quietly(place, "-c", line, script="bash", cwd=folder)
+            expect(f"the example {line}", out + err, text)
+        expect("the mended list of the page", (folder / "mended").read_bytes(), named_bytes("mended list is"))
+
+
+def parts_of(case):
+    """What must be written for a case: its line, the second one, the mended list and the report."""
+    return [case.with_suffix(f".{part}").read_bytes() for part in ("line", "more", "mended", "report")]
+
+
+def test_program(program, case):
+    """The program alone, as ./cells runs it."""
+    line, more, mended, report = parts_of(case)
+    for words, out, err in (([], line, b""), (["-v"], line + more, b""), (["mend"], mended, report),
+                            (["mend", "-n"], b"", report)):
+        with case.open("rb") as file:
+            got = subprocess.run([*program, *words], stdin=file, capture_output=True)
+        expect(f"the program {words} on case {case.stem}", (got.stdout, got.stderr, got.returncode), (out, err, 0))
+
+
+def test_mend_cases(place, cases):
+    """./cells mend on the first case, and the one with the longest report, of each kind."""
+    for kind, status in (b"words in ", 0), (b"bad length", 1), (b"too long", 1):
+        some = [case for case in cases if parts_of(case)[3].splitlines()[-1].startswith(kind)]
+        expect(f"whether a report ends with {kind}", bool(some), True)
+        for case in some[:1] + sorted(some, key=lambda case: len(parts_of(case)[3]))[-1:]:
+            _, _, mended, report = parts_of(case)
+            expect(f"./cells mend on case {case.stem}", mend(place, case), (status, mended, report.decode()))
+
+
 def test_cases(place, folder):
-    for words, text in page_examples("docs/CELLS.md"):
-        got = quietly(place, *words, cwd=ROOT)
-        expect(f"./cells {words}", got[1:], (text, ""))
+    test_examples(place)
     program = program_words()
     cases = sorted(folder.glob("*.bin"))
     expect(f"whether there are cases in {folder}", bool(cases), True)
     all_lines, all_more = "", ""
     for case in cases:
-        line, more = (case.with_suffix(f".{part}").read_text() for part in ("line", "more"))
-        for words, wanted in (([], line), (["-v"], line + more)):
-            with case.open("rb") as file:
-                got = subprocess.run([*program, *words], stdin=file, capture_output=True, text=True)
-            expect(f"the program {words} on case {case.stem}", (got.stdout, got.stderr, got.returncode),
-                   (wanted, "", 0))
+        test_program(program, case)
+        line, more = (part.decode() for part in parts_of(case)[:2])
         all_lines += line_of(case.name, line[:-1])
         all_more += line_of(case.name, line[:-1]) + more
     names = [case.name for case in cases]
     expect("./cells on all cases", run(place, "check", *names, cwd=folder), (1, all_lines, ""))
     expect("./cells -v on all cases", run(place, "check", "-v", *names, cwd=folder), (1, all_more, ""))
+    test_mend_cases(place, cases)
     return len(cases)
 
 
 built = Built("cells")
 if sys.argv[1:2] == ["--cases"] and sys.argv[3:] == ["--built"]:
     compared = test_cases(built, pathlib.Path(sys.argv[2]))
-    right = f"its lines and statuses are those of {compared} cases, and of the examples of docs/CELLS.md"
+    right = f"its lines, mended lists and reports are those of {compared} cases, and of the examples of docs/CELLS.md"
 elif sys.argv[1:] == ["--built"]:
-    test_checking(built)
+    test_calls(built)
     right = "its statuses are as documented"
 elif not sys.argv[1:]:
     faulthandler.dump_traceback_later(300, exit=True)
     test_stored_example()
     with stand_in() as checkout:
-        test_checking(checkout)
+        test_calls(checkout)
         test_program_fails(checkout)
         test_toolkit(checkout)
     test_build()

@@ -3,8 +3,9 @@
 
 Every line of the header is read by one of a few forms, and what fits none is an error. So is an exported function of
 crates/host/src/ that cannot be read. Held together are: the calls' names, their parameters with names, types and order,
-and the type of what is returned; the refusal numbers, each under the sentence that crate texts has for it; the order of
-refusals (frame/specs/Refusals.antt), in which each call names its own.
+and the type of what is returned; the refusal numbers, each under the sentence that crate texts has for it: document
+01's, and of document 02's those that a call names; the order of refusals (frame/specs/Refusals.antt, and what
+host_cells/specs/Refusals.antt puts before it), in which each call names its own.
 
     python3 tests/header.py                         a line for each thing that is wrong; status 1 if there is one
     python3 tests/header.py --seen CALLS ANSWERS    the refusals that each call names, and the bytes that it needs, are
@@ -23,6 +24,7 @@ HEADER = ROOT / "include" / "dogrzewin.h"
 EXPORTS = ROOT / "crates" / "host" / "src"
 REASONS = ROOT / "crates" / "texts" / "src" / "lib.rt"
 ORDER = ROOT / "crates" / "frame" / "specs" / "Refusals.antt"
+FIRST = ROOT / "crates" / "host_cells" / "specs" / "Refusals.antt"
 
 # What a number of Rattle is in C, and what a slice is: a pointer, and then a length.
 NUMBERS = {"u64": "uint64_t", "u32": "uint32_t", "i32": "int32_t"}
@@ -156,14 +158,21 @@ def size_name(call):
 
 # ---- what is wrong
 
-def reasons():
-    """Document 01's sentences, from 1, as the console has them."""
-    table = re.search(r'const REASONS: \[u8; \d+\] = \*b"(.*?)";', REASONS.read_text(), re.S)[1]
-    return dict(enumerate(table.splitlines(), 1))
+def sentences(table, first):
+    """A table of crate texts, by number."""
+    rows_of = re.search(rf'const {table}: \[u8; \d+\] = \*b"(.*?)";', REASONS.read_text(), re.S)[1]
+    return dict(enumerate(rows_of.splitlines(), first))
+
+
+def reasons(given):
+    """Document 01's sentences, from 1, as the console has them, and document 02's of the numbers that are given."""
+    later = sentences("REASONS_FROM_20", 20)
+    return {**sentences("REASONS", 1), **{number: later.get(number) for number in sorted(given) if number >= 20}}
 
 
 def order():
-    return numbers(re.search(r"^order = (.*)$", ORDER.read_text(), re.M)[1])
+    first = re.search(r"firstOf \(((?:\d+ ∷ )+)order\)", FIRST.read_text())[1]
+    return numbers(first) + numbers(re.search(r"^order = (.*)$", ORDER.read_text(), re.M)[1])
 
 
 def in_c(call):
@@ -181,17 +190,17 @@ def wrong_calls(header, functions):
 
 
 def wrong_refusals(header):
-    for number, sentence in {0: "answered", **reasons()}.items():
+    given = {number for listed in header.refusals.values() for number in listed}
+    for number, sentence in {0: "answered", **reasons(given)}.items():
         if header.reasons.get(number) != sentence:
             yield f"the constant of {number} stands under '{header.reasons.get(number)}', not under '{sentence}'"
-    if sorted(header.named) != sorted({0, *reasons()}):
+    if sorted(header.named) != sorted({0, *reasons(given)}):
         yield f"the constants have the numbers {header.named}"
     if header.order != order():
         yield f"the order of refusals is {header.order}"
     for name, listed in header.refusals.items():
         if listed != [number for number in order() if number in listed]:
             yield f"{name} names its refusals in another order: {listed}"
-    given = {number for listed in header.refusals.values() for number in listed}
     if header.unused != [number for number in order() if number not in given]:
         yield f"the refusals that no call gives are said to be {header.unused}"
 
@@ -221,12 +230,19 @@ def lent_lengths(words):
     return lengths
 
 
+def given_length(word):
+    """The length of a slice that is only read."""
+    return 0 if word in ("null", "empty") else len(word) // 2
+
+
 def out_length(words):
-    """The length of a call's out; None where it has none, or where another slice is too short for a sweep."""
+    """The length of a call's out; None where it has none, or where another slice of the call is refused by 9."""
     if words[0] == "sweep":
-        given = 0 if words[2] in ("null", "empty") else len(words[2]) // 2
-        codes, out = lent_lengths(words[3:])
+        given, (codes, out) = given_length(words[2]), lent_lengths(words[3:])
         return out if given % 12 == 0 and 8 * (given // 12) <= codes else None
+    if words[0] in ("check-cells", "mend-cells"):
+        given, (*lists, out) = given_length(words[1]), lent_lengths(words[2:])
+        return out if given % 8 == 0 and all(given <= length for length in lists) else None
     lent = {"cross": 3, "file": 5, "list": 5}.get(words[0])
     return lent_lengths(words[lent:])[0] if lent else None
 
@@ -279,6 +295,7 @@ PLANTED = [
     ("a call that nobody sees", CHECK_NAME, f"#if 0\n{CHECK_NAME}\n#endif"),
     ("a call twice", CHECK_NAME, f"{CHECK_NAME}\n{MORE.replace('more', 'check_name')}"),
     ("a call too many", "#ifdef __cplusplus\n}", f"{MORE}#ifdef __cplusplus\n}}"),
+    ("two of five slices exchanged", "words_length, uint8_t *reasons,", "reasons_length, uint8_t *words,"),
     ("a call that C++ alone sees", 'extern "C" {\n', f'extern "C" {{\n{MORE}'),
     ("a macro in place of a call", "enum grid_bytes", "#define grid_cross grid_step\n\nenum grid_bytes"),
     ("names of C++", 'extern "C" {', "namespace grid {"),
@@ -293,6 +310,12 @@ PLANTED = [
     ("refusals in another order", "Refusals: 1, 2, 3, 4, 10.", "Refusals: 1, 2, 3, 10, 4."),
     ("refusals in another form", "Refusals: 1, 2, 3, 4, 10.", "Refusals: 1 to 4 and 10."),
     ("no refusals", " * Refusals: 1, 2, 3, 4, 10. */", " */"),
+    ("32 not first", "32, 1, 2, 3, 4, 10, 5, 6, 8, 7, 9, 11 is", "1, 2, 3, 4, 10, 5, 6, 8, 7, 9, 11, 32 is"),
+    ("an order without 32", "32, 1, 2, 3, 4, 10, 5, 6, 8, 7, 9, 11 is", "1, 2, 3, 4, 10, 5, 6, 8, 7, 9, 11 is"),
+    ("9 before 32", "Refusals: 32, 9.", "Refusals: 9, 32."),
+    ("a wrong sentence of document 02", "more than 4,096 words */", "more than 4,095 words */"),
+    ("a wrong number of document 02", "GRID_TOO_LONG = 32", "GRID_TOO_LONG = 31"),
+    ("a constant that no call gives", "GRID_TOO_LONG = 32", "GRID_TOO_LONG = 32,\n    GRID_NO_DESK = 24"),
     ("other refusals that no call gives", "gives 6 or 11.", "gives 6."),
     ("a number of bytes missing", "    GRID_FILE_BYTES = 8,\n", ""),
 ]
@@ -304,6 +327,10 @@ PLANTED_FOR_ANSWERS = [
     ("too many bytes", "GRID_LIST_BYTES = 56", "GRID_LIST_BYTES = 57"),
     ("too few bytes", "GRID_CROSS_BYTES = 16", "GRID_CROSS_BYTES = 15"),
     ("too many bytes of a sweep", "GRID_SWEEP_BYTES = 24", "GRID_SWEEP_BYTES = 30"),
+    ("too few bytes of a verdict", "GRID_CHECK_CELLS_BYTES = 16", "GRID_CHECK_CELLS_BYTES = 8"),
+    ("too many bytes of two counts", "GRID_MEND_CELLS_BYTES = 16", "GRID_MEND_CELLS_BYTES = 24"),
+    ("mending without 32", "Refusals: 32, 9.", "Refusals: 9."),
+    ("checking with 32", "Refusals: 9.", "Refusals: 32, 9."),
 ]
 PLANTED_IN_RATTLE = [
     ("a type that C has no name for here", "word: u64", "word: u128"),
@@ -324,6 +351,14 @@ PAIRS = [
     ("sweep 1 empty null 23 0", "9 00"),
     *((f"{call} null", "9") for call in ("cross 0x1 1", "file 1 0 0 1", "list 1 0 0 1", "sweep 1 empty 8 0")),
     ("sweep 1 00 8 0 30 0", "9 00"),
+    ("check-cells empty 16 0", "0 00"),
+    ("check-cells null 15 0", "9 00"),
+    ("check-cells 00 30 0", "9 00"),
+    ("mend-cells empty null null null 16 0", "0 00"),
+    ("mend-cells empty null null null 15 0", "9 00"),
+    ("mend-cells 00 1 0 1 0 1 0 30 0", "9 00"),
+    ("mend-cells 0000000000000000 8 0 8 0 7 0 30 0", "9 00"),
+    (f"mend-cells {'00' * 32776} null null null null", "32"),
 ]
 
 

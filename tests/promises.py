@@ -40,11 +40,12 @@ DOCS = (README, PROMISES, DECISIONS, ARCHITECTURE, "docs/FILING.md", "docs/CONSO
 DOCS += ("docs/PERFORMANCE.md",)
 DEMANDS, MISTAKES = "grid/specs/Demands.antt", "grid/specs/Mistakes.antt"
 CONTRACTS, HOST_CONTRACTS = "crates/grid/specs/Contracts.antt", "crates/contracts/specs/Host.antt"
-HOST_PROMISES = ("host/specs/Promises.antt", "host_sweeps/specs/Promises.antt")
+HOST_PROMISES = ("host/specs/Promises.antt", "host_sweeps/specs/Promises.antt", "host_cells/specs/Promises.antt")
 TABLE_CONTRACTS = "crates/contracts/specs/Soundings.antt"
 TABLE_PROMISES = ("tables/specs/Promises.antt", "coarse/specs/Promises.antt")
 SWEEP_CONTRACTS, SWEEP_PROMISES = "crates/contracts/specs/Sweeps.antt", "sweeps/specs/Promises.antt"
 CELLS_CONTRACTS, CELLS_PROMISES = "crates/contracts/specs/Cells.antt", "cells/specs/Promises.antt"
+MENDING_CONTRACTS, MENDING_PROMISES = "crates/contracts/specs/Mending.antt", "mending/specs/Promises.antt"
 ASKED = "The demands"
 WRONG_ANSWERS = "Wrong answers that are ruled out, as theorems"
 BY_CALL = "Wrong programs and definitions, call by call"
@@ -221,11 +222,22 @@ def of_sweep():
     return re.findall(r"^pub fn (\w+)\([^{]*\n    ensures \{ λ r\. ⌜ \w+Result ", lib, re.MULTILINE)
 
 
+def on_list(crate):
+    """The functions of a crate that others can call on any list of words: nothing is asked of it."""
+    lib = (CRATES / crate / "src/lib.rt").read_text(encoding="utf-8")
+    return re.findall(r"^pub fn (\w+)\(\w+: &\[u64\][^{]*\n    ensures ", lib, re.MULTILINE)
+
+
 @functools.cache
 def of_cells():
-    """The calls on a cell list: the functions that need nothing asked."""
-    lib = (CRATES / "cells/src/lib.rt").read_text(encoding="utf-8")
-    return re.findall(r"^pub fn (\w+)\([^{]*\n    ensures ", lib, re.MULTILINE)
+    """The call that checks a cell list."""
+    return on_list("cells")
+
+
+@functools.cache
+def of_mending():
+    """The call that mends one."""
+    return on_list("mender")
 
 
 @functools.cache
@@ -238,6 +250,7 @@ def contracts():
         (TABLE_CONTRACTS, TABLE_PROMISES, "OneAnswer", of_table()),
         (SWEEP_CONTRACTS, (SWEEP_PROMISES,), "OneAnswer", of_sweep()),
         (CELLS_CONTRACTS, (CELLS_PROMISES,), "OneAnswer", of_cells()),
+        (MENDING_CONTRACTS, (MENDING_PROMISES,), "OneAnswer", of_mending()),
     )
 
 
@@ -381,7 +394,7 @@ class Documents:
 
     def check_promises(self):
         refuted, named, titles = set(), set(), set()
-        of_call = {c: set() for c in calls() + of_table() + of_sweep() + of_cells() + exported()}
+        of_call = {c: set() for c in calls() + of_table() + of_sweep() + of_cells() + of_mending() + exported()}
         for title, rows, other in self.sections(PROMISES):
             titles.add(title)
             width = 3 if title == WRONG_ANSWERS else 2

@@ -37,6 +37,16 @@ first, a middle and the last place. All answers are then compared with the three
 before the place that is answered and not with it. For the program ./cells it writes cases: a file, and the line that
 the program must write for it.
 
+For the mending of request 2026-10 each word of a list is judged by itself, all other words being looked at; and the
+words that are kept are searched for four whole children again and again, until none are found. The console's call is
+made with four children at every degree and in every order; with parts that are divided evenly or along one path, whole
+and with one missing; with nested lists, repeats and words of every damage; and with lent lists of every length about
+the least that is needed. The test bench's calls, of 2026-09 and 2026-10, are lent such slices too, also for the longest
+lists. Each answer is then compared with the request's promises: the intervals of triangles of degree 24 that are
+covered before and after, the checker's answer, the merges undone, and the counts; and the number of words with the
+least that covers as much, over all accepted lists on one side to degree 2. For ./cells each case has the mended list
+and the report too.
+
     second.py CALLS ANSWERS           writes the calls, one a line, and the answers that the console must give to them
     second.py --answer                answers the call lines of standard input, all but help, from no open table on
     second.py --host CALLS ANSWERS    writes the calls of the test bench in C, and the answers that it must give to them
@@ -45,7 +55,9 @@ the program must write for it.
                                       its standard input; and NAME.out, NAME.err and NAME.status, what must be on its
                                       standard output and standard error, neither a terminal, and its exit status
     second.py --cells FOLDER          writes for each case of ./cells NAME.bin, the file; NAME.line, the one line that
-                                      must be written for it; and NAME.more, the second line that -v adds, or nothing
+                                      check must write for it, and NAME.more, the second line that -v adds, or nothing;
+                                      NAME.mended and NAME.report, what mend must write for it to standard output and
+                                      to standard error
 """
 import bisect
 import itertools
@@ -57,7 +69,7 @@ import re
 import struct
 import sys
 from collections import namedtuple
-from functools import lru_cache
+from functools import lru_cache, reduce
 from types import SimpleNamespace
 
 DEEPEST = 24
@@ -553,11 +565,16 @@ REFUSAL_TABLE += """
 | 28 | a list of counts or sums has the wrong length |
 | 29 | the stored count or sum of the parent concerned differs from its children's readings |
 """
+# 2026-10. docs/CONSOLE.md: "A line has no room for a list that is refused by 32."
+REFUSAL_TABLE += """
+| 32 | a list above 4,096 words |
+"""
 REFUSALS = {int(n): text for n, text in re.findall(r"\| (\d+) \| (.*) \|", REFUSAL_TABLE)}
 
 # "Where several hold, the order is", and then of document 02: "They are checked in number order", "The new refusals are
-# checked in number order after 23", "refusal 28, checked after 27", "refusal 29, checked last".
-REFUSAL_ORDER = [1, 2, 3, 4, 10, 5, 6, 8, 7, 9, 11, 20, 21, 22, 23, 24, 25, 26, 27, 28, 29]
+# checked in number order after 23", "refusal 28, checked after 27", "refusal 29, checked last", "refusal 32, checked
+# first".
+REFUSAL_ORDER = [32, 1, 2, 3, 4, 10, 5, 6, 8, 7, 9, 11, 20, 21, 22, 23, 24, 25, 26, 27, 28, 29]
 
 
 def first(refusals):
@@ -790,6 +807,16 @@ def swept(n, directions):
 # "1 invalid, 2 less than the word before, 3 equal to it, 4 inside an earlier one", in the words of docs/CONSOLE.md.
 REASONS = {1: "invalid", 2: "less than the word before", 3: "equal to the word before", 4: "inside an earlier one"}
 Offence = namedtuple("Offence", "place reason")
+MOST_WORDS = 4096
+
+
+def words_of(data):
+    # "Other yards send files of eight-byte codes, most significant byte first."
+    return [word for (word,) in struct.iter_unpack(">Q", data)]
+
+
+def file_of(words):
+    return b"".join(word.to_bytes(8, "big") for word in words)
 
 
 @lru_cache(maxsize=1 << 14)
@@ -829,6 +856,77 @@ def first_offence(words):
         before = word
         earlier.add(path(word))
     return None
+
+
+# ==== Document 02, 2026-10, "Mend it and say what was done"
+
+# "1 invalid, 3 equal to an earlier word, 4 inside another word"; "each merge, as its parent with reason 5".
+DROPS = {1: "invalid", 3: "equal to an earlier word", 4: "inside another word"}
+MERGE = 5
+# The mended list, the places of the dropped words, and the change list, "words in one list and reasons in another".
+Mended = namedtuple("Mended", "codes places words reasons")
+
+
+def many_refusals(many):
+    # "a list above 4,096 words is refusal 32, checked first"
+    return when(32, many > MOST_WORDS)
+
+
+def mend_refusals(words, lent):
+    # "and a result or change list shorter than the input is refusal 9"
+    return many_refusals(len(words)) | when(9, any(len(x) < len(words) for x in lent))
+
+
+def drop_reasons(words):
+    """For each word of the list all that hold of it."""
+    # "drop invalid words, .. drop repeats and triangles inside others". docs/CELLS.md: "equal to an earlier word, kept
+    # or dropped", "inside another word, earlier or later, kept or dropped". An invalid word is no triangle: it is
+    # inside no other, and none is inside it.
+    there = {path(word) for word in words if not code_refusals(word)}
+    found, earlier = [], set()
+    for word in words:
+        invalid = bool(code_refusals(word))
+        inside = not invalid and not there.isdisjoint(paths_above(word))
+        found.append(when(1, invalid) | when(3, word in earlier) | when(4, inside))
+        earlier.add(word)
+    return found
+
+
+def merged(paths):
+    """The paths when no four whole children are among them any more, and those of the parents that took their
+    places."""
+    # "replace four whole children by their parent as long as any four remain"
+    there, parents = set(paths), []
+    while True:
+        # A path of three numbers is a side's, and has no parent.
+        above = {one[:-1] for one in there if len(one) > 3}
+        whole = {parent: {(*parent, digit) for digit in (0, 1, 2, 3)} for parent in above}
+        whole = {parent: four for parent, four in whole.items() if four <= there}
+        if not whole:
+            return there, parents
+        for parent, four in whole.items():
+            there -= four
+            there.add(parent)
+        parents.extend(whole)
+
+
+def codes_at(paths):
+    return [make_code(one[:3], one[3:]) for one in paths]
+
+
+def mend(words):
+    every = drop_reasons(words)
+    # "names first each dropped word in input order: .., the least deciding"
+    dropped = [(place, word, min(some)) for place, (word, some) in enumerate(zip(words, every)) if some]
+    left, parents = merged(path(word) for word, some in zip(words, every) if not some)
+    # "Then each merge, as its parent with reason 5, deepest first and rising within one degree."
+    parents = codes_at(sorted(parents, key=lambda parent: (-len(parent), parent)))
+    return Mended(
+        codes_at(sorted(left)),  # "put the rest in order"
+        [place for place, _, _ in dropped],
+        [word for _, word, _ in dropped] + parents,
+        [reason for _, _, reason in dropped] + [MERGE] * len(parents),
+    )
 
 
 # ==== The console's answers
@@ -1003,6 +1101,22 @@ def call_check_cells(words):
     # "`accepted`, or `place ` P ` reason ` R `: ` and the reason in words". "Nothing is refused."
     found = first_offence(words)
     return cells_text(found) + ("" if found is None else f": {REASONS[found.reason]}")
+
+
+def call_mend_cells(mended, changed, reasons, words):
+    lent = [lent_list(length, 0) for length in (mended, changed, reasons)]
+    no = first(mend_refusals(words, lent))
+    text = refused(no) if no else ""
+    if not no:
+        done = mend(words)
+        text = f"words {len(done.codes)}, changes {len(done.words)}"
+        # "Both counts are answered; later places stay unchanged."
+        for places, numbers in zip(lent, (done.codes, done.words, done.reasons)):
+            places[: len(numbers)] = numbers
+    # "those of the first two as with sweep, those of the reasons in decimal"
+    for places, form in zip(lent, (word_text, word_text, str)):
+        text = with_places(text, len(places), places, form)
+    return text
 
 
 # ==== The console's table: docs/CONSOLE.md, "A table of soundings"
@@ -1185,7 +1299,7 @@ HEX = re.compile("0x([0-9A-Fa-f]{1,16})")
 TRIANGLE = re.compile("[0-7][01][01][0-3]{0,24}")
 WHOLE_NUMBER = re.compile("[0-9]+")
 SIGNED_NUMBER = re.compile("-?[0-9]+")
-MOST_PLACES, MOST_NUMBERS = 16, 48
+MOST_PLACES, MOST_NUMBERS, MOST_LENT = 16, 48, 64
 
 
 class Unreadable(Exception):
@@ -1223,6 +1337,11 @@ def read_places(text):
     return within(read_number(text), 0, MOST_PLACES)
 
 
+def read_lent_length(text):
+    # "MENDED, WORDS and REASONS (0 to 64) are the lengths of the three lent lists"
+    return within(read_number(text), 0, MOST_LENT)
+
+
 def read_owner(text):
     # "an N of at most 255. So is FILL in an owners line"
     return within(read_number(text), 0, 255)
@@ -1231,6 +1350,8 @@ def read_owner(text):
 SIGNED = dict.fromkeys("XYZ", read_signed)
 READERS = {"CODE": read_code, "NAME": read_hex, **SIGNED, "MM": read_signed}
 READERS.update({"PLACES": read_places, "[PLACES]": read_places, "[CODE]": read_code})
+LENT_LISTS = ("MENDED", "WORDS", "REASONS")
+READERS.update(dict.fromkeys(LENT_LISTS, read_lent_length))
 
 ANSWERS = {
     "check CODE": call_check,
@@ -1255,6 +1376,7 @@ ANSWERS = {
     "list DEGREE X Y Z [PLACES]": call_list,
     "sweep DEGREE PLACES [NUMBER]..": call_sweep,
     "check-cells [CODE]..": call_check_cells,
+    "mend-cells MENDED WORDS REASONS [CODE]..": call_mend_cells,
 }
 TABLE_ANSWERS = {
     "table DEGREE [LENGTH FILL [PLACE VALUE]..]": call_table,
@@ -1325,7 +1447,8 @@ def read_arguments(kinds, given):
         within(len(given), 2, 2 + MOST_NUMBERS)
         return [read_number(given[0]), read_places(given[1]), [read_signed(x) for x in given[2:]]]
     if last == "[CODE]..":  # "(as many as the line has room for)"
-        return [[read_code(x) for x in given]]
+        many = len(kinds) - 1
+        return read_arguments(kinds[:-1], given[:many]) + [[read_code(x) for x in given[many:]]]
     within(len(given), len(kinds) - (last in ("[PLACES]", "[CODE]")), len(kinds))
     return [READERS.get(kind, read_number)(x) for kind, x in zip(kinds, given)]
 
@@ -1550,6 +1673,8 @@ def internal_checks():
     check_sweep_lines()
     check_cell_order()
     check_cell_lines()
+    check_mend_lines()
+    check_least()
 
 
 # ==== Internal checks of what file and list are answered to degree 5
@@ -2177,6 +2302,8 @@ BAD_SIGNED = """
 BAD_PLACES = "17 18446744073709551615 18446744073709551616 -1 six 0x11 0x 12.0".split()
 BAD = {"CODE": BAD_CODES, "NAME": BAD_NAMES, "X": BAD_SIGNED, "Y": BAD_SIGNED, "Z": BAD_SIGNED, "[PLACES]": BAD_PLACES}
 BAD.update({"PLACES": BAD_PLACES, "[NUMBER]..": BAD_SIGNED, "[CODE]..": BAD_CODES})
+BAD_LENT = BAD_NUMBERS + "65 100 256 257 320 4294967297 18446744073709551615 0x41 0x100 00065 six - #".split()
+BAD.update(dict.fromkeys(LENT_LISTS, BAD_LENT))
 ONE_TOO_MANY = {"WEIGHTS": ["0"] * 5, "[NUMBER]..": ["0"] * 46}
 
 
@@ -2202,7 +2329,7 @@ UNREADABLE_AND_REFUSED = """
 def unreadable_calls():
     """Every call with arguments missing, one too many, and each argument unreadable."""
     chance = random.Random(9)
-    with_all = ("check", "check-name", "child", "file", "list", "ring", "sweep", "check-cells")
+    with_all = ("check", "check-name", "child", "file", "list", "ring", "sweep", "check-cells", "mend-cells")
     for call, (_, kinds, _) in GRID_FORMS.items():
         good = good_arguments(kinds)
         least = len(kinds) - (kinds[-1] in ("[PLACES]", "WEIGHTS", "[NUMBER]..", "[CODE].."))
@@ -2227,6 +2354,9 @@ UNKNOWN = """
     check-cell 100; check_cells 100; checkcells 100; Check-cells 100; CHECK-CELLS 100; check-Cells; cells; cells check
     cells 100; ./cells check; check-cells: 100; check-cells, 100; check-cells100; check-cellss; check-; -cells 100
     check-cells\u00a0100; check-list 100; check-cells-100; check-cells#
+    mend-cell 1 1 1 100; mend_cells 1 1 1; mendcells 1 1 1; Mend-cells 1 1 1; MEND-CELLS 1 1 1; mend-Cells; mend; mend-
+    cells mend; ./cells mend; mend 1 1 1 100; mend-cells: 1 1 1; mend-cells1 1 1; mend-cellss 1 1 1; -mend-cells 1 1 1
+    mend-cells\u00a01 1 1; mend-cells#; mend-list 1 1 1 100; mend-cells-1 1 1
     drawn-name 100 1; exact-name 100 1; name-; -name; name-name 1; check#; check, 100; chéck 100; check\u00a0100
     \u2003check 100; \ufeffcheck 100; φ
 """
@@ -2239,6 +2369,7 @@ def unknown_calls():
     yield from ["\x7f", "\xff\xfe", "\x80check 100", "check 100\x0b", "check \x0c100", "check 100\x00"]
     yield from ["file 0 1 1 1\x0c", "child 100 \x001", "sweep\x002 1", "sweep\x0b2 1"]
     yield from ["check-cells\x0b100", "check-cells\x00", "\x0ccheck-cells 100", "check-cells\xff"]
+    yield from ["mend-cells\x0b1 1 1", "mend-cells\x00 1 1 1", "\x0cmend-cells 1 1 1", "mend-cells\xff"]
     yield as_bytes("check 100\u00a0")
 
 
@@ -4754,10 +4885,14 @@ def every_digit():
                 yield cells_line(chance, [make_code(side, digits + end) for end in ends])
 
 
+def every_three():
+    """Every list of three of the codes in the picture of docs/CELLS.md and an invalid word."""
+    return itertools.product("100 1000 10003 1001 10012 1003 101 0x0".split(), repeat=3)
+
+
 def every_few():
-    """Every list of three of the codes in the picture of docs/CELLS.md and an invalid word; and every list of four of
-    five codes."""
-    for some in itertools.product("100 1000 10003 1001 10012 1003 101 0x0".split(), repeat=3):
+    """These; and every list of four of five codes."""
+    for some in every_three():
         yield "check-cells " + " ".join(some)
     for some in itertools.product("100 1000 10003 1001 101".split(), repeat=4):
         yield "check-cells " + " ".join(some)
@@ -5024,6 +5159,13 @@ def long_cell_lists(chance):
     yield from (good_list(chance, 150, deepest) for deepest in (3, 5, 9))
 
 
+def one_word_often(line, text):
+    """As often as the line has room, and once more; and filled up to 1000 bytes, and to 1001."""
+    while len(line) + 1 + len(text) <= 1000:
+        line += " " + text
+    return [line, line + " " + text, filled(line, 1000, "\t"), filled(line, 1001)]
+
+
 def long_cells():
     """Filled up with spaces to 1000 bytes, and to 1001. Damaged close to the end and at the beginning. And one word as
     often as the line has room."""
@@ -5037,10 +5179,7 @@ def long_cells():
             if done is not None:
                 yield shortest_line(done[0])
     for text in ("100", "511333333333333333333333333", "0x0", "0x2000000000000000", "0xffffffffffffffff"):
-        line = "check-cells"
-        while len(line) + 1 + len(text) <= 1000:
-            line += " " + text
-        yield from [line, line + " " + text, filled(line, 1000, "\t"), filled(line, 1001)]
+        yield from one_word_often("check-cells", text)
 
 
 UNREADABLE_CELLS = """
@@ -5129,7 +5268,11 @@ def aligned(code):
 @lru_cache(maxsize=1 << 14)
 def climbed(code):
     """Its parent, the parent's parent, and so on."""
-    return (parent_code(code), *climbed(parent_code(code))) if degree_of(code) > 0 else ()
+    found = []
+    while degree_of(code) > 0:
+        code = parent_code(code)
+        found.append(code)
+    return tuple(found)
 
 
 def is_inside(code, other):
@@ -5288,15 +5431,712 @@ def check_cell_lines():
         must(answer(line) == "error: write it as check-cells [CODE]..", "unreadable", line)
 
 
+# ==== The calls: lists to be mended, examples with the answers written out by hand
+
+# After the arrow the two counts, and the places of the three lists: a code as document 01 writes it, a word, or a
+# number. 3..13 are the numbers from 3 to 13.
+MEND_TEXT = """
+    mend-cells 5 5 5 1003 1001 1000 1002 1003 -> 1 2 | 100 2..5 | 1003 100 3 4 5 | 3 5 3 4 5
+    mend-cells 0 0 0 -> 0 0 | | |
+    mend-cells 1 0 1 100 -> SHORT | 1 | | 1
+    mend-cells 0 1 1 100 -> SHORT | | 1 | 1
+    mend-cells 1 1 0 100 -> SHORT | 1 | 1 |
+    mend-cells 0 0 0 0x0 -> SHORT | | |
+    mend-cells 0 0 0 100 -> SHORT | | |
+    mend-cells 64 64 64 -> 0 0 | 1..64 | 1..64 | 1..64
+    mend-cells 1 1 1 100 -> 1 0 | 100 | 1 | 1
+    mend-cells 3 2 1 100 -> 1 0 | 100 2 3 | 1 2 | 1
+    mend-cells 1 2 3 511333333333333333333333333 -> 1 0 | 511333333333333333333333333 | 1 2 | 1 2 3
+    mend-cells 1 1 1 0x0 -> 0 1 | 1 | 0x0 | 1
+    mend-cells 2 2 2 0x0 0x0 -> 0 2 | 1 2 | 0x0 0x0 | 1 1
+    mend-cells 3 4 5 600 600 000 -> 0 3 | 1 2 3 | 0xC000000000000000 0xC000000000000000 0x0 4 | 1 1 1 4 5
+    mend-cells 4 4 4 0x2640000000000000 0xFFFFFFFFFFFFFFFF 0x2010000000000000 0x2000000000000040 -> 0 4 | 1..4
+        | 0x2640000000000000 0xFFFFFFFFFFFFFFFF 0x2010000000000000 0x2000000000000040 | 1 1 1 1
+    mend-cells 2 2 2 101 100 -> 2 0 | 100 101 | 1 2 | 1 2
+    mend-cells 2 2 2 1001 10003 -> 2 0 | 10003 1001 | 1 2 | 1 2
+    mend-cells 2 2 2 10003 1001 -> 2 0 | 10003 1001 | 1 2 | 1 2
+    mend-cells 3 3 3 511 1013 10103 -> 3 0 | 10103 1013 511 | 1 2 3 | 1 2 3
+    mend-cells 2 2 2 100 100 -> 1 1 | 100 2 | 100 2 | 3 2
+    mend-cells 3 3 3 100 0x2000000000000000 100 -> 1 2 | 100 2 3 | 100 100 3 | 3 3 3
+    mend-cells 2 2 2 100 1003 -> 1 1 | 100 2 | 1003 2 | 4 2
+    mend-cells 2 2 2 1003 100 -> 1 1 | 100 2 | 1003 2 | 4 2
+    mend-cells 2 2 2 100333333333333333333333333 100 -> 1 1 | 100 2 | 100333333333333333333333333 2 | 4 2
+    mend-cells 3 3 3 1003 1003 100 -> 1 2 | 100 2 3 | 1003 1003 3 | 4 3 3
+    mend-cells 3 3 3 1003 100 1003 -> 1 2 | 100 2 3 | 1003 1003 3 | 4 3 3
+    mend-cells 3 3 3 100 1003 1003 -> 1 2 | 100 2 3 | 1003 1003 3 | 4 3 3
+    mend-cells 3 3 3 10003 1000 100 -> 1 2 | 100 2 3 | 10003 1000 3 | 4 4 3
+    mend-cells 3 3 3 100 1000 10003 -> 1 2 | 100 2 3 | 1000 10003 3 | 4 4 3
+    mend-cells 3 3 3 10003 10003 1000 -> 1 2 | 1000 2 3 | 10003 10003 3 | 4 3 3
+    mend-cells 3 3 3 0x2000000000000001 1003 0x2000000000000001 -> 1 2 | 1003 2 3
+        | 0x2000000000000001 0x2000000000000001 3 | 1 1 3
+    mend-cells 4 4 4 1000 1001 1002 1003 -> 1 1 | 100 2 3 4 | 100 2 3 4 | 5 2 3 4
+    mend-cells 4 4 4 1003 1002 1001 1000 -> 1 1 | 100 2 3 4 | 100 2 3 4 | 5 2 3 4
+    mend-cells 4 5 6 1002 1000 1003 1001 -> 1 1 | 100 2 3 4 | 100 2 3 4 5 | 5 2 3 4 5 6
+    mend-cells 4 4 3 1000 1001 1002 1003 -> SHORT | 1 2 3 4 | 1 2 3 4 | 1 2 3
+    mend-cells 1 1 1 1000 1001 1002 1003 -> SHORT | 1 | 1 | 1
+    mend-cells 3 3 3 1000 1001 1002 -> 3 0 | 1000 1001 1002 | 1 2 3 | 1 2 3
+    mend-cells 4 4 4 1000 1001 1002 1013 -> 4 0 | 1000 1001 1002 1013 | 1..4 | 1..4
+    mend-cells 4 4 4 1000 1001 1002 1002 -> 3 1 | 1000 1001 1002 4 | 1002 2 3 4 | 3 2 3 4
+    mend-cells 4 4 4 1000 1001 1002 0x2070000000000001 -> 3 1 | 1000 1001 1002 4 | 0x2070000000000001 2 3 4 | 1 2 3 4
+    mend-cells 4 4 4 100 101 110 111 -> 4 0 | 100 101 110 111 | 1..4 | 1..4
+    mend-cells 5 5 5 100 1000 1001 1002 1003 -> 1 4 | 100 2..5 | 1000 1001 1002 1003 5 | 4 4 4 4 5
+    mend-cells 5 5 5 1000 1001 1002 1003 100 -> 1 4 | 100 2..5 | 1000 1001 1002 1003 5 | 4 4 4 4 5
+    mend-cells 5 5 5 1000 1001 1002 1003 0x2000000000000001 -> 1 2 | 100 2..5 | 0x2000000000000001 100 3 4 5 | 1 5 3 4 5
+    mend-cells 5 5 5 1000 1001 1002 1003 10003 -> 1 2 | 100 2..5 | 10003 100 3 4 5 | 4 5 3 4 5
+    mend-cells 5 5 5 1000 1001 1002 1003 101 -> 2 1 | 100 101 3 4 5 | 100 2..5 | 5 2..5
+    mend-cells 6 6 6 1000 1001 1002 10030 10031 10032 -> 6 0 | 1000 1001 1002 10030 10031 10032 | 1..6 | 1..6
+    mend-cells 7 7 7 1000 1001 1002 10030 10031 10032 10033 -> 1 2 | 100 2..7 | 1003 100 3..7 | 5 5 3..7
+    mend-cells 7 7 7 10003 1003 10001 1001 10002 1002 10000 -> 1 2 | 100 2..7 | 1000 100 3..7 | 5 5 3..7
+    mend-cells 8 8 8 1000 1000 1001 1001 1002 1002 1003 1003 -> 1 5 | 100 2..8 | 1000 1001 1002 1003 100 6 7 8
+        | 3 3 3 3 5 6 7 8
+    mend-cells 8 8 8 2013 2012 2011 2010 1003 1002 1001 1000 -> 2 2 | 100 201 3..8 | 100 201 3..8 | 5 5 3..8
+    mend-cells 8 8 8 1000 1001 1002 1003 51100 51101 51102 51103 -> 2 2 | 100 5110 3..8 | 5110 100 3..8 | 5 5 3..8
+    mend-cells 8 8 8 51100 51101 51102 51103 1000 1001 1002 1003 -> 2 2 | 100 5110 3..8 | 5110 100 3..8 | 5 5 3..8
+    mend-cells 8 8 8 10000 10001 10002 10003 10010 10011 10012 10013 -> 2 2 | 1000 1001 3..8 | 1000 1001 3..8 | 5 5 3..8
+    mend-cells 4 4 4 100111111111111111111111112 100111111111111111111111110 100111111111111111111111113
+        100111111111111111111111111 -> 1 1 | 10011111111111111111111111 2..4 | 10011111111111111111111111 2..4 | 5 2..4
+    mend-cells 13 13 13 511 10012 1001 0x0 10023 10012 1000 10020 1001 0x2010000000000000 10022 1003 10021 -> 2 7
+        | 100 511 3..13 | 10012 0x0 10012 1001 0x2010000000000000 1002 100 8..13 | 4 1 3 3 1 5 5 8..13
+"""
+
+
+def blocks(text):
+    """The entries of a text, each with its lines in one: those that are set in belong to the one before."""
+    return [" ".join(entry.split()) for entry in re.split(r"\n    (?! )", text.strip("\n "))]
+
+
+def mend_place(text):
+    """A place's number, or all the numbers from one to another."""
+    least, dots, most = text.partition("..")
+    if dots:
+        return list(range(int(least), int(most) + 1))
+    return [read_code(text) if len(text) > 2 else int(text)]
+
+
+def mend_example(entry):
+    """A line, and its answer with each place as it is shown."""
+    call, text = entry.split(" -> ")
+    told, *lists = (x.strip() for x in text.split("|"))
+    answered = SHORT if told == "SHORT" else "words {}, changes {}".format(*told.split())
+    for places, form in zip(lists, (word_text, word_text, str)):
+        answered += " |" + "".join(" " + form(x) for place in places.split() for x in mend_place(place))
+    return call, answered
+
+
+# The examples of docs/CONSOLE.md and the one of docs/CELLS.md are among them.
+MEND_EXAMPLES = dict(map(mend_example, blocks(MEND_TEXT)))
+
+
+# ==== The calls: lists to be mended, of every kind
+
+# Each kind makes lists of words, most of which have room in a line.
+
+
+def shuffled(chance, words):
+    return chance.sample(words, len(words))
+
+
+def all_below(code, n):
+    """All triangles of degree n in the code's."""
+    return [x for x in walk(code, n) if degree_of(x) == n]
+
+
+def four_in_order(chance):
+    """Four children, of a parent of every degree, in every order."""
+    for n, order in itertools.product(range(DEEPEST), itertools.permutations((0, 1, 2, 3))):
+        code = random_code(chance, n)
+        yield [child_code(code, digit) for digit in order]
+
+
+def close_to_four(chance):
+    """Each three of four children alone; and with the fourth twice; with a second one of the three, the parent, or a
+    child of another parent in its place; with the fourth and a triangle above it; with all its children or three of
+    them in its place; and with it and a triangle inside it."""
+    for n, digit in itertools.product(range(DEEPEST), (0, 1, 2, 3)):
+        code = random_code(chance, n)
+        fourth = child_code(code, digit)
+        three = [x for x in child_codes(code) if x != fourth]
+        more = [[], [fourth, fourth], [chance.choice(three)], [code], [fourth, ancestor(chance, fourth)]]
+        more.append([child_code(random_code(chance, n), digit)])
+        if degree_of(fourth) < DEEPEST:
+            inner = child_codes(fourth)
+            more += [inner, chance.sample(inner, 3), [fourth, descendant(chance, fourth)]]
+        yield from (shuffled(chance, three + some) for some in more)
+
+
+def whole_parts(chance):
+    """All triangles of one degree in a triangle, two or three degrees down; with one missing; with one twice. All
+    sides, which are never merged, and all triangles of degree 1 on some sides."""
+    for n in range(DEEPEST - 1):
+        for down in (2, 2, 3) if n <= 8 else (2, 2):
+            words = all_below(random_code(chance, n), n + down)
+            place = chance.randrange(len(words))
+            yield from (words, words[::-1], shuffled(chance, words))
+            yield shuffled(chance, words[:place] + words[place + 1 :])
+            yield shuffled(chance, words + [words[place]])
+    for many in (1, 3, 4, 16, 20):
+        sides = chance.sample(codes_of(0), many)
+        yield sides
+        yield shuffled(chance, flat(map(child_codes, sides)))
+
+
+def cascades(chance):
+    """What is one triangle together, divided along one path: from every degree to every deeper one. And with one
+    missing, at any of the degrees, so that merging stops below it."""
+    for n, deepest in itertools.combinations(range(DEEPEST + 1), 2):
+        words = covering(chance, random_code(chance, n), deepest)
+        place = chance.randrange(len(words))
+        yield shuffled(chance, words)
+        yield shuffled(chance, words[:place] + words[place + 1 :])
+
+
+def divided(chance, code, many):
+    """At most so many triangles that together are the code's: one of them is divided again and again, any or the last
+    one."""
+    found = [code]
+    while len(found) + 3 <= many:
+        some = [place for place, x in enumerate(found) if degree_of(x) < DEEPEST]
+        if not some:
+            break
+        found += shuffled(chance, child_codes(found.pop(chance.choice([some[-1], chance.choice(some)]))))
+    return found
+
+
+def spoiled(chance, codes, times):
+    """So many times one of the codes is left out, or repeated, or one inside it or above it, an invalid word or any
+    triangle comes in addition; and shuffled."""
+    words = list(codes)
+    for _ in range(times):
+        code = chance.choice(codes)
+        some = [code, random_code(chance, chance.randint(0, DEEPEST)), invalid_word(chance, code)]
+        some += [descendant(chance, code)] if degree_of(code) < DEEPEST else []
+        some += [ancestor(chance, code)] if degree_of(code) > 0 else []
+        if chance.randrange(6):
+            words.append(chance.choice(some))
+        elif code in words:
+            words.remove(code)
+    return shuffled(chance, words)
+
+
+def divided_parts(chance):
+    """One to three parts, each divided again and again; and then spoiled, or not."""
+    for at in range(1300):
+        n = chance.randrange(DEEPEST)
+        many = chance.choice([4, 7, 10, 13, 16, 22] if at % 3 else [31, 40, 52, 64])
+        code = random_code(chance, n)
+        tops = chance.choice([[code], [code, random_code(chance, n)], chance.sample(child_codes(code), 3)])
+        codes = flat(divided(chance, top, many // len(tops)) for top in tops)
+        yield spoiled(chance, codes, chance.choice([0, 0, 1, 1, 2, 3, 8]))
+
+
+def nested_parts(chance):
+    """All triangles on a path from a side down: rising, falling, shuffled, and some of them, repeated. A triangle and
+    all inside it two degrees down; all but itself; and any of these, repeated."""
+    for n in range(1, DEEPEST + 1):
+        code = random_code(chance, n)
+        down = [*climbed(code)[::-1], code]
+        yield from (down, down[::-1], shuffled(chance, down), chance.choices(down, k=chance.randint(2, n + 3)))
+    for n in range(DEEPEST - 1):
+        tree = walk(random_code(chance, n), n + 2)
+        yield from (tree, tree[::-1], shuffled(chance, tree), shuffled(chance, tree[1:]))
+        yield from (chance.choices(tree[chance.randrange(2) :], k=chance.randint(2, 30)) for _ in range(24))
+        yield from (chance.choices(tree[1:], k=chance.randint(24, 48)) for _ in range(6))
+
+
+def damaged_parts(chance):
+    """Each value that a field must not have: in a word among the sisters of the triangle that it damages, above the
+    triangle's children or a triangle inside it, and beside the triangle itself, twice."""
+    for n in (0, 1, 5, 12, 23, 24):
+        code = random_code(chance, n)
+        for word in damaged_fields(code):
+            ways = [[word, code, word]]
+            if n > 0:
+                ways.append([word, *(x for x in child_codes(parent_code(code)) if x != code)])
+            if n < DEEPEST:
+                ways += [[word, *child_codes(code)], [word, descendant(chance, code)]]
+            yield from (shuffled(chance, some) for some in chance.sample(ways, 2))
+
+
+def any_parts(chance):
+    """Triangles of any degree anywhere; of low degrees on one side or two; good lists that are damaged in some ways;
+    and any words."""
+    for _ in range(150):
+        yield [random_code(chance, chance.randint(0, DEEPEST)) for _ in range(chance.randint(1, 30))]
+    for at in range(300):
+        every = flat(walk(side, 2 + at % 2) for side in chance.sample(codes_of(0), chance.randint(1, 2)))
+        yield chance.choices(every, k=chance.randint(2, 60))
+    for at in range(200):
+        words = good_list(chance, chance.randint(2, 24), chance.randint(2, DEEPEST))
+        yield shuffled(chance, damaged_often(chance, words, at % 6))
+    for _ in range(60):
+        yield [chance.getrandbits(64) for _ in range(chance.randint(1, 30))]
+
+
+MEND_KINDS = {
+    "four children in every order": four_in_order,
+    "close to four children": close_to_four,
+    "all triangles of one degree in a part": whole_parts,
+    "parts divided along one path": cascades,
+    "parts divided again and again": divided_parts,
+    "nested lists": nested_parts,
+    "words of damaged fields": damaged_parts,
+    "any lists": any_parts,
+}
+
+
+# ==== The calls: lists to be mended, with lent lists of every length
+
+
+def least_form(word):
+    return min(shortest_form(word), f"0x{word:x}", key=len)
+
+
+def mend_start(lengths):
+    return " ".join(map(str, ["mend-cells", *lengths]))
+
+
+def has_room(words):
+    """In a line, and the lent lists can be long enough."""
+    line = " ".join([mend_start([MOST_LENT] * 3), *map(least_form, words)])
+    return len(words) <= MOST_LENT and len(line) <= 1000
+
+
+def mend_line(chance, words, lengths=None):
+    """With just as many places in each lent list as are needed, or more, if not given."""
+    if lengths is None:
+        many = len(words)
+        lengths = [chance.choice([many, many, chance.randint(many, MOST_LENT)]) for _ in LENT_LISTS]
+    line = " ".join([mend_start(lengths), *(cell_form(chance, word) for word in words)])
+    return line if len(line) <= 1000 else " ".join([mend_start(lengths), *map(least_form, words)])
+
+
+def mend_lines(kind, seed):
+    """What makes the lines of one kind of lists."""
+
+    def make():
+        chance = random.Random(seed)
+        return (mend_line(chance, words) for words in kind(chance) if has_room(words))
+
+    return make
+
+
+def mended_few():
+    """Every list of three as for check-cells; and every list of four of a triangle and its children."""
+    chance = random.Random(101)
+    for some in [*every_three(), *itertools.product("100 1000 1001 1002 1003".split(), repeat=4)]:
+        yield mend_line(chance, list(map(read_code, some)))
+
+
+def one_short(many, places):
+    """The lent lists at these places have one place less than is needed, the others just enough."""
+    return [many - (place in places) for place in range(3)]
+
+
+def mend_lengths():
+    """Lists of every length to 64: with just enough places; with one or more of the three lent lists shorter by one,
+    and by more; with each of them longer. For a few lists every length about the least with every other."""
+    chance = random.Random(102)
+    for many in range(MOST_LENT + 1):
+        words = chance.choices(walk_all(2), k=many)
+        longer = [[many] * place + [length] + [many] * (2 - place) for place in range(3) for length in (many + 1, 64)]
+        found = [[many] * 3, [MOST_LENT] * 3, *(x for x in longer if max(x) <= MOST_LENT)]
+        for places in filter(None, powers(range(3)) if many else ()):
+            found.append(one_short(many, places))
+            found.append([x if x == many else chance.randrange(many) for x in one_short(many, places)])
+        yield from (mend_line(chance, words, lengths) for lengths in found)
+    for words in ([], ["100"], ["0x0"], "1000 1001 1002 1003".split()):
+        lengths = {0, len(words) - 1, len(words), len(words) + 1, MOST_LENT} - {-1}
+        for some in itertools.product(sorted(lengths), repeat=3):
+            yield mend_line(chance, list(map(read_code, words)), some)
+
+
+# ==== The calls: lists to be mended as long as a line, lines that cannot be read, and lines that can, just
+
+
+def cut_to_room(words):
+    while not has_room(words):
+        words = words[:-1]
+    return words
+
+
+def long_mends():
+    """Good lists that fill a line, and such that are divided and nested: shuffled, filled up with spaces to 1000 bytes,
+    and to 1001. And more words than a lent list can be long for, up to as many as the line has room for."""
+    chance = random.Random(103)
+    trees = [walk(codes_of(0)[4], 3), all_below(codes_of(0)[9], 3), divided(chance, codes_of(0)[11], 64)]
+    for words in [*long_cell_lists(chance), *trees]:
+        few = cut_to_room(shuffled(chance, words))
+        line = " ".join([mend_start([len(few), MOST_LENT, len(few)]), *map(least_form, few)])
+        yield from (filled(line, length) for length in (1000, 1001))
+    for many in (65, 66, 80, 127, 128, 129, 200):
+        for text in ("100", "0x0"):
+            yield " ".join([mend_start([MOST_LENT] * 3), *[text] * many])
+    for text in ("100", "0x0", "511333333333333333333333333", "0xffffffffffffffff"):
+        yield from one_word_often(mend_start([MOST_LENT] * 3), text)
+
+
+UNREADABLE_MENDS = """
+    mend-cells; mend-cells 1; mend-cells 1 1; mend-cells 100; mend-cells 100 101; mend-cells 100 101 110 111
+    mend-cells 1 1 100; mend-cells 1 100 100; mend-cells 1000 1001 1002 1003; mend-cells 65 1 1 100
+    mend-cells 1 65 1 100; mend-cells 1 1 65 100; mend-cells 65 65 65; mend-cells 65 0 0 100; mend-cells 0 65 0 x
+    mend-cells 0x41 1 1 100; mend-cells 1 0x41 1 100; mend-cells 1 1 0x0000000000000041 100; mend-cells 00065 1 1 100
+    mend-cells -1 1 1 100; mend-cells 1 -1 1 100; mend-cells 1 1 -1 100; mend-cells -0 1 1 100; mend-cells 1 1 -0 100
+    mend-cells +1 1 1 100; mend-cells 1.0 1 1 100; mend-cells 1, 1, 1 100; mend-cells 1,1,1 100; mend-cells x 1 1 100
+    mend-cells 1 x 1 100; mend-cells 1 1 x 100; mend-cells 1 1 1 x; mend-cells 1 1 1 1; mend-cells 1 1 1 10
+    mend-cells 256 1 1 100; mend-cells 1 320 1 100; mend-cells 1 1 4294967297 100; mend-cells 18446744073709551615 1 1
+    mend-cells 1 18446744073709551616 1 100; mend-cells 1 1 18446744073709551617 100; mend-cells 4096 4096 4096 100
+    mend-cells 1 1 1 0; mend-cells 1 1 1 100 10; mend-cells 2 2 2 100 x 101; mend-cells 2 2 2 x 100 101
+    mend-cells 2 2 2 100 101 x; mend-cells 0 0 0 100 x; mend-cells 1 1 1 0x0 x; mend-cells 2 2 2 1001 1001 1004
+    mend-cells 1 1 1 100,101; mend-cells 2 2 2 100, 101; mend-cells 1 1 1 100.; mend-cells 1 1 1 [100]
+    mend-cells 1 1 1 100 # note; mend-cells 1 1 1 # 100; mend-cells #; mend-cells 1 1 #; mend-cells 1 1 1 #101
+    mend-cells MENDED WORDS REASONS; mend-cells 1 1 1 CODE; mend-cells 1 1 1 [CODE]..; mend-cells 1 1 1 100 ..
+    mend-cells -n 1 1 1 100; mend-cells 1 1 1 -n; mend-cells 1 1 1 -n 100; mend-cells 1 1 1 --; mend-cells -- 1 1 1
+    mend-cells 1 1 1 -100; mend-cells examples/cells/damaged; mend-cells 1 1 1 mend-cells; mend-cells mend-cells 1 1 1
+    mend-cells 1 1 1 | 100; mend-cells 1 | 1 | 1 | 100; mend-cells 1 1 1 0x; mend-cells 1 1 1 100 0x
+    mend-cells 1 1 1 0x20000000000000000; mend-cells 0x 0x 0x 100; mend-cells 1 1 1 0X2000000000000000
+    mend-cells 1 1 1 2050000000000000; mend-cells 1 1 1 0x200000000000000g; mend-cells 1 1 1 1O1
+    mend-cells 1 1 1 1000000000000000000000000000; mend-cells 1 1 1 "100"; mend-cells 1 1 1 100\u00a0101
+    mend-cells 1\u00a01 1 1 100; mend-cells ١ 1 1 100; mend-cells 1 1 1 ١٠٠; mend-cells 1 1 1 φ; mend-cells é 1 1 100
+"""
+
+
+def unreadable_mends():
+    """What can not be read is said before any refusal."""
+    chance = random.Random(104)
+    yield from written(UNREADABLE_MENDS)
+    for many in (1, 2, 3, 7, 30):
+        for at in range(3 + many):
+            for word in chance.sample(BAD_LENT if at < 3 else BAD_TABLE_CODES, 2 if many > 7 else 5):
+                forms = mend_line(chance, good_list(chance, many), [chance.choice([0, many, 64])] * 3).split()
+                yield as_bytes(" ".join([*forms[: at + 1], word, *forms[at + 2 :]]))
+    yield from ["mend-cells 1 1 1 100\x00", "mend-cells 1\x0b1 1 100", "mend-cells\t1 1 1\x0c", "mend-cells 1 1 1 \xff"]
+    yield filled(" ".join([mend_start([64] * 3), *["100"] * 64]), 998) + " x"
+
+
+READABLE_MENDS = """
+    mend-cells 0x1 0x01 0x0000000000000001 100; mend-cells 01 0000000000000000000000000001 1 100; mend-cells 0x0 00 0
+    mend-cells 0x40 64 064 100; mend-cells 0x3f 0x3F 63 100; mend-cells 000 1 1 100; mend-cells 001 1 1 100
+    mend-cells 010 011 012 100; mend-cells 2 2 2 000 100; mend-cells 2 2 2 0x0 0x00; mend-cells 1 1 1 0x1
+    mend-cells 2 2 2 0xa000000000000000 0xA000000000000000; mend-cells 2 2 2 0x00 0x0000000000000000
+    mend-cells 2 2 2 0x2050000000000000 0x208c000000000000; mend-cells 2 2 2 100 600; mend-cells 2 2 2 711 6001
+    mend-cells 1 1 1 711333333333333333333333333; mend-cells 1 1 1 0x20000000000000; mend-cells 1 1 1 0xaBcDeF0123456789
+    mend-cells 4 4 4 0xB870000000000000 0xb840000000000000 5111 0xB860000000000000; mend-cells 3 3 3 0x1 0x10 0x100
+"""
+
+
+def spaced_mends():
+    """Leading zeros, either case, tabs and carriage returns, and lines of 1000 bytes and more."""
+    yield from written(READABLE_MENDS)
+    yield from ["\tmend-cells\t2\t2\t2\t101\t100\t", "mend-cells 2 2 2 1001 1001\r", "  mend-cells   1 1  1 1001  "]
+    yield from ["\rmend-cells\r2\r2\r2\r1001\r100", "mend-cells 0 0 0\r", "\tmend-cells 1 1 1", "mend-cells 0 0 0 \t\r"]
+    for length in (998, 999, 1000, 1001, 1002, 2000, 65536):
+        yield filled("mend-cells 0 0 0", length)
+        yield filled("mend-cells 4 4 4 1000 1003 1002 1001", length, "\r")
+        yield " " * (length - len("mend-cells 2 2 2 1001 100")) + "mend-cells 2 2 2 1001 100"
+        yield "mend-cells 2 2 " + "0" * (length - 20) + "2 100"
+        yield "mend-cells 2 2 2 1001" + " " * (length - 25) + "1001"
+        yield "mend-cells 2 2 2 1001 10003"
+
+
+def mends_on_table():
+    """A list that is mended leaves the open table as it is, also one that is refused or can not be read."""
+    chance = random.Random(105)
+    for line in ("table 1 80 -1 1 1250 79 0", "table 0 20 -1 3 -2", "table 7 3 500"):
+        yield line
+        for many in (1, 4, 7, 13, 22):
+            words = spoiled(chance, divided(chance, random_code(chance, 3), many), 3)
+            yield from [mend_line(chance, words), "get 1001", "readings"]
+        for other in ("mend-cells 0 0 0", "mend-cells 1 1 0 100", "mend-cells x", "mend-cells 1 1 1 1"):
+            yield from [other, "readings"]
+
+
+# ==== Internal checks of what is mended
+
+MEND_LINE = re.compile(r"[ \t\r]*mend-cells(?![^ \t\r])")
+MEND_ANSWER = re.compile("words (0|[1-9][0-9]*), changes (0|[1-9][0-9]*)")
+# A list, why each of its words is dropped, or 0, and the parents of the merges.
+MendSeen = namedtuple("MendSeen", "words drops parents")
+
+
+def run_of(code):
+    """The triangles of degree 24 in the code's: the number of the first one, and the number after the last one's. They
+    are numbered through all sides, in the order of the tree."""
+    start = code >> 59 << 48 | code >> 6 & 2**48 - 1
+    return start, start + 4 ** (24 - degree_of(code))
+
+
+def covered(codes):
+    """All that the codes cover, as runs that do not touch."""
+    found = []
+    for start, end in sorted(map(run_of, codes)):
+        if found and start <= found[-1][1]:
+            found[-1][1] = max(found[-1][1], end)
+        else:
+            found.append([start, end])
+    return found
+
+
+FOURS = [4**up for up in range(25)]
+
+
+def greatest_within(runs):
+    """The greatest triangle that begins with a run and does not go beyond it, and so on from its end."""
+    found = []
+    for start, end in runs:
+        while start < end:
+            up = max(k for k, four in enumerate(FOURS) if start % four == 0 and start + four <= end)
+            found.append(start >> 48 << 59 | (24 - up) << 54 | (start & 2**48 - 1) << 6)
+            start += FOURS[up]
+    return found
+
+
+@lru_cache(maxsize=None)
+def whole_below(code):
+    """The triangles of degree 5 in the code's, which is of degree 5 at most."""
+    if degree_of(code) == WHOLE:
+        return frozenset([code])
+    return frozenset().union(*map(whole_below, child_codes(code)))
+
+
+def check_covered(valid, codes):
+    # "covers exactly the same triangles of degree 24 as the valid words did .. and no shorter list of triangles covers
+    # the same"
+    runs = covered(valid)
+    must(covered(codes) == runs, "covers the same", valid, codes)
+    must(greatest_within(runs) == codes, "the greatest triangles", valid, codes)
+    if all(degree_of(code) <= WHOLE for code in valid):
+        of_five = [set().union(*map(whole_below, some)) for some in (valid, codes)]
+        must(of_five[0] == of_five[1], "covers the same triangles of degree 5", valid, codes)
+
+
+def all_inside(valid):
+    """Those that are inside others. In the order of the tree a triangle comes after those that it is inside; and of two
+    runs one has all of the other, or nothing of it."""
+    found, furthest = set(), 0
+    for code in sorted(valid, key=aligned):
+        _, end = run_of(code)
+        if end <= furthest:
+            found.add(code)
+        furthest = max(furthest, end)
+    if len(valid) <= LITERAL_CELLS:
+        must(found == {x for x in valid if any(is_inside(x, y) for y in valid)}, "inside another", valid)
+    return found
+
+
+def dropped_again(words):
+    """For each word why it is dropped, or 0."""
+    inside = all_inside({word for word in words if is_code(word)})
+    found, earlier = [], set()
+    for word in words:
+        found.append(1 if not is_code(word) else 3 if word in earlier else 4 if word in inside else 0)
+        earlier.add(word)
+    return found
+
+
+def undone(codes, parents):
+    """The codes before the merges: from the last one on, each parent leaves its place to its four children again."""
+    there = set(codes)
+    for parent in reversed(parents):
+        must(parent in there, "the parent takes the place", parent)
+        there.remove(parent)
+        there.update(child_codes(parent))
+    return there
+
+
+def has_four_whole(codes):
+    """Some four children are among the codes."""
+    there = set(codes)
+    lasts = ((code, 54 - 2 * degree_of(code)) for code in codes if degree_of(code) > 0)
+    return any(there.issuperset(code & ~(3 << last) | digit << last for digit in (0, 1, 2, 3)) for code, last in lasts)
+
+
+def check_mended(words, codes, changed, reasons):
+    """All that is promised of a mended list and its change list. It tells why each word is dropped, and the parents."""
+    drops = dropped_again(words)
+    dropped = [(word, reason) for word, reason in zip(words, drops) if reason]
+    many = len(dropped)
+    must(list(zip(changed, reasons))[:many] == dropped, "first each dropped word", words, changed, reasons)
+    parents = changed[many:]
+    must(reasons[many:] == [5] * len(parents) and len(changed) == len(reasons), "then each merge", words, reasons)
+    order = [(-degree_of(parent), parent) for parent in parents]
+    must(order == sorted(set(order)), "deepest first and rising within one degree", words, parents)
+    left = [word for word, reason in zip(words, drops) if not reason]
+    must(undone(codes, parents) == set(left), "the words that are not dropped", words, codes, parents)
+    must(len(words) - many - 3 * len(parents) == len(codes), "the counts", words, codes, parents)
+    # "The mended list passes the checker .., mending it again changes nothing"
+    must(first_offence(codes) is None, "the checker of 2026-09", words, codes)
+    must(len(codes) > LITERAL_CELLS or three_hold(codes), "the three conditions", words, codes)
+    must(codes == words or mend(codes) == Mended(codes, [], [], []), "mended again", words, codes)
+    must(not has_four_whole(codes), "no four whole children", words, codes)
+    check_covered([word for word in words if is_code(word)], codes)
+    return drops, parents
+
+
+def where_dropped(seen):
+    """Each reason with the first place that it can have, the last one, or one between them."""
+    for place, reason in enumerate(seen.drops):
+        if reason:
+            ends = {"first": place == (1 if reason == 3 else 0), "last": place == len(seen.words) - 1}
+            yield from ((reason, name) for name in [x for x, true in ends.items() if true] or ["middle"])
+
+
+def how_dropped(seen):
+    """An invalid word's refusal, and whether it comes again; whether a repeated one is inside another too; whether the
+    ones that a word is inside come earlier, later, or both."""
+    at = {word: place for place, word in reversed(list(enumerate(seen.words)))}
+    last = {word: place for place, word in enumerate(seen.words)}
+    for place, (word, reason) in enumerate(zip(seen.words, seen.drops)):
+        if reason == 1:
+            yield "refused", first(code_refusals(word)), at[word] < place
+        elif reason:
+            outer = [x for x in climbed(word) if x in at]
+            earlier, later = any(at[x] < place for x in outer), any(last[x] > place for x in outer)
+            yield ("repeated", bool(outer)) if reason == 3 else ("inside", earlier, later)
+
+
+def longest_cascade(parents):
+    """How many of the merges there are above each other, each of which needs the one below."""
+    depth = {}
+    for parent in sorted(parents, key=degree_of):
+        depth[parent] = 1 + (depth.get(parent_code(parent), 0) if degree_of(parent) > 0 else 0)
+    return max(depth.values(), default=0)
+
+
+def check_mends_met(lists, deepest):
+    """Every reason at the first, a middle and the last place, in each way; merges at every degree, one, several in one
+    degree, and in so many degrees one above the other."""
+    met = {x for seen in lists for x in where_dropped(seen)}
+    must(met == set(itertools.product((1, 3, 4), ("first", "middle", "last"))), "every reason", met)
+    met = {x for seen in lists for x in how_dropped(seen)}
+    every = {("refused", no, again) for no in (1, 2, 3, 4) for again in (False, True)}
+    every |= {("repeated", False), ("repeated", True)}
+    must(met == every | {("inside", *x) for x in ((True, False), (False, True), (True, True))}, "in each way", met)
+    met = {degree_of(parent) for seen in lists for parent in seen.parents}
+    must(met == set(range(DEEPEST)), "merges at every degree", met)
+    met = {(len(seen.parents) > 1, len(set(map(degree_of, seen.parents)))) for seen in lists}
+    must({(False, 0), (False, 1), (True, 1), (True, 2), (True, 3)} <= met, "one merge and several", met)
+    must(max(longest_cascade(seen.parents) for seen in lists) == deepest, "merges above each other", deepest)
+
+
+LentSeen = namedtuple("LentSeen", "words lengths short mended")
+
+
+def seen_mend(line, text):
+    """A line that can be read: its answer, or else its refusal, and every place of the three lists after the call."""
+    *lengths, words = read_arguments([*LENT_LISTS, "[CODE].."], parts_of(line)[1:])
+    told, *shown = text.split(" |")
+    forms = (word_text, word_text, str)
+    must(len(shown) == 3, "three lists", line, text)
+    lists = [[int(x, 0) for x in places.split()] for places in shown]
+    must(shown == ["".join(" " + form(x) for x in one) for one, form in zip(lists, forms)], "as shown", line, text)
+    before = [list(range(1, length + 1)) for length in lengths]
+    must(list(map(len, lists)) == lengths, "all places", line, text)
+    short = frozenset(name for name, length in zip(LENT_LISTS, lengths) if length < len(words))
+    if short:
+        must(told == SHORT and lists == before, "refused, writing nothing", line, text)
+        return LentSeen(words, lengths, short, None)
+    count, changes = map(int, MEND_ANSWER.fullmatch(told).groups())
+    counts = (count, changes, changes)
+    must([x[k:] for x, k in zip(lists, counts)] == [x[k:] for x, k in zip(before, counts)], "later places", line, text)
+    done = check_mended(words, *(x[:k] for x, k in zip(lists, counts)))
+    return LentSeen(words, lengths, short, MendSeen(words, *done))
+
+
+def check_children_met(lists):
+    """Four children of one parent, in every order, and each three of them, in a list of their own, at every degree."""
+    met = {3: set(), 4: set()}
+    for words in (x.words for x in lists if len(x.words) in met):
+        if all(is_code(word) and degree_of(word) > 0 for word in words) and len(set(map(parent_code, words))) == 1:
+            met[len(words)].add((degree_of(words[0]), *(digits_of(word)[-1] for word in words)))
+    four, three = ({(n, *x) for n in range(1, 25) for x in itertools.permutations(range(4), k)} for k in (4, 3))
+    must(four <= met[4], "four children in every order")
+    met = {(n, frozenset(x)) for n, *x in met[3]}
+    must({(n, frozenset(x)) for n, *x in three} <= met, "all children but one")
+
+
+def check_mend_lengths(seen):
+    """For every length of a list just enough places; each lent list one shorter, alone, and longer; every choice of
+    lent lists that are too short. And longer lists."""
+    met = {(len(x.words), *x.lengths) for x in seen}
+    for many in range(MOST_LENT + 1):
+        must((many, many, many, many) in met and (many, 64, 64, 64) in met, "just enough, and more", many)
+        for place in range(3) if many else ():
+            must((many, *one_short(many, [place])) in met, "one shorter", many, place)
+        for place in range(3) if many < MOST_LENT else ():
+            must((many, *(many + (k == place) for k in range(3))) in met, "one longer", many, place)
+    must({x.short for x in seen} == {frozenset(x) for x in powers(LENT_LISTS)}, "refused lists")
+    must(max(len(x.words) for x in seen) > 240, "as many words as a line has room for")
+
+
+def check_mend_lists(calls, answers):
+    lines = [(line, text) for line, text in zip(calls, answers) if MEND_LINE.match(line)]
+    seen = [seen_mend(line, text) for line, text in lines if not text.startswith(UNREAD)]
+    lists = [x.mended for x in seen if x.mended]
+    check_mends_met(lists, 21)
+    check_children_met(lists)
+    check_mend_lengths(seen)
+
+
+def check_mend_lines():
+    """The answers by hand. And lines that can not be read are all answered by the call's form."""
+    for line, text in MEND_EXAMPLES.items():
+        must(answer(line) == text, "by hand", line, text, answer(line))
+    for line in unreadable_mends():
+        must(answer(line) == "error: write it as mend-cells MENDED WORDS REASONS [CODE]..", "unreadable", line)
+
+
+def least_counts(some):
+    """For each set of numbers that is the union of some of these, how many of them it takes at the least."""
+    found, level = {}, {0}
+    for count in itertools.count():
+        found.update(dict.fromkeys(level, count))
+        level = {x | y for x in level for y in some} - found.keys()
+        if not level:
+            return found
+
+
+def accepted_lists(code, n):
+    """Every list of triangles in the code's, to degree n, of which none is inside another, in order."""
+    if degree_of(code) == n:
+        return [[], [code]]
+    below = itertools.product(*(accepted_lists(child, n) for child in child_codes(code)))
+    return [[code], *map(flat, below)]
+
+
+def check_least():
+    """Over one side: every accepted list of triangles to degree 2, shuffled, and every list of at most five to degree
+    1. Deeper triangles make no list shorter: in place of each the one of that degree above it can stand."""
+    # "no shorter list of triangles covers the same"
+    chance = random.Random(106)
+    for n, side in ((1, "310"), (2, "201")):
+        side = read_triangle(side)
+        every = walk(side, n)
+        bits = {code: 1 << at for at, code in enumerate(all_below(side, n))}
+        sets = {code: sum(bits[x] for x in all_below(code, n)) for code in every}
+        least = least_counts(sets.values())
+        must(len(least) == 2 ** (4**n), "every set", n)
+        lists = accepted_lists(side, n)
+        if n == 1:
+            lists += [list(x) for many in range(6) for x in itertools.product(every, repeat=many)]
+        for words in lists:
+            codes = mend(shuffled(chance, words)).codes
+            both = [reduce(operator.or_, map(sets.__getitem__, some), 0) for some in (words, codes)]
+            must(both[0] == both[1] and len(codes) == least[both[0]], "no shorter list", words, codes)
+
+
 # ==== Document 02, 2026-01, "Plotter host in C": the answers
 
 # "It needs check, cross, file and list as calls exported to a C host, on plain numbers and byte slices." "cross writes
 # code and edge number (16 bytes), file the code (8), list the count and then its codes (56)". "Check comes for both
 # kinds of word." Document 01: "Checking a word, as the one kind or the other, answers only its refusal number." The
 # sweep of 2026-04 writes, beside the codes, how many directions are refused and the first one's place and refusal (24).
+# tests/host/LINES.md: "check-cells writes 16 bytes of OUT, the reason and the place"; mend-cells "16 bytes of OUT, the
+# number of codes and of changes".
 NEEDED = {"check-triangle": 0, "check-name": 0, "cross": 16, "file": 8, "list": 56, "sweep": 24}
+NEEDED.update({"check-cells": 16, "mend-cells": 16})
 LONGEST = 64
 LONGEST_SWEEP = 384
+LONGEST_LIST = 32_800
 
 
 def host_check_triangle(word):
@@ -5335,10 +6175,35 @@ def host_sweep(n, data):
     return degree_refusals(n) | when(9, len(data) % 12 != 0), numbers
 
 
+def host_check_cells(data):
+    # tests/host/LINES.md: "both 0 where the list is accepted; it refuses 9 where the length of LIST is no multiple of
+    # 8".
+    def numbers():
+        found = first_offence(words_of(data))
+        return [[0, 0] if found is None else [found.reason, found.place]]
+
+    return when(9, len(data) % 8 != 0), numbers
+
+
+def host_mend_cells(data):
+    # tests/host/LINES.md: "It refuses 32 where LIST has more than 4,096 whole words, and then 9 where its length is no
+    # multiple of 8".
+    def numbers():
+        done = mend(words_of(data))
+        return [done.codes, done.words, done.reasons, [len(done.codes), len(done.words)]]
+
+    return many_refusals(len(data) // 8) | when(9, len(data) % 8 != 0), numbers
+
+
 def least_lengths(call, arguments):
     """How long each slice must be that is lent to the call, if any is."""
     # Document 02, 2026-04: "or the code list is shorter than the number of directions".
-    return [8 * (len(arguments[1]) // 12), NEEDED[call]] if call == "sweep" else [NEEDED[call]]
+    if call == "sweep":
+        return [8 * (len(arguments[1]) // 12), NEEDED[call]]
+    # Document 02, 2026-10: "a result or change list shorter than the input is refusal 9".
+    if call == "mend-cells":
+        return [len(arguments[0])] * 3 + [NEEDED[call]]
+    return [NEEDED[call]]
 
 
 def slice_refusals(call, arguments, lent):
@@ -5362,6 +6227,8 @@ HOST_ANSWERS = {
     "file DEGREE X Y Z OUT": host_file,
     "list DEGREE X Y Z OUT": host_list,
     "sweep DEGREE BYTES CODES OUT": host_sweep,
+    "check-cells LIST OUT": host_check_cells,
+    "mend-cells LIST MENDED WORDS REASONS OUT": host_mend_cells,
 }
 HOST_FORMS = {form.split()[0]: (form.split()[1:], call) for form, call in HOST_ANSWERS.items()}
 
@@ -5376,20 +6243,23 @@ def read_decimal(text):
 HEX_BYTES = re.compile("([0-9A-Fa-f]{2})+")
 
 
-def read_bytes(text):
-    # "two hexadecimal digits for each byte, at most 384 bytes, without anything between them; `empty` for a slice of no
-    # bytes; or `null`, a NULL pointer with length 0"
+def read_bytes(text, most):
+    # "two hexadecimal digits for each byte, .., without anything between them; `empty` for a slice of no bytes; or
+    # `null`, a NULL pointer with length 0"
     if text in ("empty", "null"):
         return b""
     if not HEX_BYTES.fullmatch(text):
         raise Unreadable
-    within(len(text) // 2, 1, LONGEST_SWEEP)
+    within(len(text) // 2, 1, most)
     return bytes.fromhex(text)
 
 
 HOST_READERS = {"WORD": read_hex, "CODE": read_hex, "EDGE": read_decimal, "DEGREE": read_decimal, **SIGNED}
-HOST_READERS["BYTES"] = read_bytes
-LENT = {"OUT": LONGEST, "CODES": LONGEST_SWEEP}  # "LENGTH 0 to 64", "LENGTH 0 to 384"
+# "at most 384 bytes"; "as BYTES is, with at most 32800 bytes"
+HOST_READERS["BYTES"] = lambda text: read_bytes(text, LONGEST_SWEEP)
+HOST_READERS["LIST"] = lambda text: read_bytes(text, LONGEST_LIST)
+# "LENGTH 0 to 64", "LENGTH 0 to 384", "with LENGTH 0 to 32800"
+LENT = {"OUT": LONGEST, "CODES": LONGEST_SWEEP, **dict.fromkeys(LENT_LISTS, LONGEST_LIST)}
 
 
 @lru_cache(maxsize=None)
@@ -5401,7 +6271,7 @@ def lent_bytes(length, start):
 
 def read_lent(kind, words):
     # "Or OUT is the single word `null`: the slice is a NULL pointer with length 0." "CODES is a lent byte slice as OUT
-    # is".
+    # is". "MENDED, WORDS and REASONS are lent byte slices as OUT is".
     if words == ["null"]:
         return b""
     within(len(words), 2, 2)
@@ -5443,9 +6313,9 @@ def host_text(asked):
     # keeps its contents."
     no = first(asked.refusals)
     lent = asked.lent if no else map(written_into, asked.lent, asked.numbers())
-    # "For each lent slice of at least one byte, CODES and then OUT, a space follows and then all LENGTH bytes of the
-    # slice as they are after the call, two lower case hexadecimal digits each". "For `null` and for LENGTH 0 nothing
-    # follows."
+    # "For each lent slice of at least one byte, in the order of the line, a space follows and then all LENGTH bytes of
+    # the slice as they are after the call, two lower case hexadecimal digits each". "For `null` and for LENGTH 0
+    # nothing follows."
     return str(no) + "".join(" " + x.hex() for x in lent if x)
 
 
@@ -5565,6 +6435,89 @@ HOST_EXAMPLES = {
     f"sweep 25 {NOWHERE} 8 200 24 0": answered_bytes(1, "c8 c9 ca cb cc cd ce cf", COUNTED),
     f"sweep 4294967298 {E3} 8 200 24 0": answered_bytes(1, "c8 c9 ca cb cc cd ce cf", COUNTED),
     "sweep 18446744073709551615 null null 24 0": answered_bytes(1, COUNTED),
+    # "`check-cells 20500000000000002098000000000000 16 0` is answered by" the line below. 1001 and 10003; 1001 twice;
+    # 10003 and 1001; 100 and a word that is not valid; 0. The rest stays: 98 and 16 is 114, 0x72.
+    "check-cells 20500000000000002098000000000000 16 0": "0 00000000000000040000000000000001",
+    "check-cells 2050000000000000208c000000000000 18 98": "0 000000000000000200000000000000017273",
+    "check-cells 20500000000000002050000000000000 16 255": "0 00000000000000030000000000000001",
+    "check-cells 208C0000000000002050000000000000 16 7": "0 00000000000000000000000000000000",
+    "check-cells 20000000000000002800000000000001 64 0": answered_bytes(
+        0,
+        "00 00 00 00 00 00 00 01 00 00 00 00 00 00 00 01 10 11 12 13 14 15 16 17 18 19 1a 1b 1c 1d 1e 1f"
+        "20 21 22 23 24 25 26 27 28 29 2a 2b 2c 2d 2e 2f 30 31 32 33 34 35 36 37 38 39 3a 3b 3c 3d 3e 3f",
+    ),
+    "check-cells 0000000000000000 16 0": "0 00000000000000010000000000000000",
+    # "The empty list is accepted."
+    "check-cells empty 16 9": answered_bytes(0, "00" * 16),
+    "check-cells null 17 250": answered_bytes(0, "00" * 16 + "0a"),
+    # "it refuses 9 where the length of LIST is no multiple of 8 or OUT has fewer than 16 bytes"
+    "check-cells 20 16 0": answered_bytes(9, COUNTED[:47]),
+    "check-cells 20500000000000 16 0": answered_bytes(9, COUNTED[:47]),
+    "check-cells 205000000000000020 16 0": answered_bytes(9, COUNTED[:47]),
+    "check-cells 2050000000000000 15 0": answered_bytes(9, COUNTED[:44]),
+    "check-cells 2050000000000000 null": "9",
+    "check-cells null null": "9",
+    "check-cells 20 0 0": "9",
+    # Longer lists than a file may be: 4,097 zeros are refused by mend-cells alone.
+    f"check-cells {'00' * 32_776} 16 0": "0 00000000000000010000000000000000",
+    f"mend-cells {'00' * 32_776} 1 9 null 0 9 2 0": "32 09 0001",
+    # "`mend-cells 2050000000000000 9 0 8 0 8 0 16 0` by" the line below.
+    "mend-cells 2050000000000000 9 0 8 0 8 0 16 0": answered_bytes(
+        0,
+        "20 50 00 00 00 00 00 00 08",
+        "00 01 02 03 04 05 06 07",
+        "00 01 02 03 04 05 06 07",
+        "00 00 00 00 00 00 00 01 00 00 00 00 00 00 00 00",
+    ),
+    # An empty list.
+    "mend-cells empty null null null 16 3": answered_bytes(0, "00" * 16),
+    "mend-cells null 1 7 2 7 3 7 17 3": answered_bytes(0, "07", "07 08", "07 08 09", "00" * 16 + "13"),
+    # 1003, 1001, 1000, 1002 and 1003 again are 100: the second 1003 is dropped, and there is one merge.
+    "mend-cells 20700000000000002050000000000000204000000000000020600000000000002070000000000000 40 0 41 0 42 0 16 0": (
+        answered_bytes(
+            0,
+            "20 00 00 00 00 00 00 00 08 09 0a 0b 0c 0d 0e 0f 10 11 12 13 14 15 16 17 18 19 1a 1b 1c 1d 1e 1f"
+            "20 21 22 23 24 25 26 27",
+            "20 70 00 00 00 00 00 00 20 00 00 00 00 00 00 00 10 11 12 13 14 15 16 17 18 19 1a 1b 1c 1d 1e 1f"
+            "20 21 22 23 24 25 26 27 28",
+            "00 00 00 00 00 00 00 03 00 00 00 00 00 00 00 05 10 11 12 13 14 15 16 17 18 19 1a 1b 1c 1d 1e 1f"
+            "20 21 22 23 24 25 26 27 28 29",
+            "00 00 00 00 00 00 00 01 00 00 00 00 00 00 00 02",
+        )
+    ),
+    # 10012 inside 1001, which comes later; and a word that is not valid.
+    "mend-cells 209800000000000020500000000000002050000000000001 24 0 24 0 24 0 16 0": answered_bytes(
+        0,
+        "20 50 00 00 00 00 00 00 08 09 0a 0b 0c 0d 0e 0f 10 11 12 13 14 15 16 17",
+        "20 98 00 00 00 00 00 00 20 50 00 00 00 00 00 01 10 11 12 13 14 15 16 17",
+        "00 00 00 00 00 00 00 04 00 00 00 00 00 00 00 01 10 11 12 13 14 15 16 17",
+        "00 00 00 00 00 00 00 01 00 00 00 00 00 00 00 02",
+    ),
+    # One byte less than is needed, in each of the slices; and none.
+    "mend-cells 20500000000000 8 0 8 0 8 0 16 0": answered_bytes(9, *[COUNTED[:23]] * 3, COUNTED[:47]),
+    "mend-cells 2050000000000000 7 0 8 0 8 0 16 0": answered_bytes(9, COUNTED[:20], *[COUNTED[:23]] * 2, COUNTED[:47]),
+    "mend-cells 2050000000000000 8 0 7 0 8 0 16 0": answered_bytes(
+        9, COUNTED[:23], COUNTED[:20], COUNTED[:23], COUNTED[:47]
+    ),
+    "mend-cells 2050000000000000 8 0 8 0 7 0 16 0": answered_bytes(9, *[COUNTED[:23]] * 2, COUNTED[:20], COUNTED[:47]),
+    "mend-cells 2050000000000000 8 0 8 0 8 0 15 0": answered_bytes(9, *[COUNTED[:23]] * 3, COUNTED[:44]),
+    "mend-cells 0000000000000000 null 8 0 8 0 16 0": answered_bytes(9, *[COUNTED[:23]] * 2, COUNTED[:47]),
+    "mend-cells 2050000000000000 8 0 0 0 8 0 16 0": answered_bytes(9, *[COUNTED[:23]] * 2, COUNTED[:47]),
+    "mend-cells 2050000000000000 8 0 8 0 null 16 0": answered_bytes(9, *[COUNTED[:23]] * 2, COUNTED[:47]),
+    "mend-cells 2050000000000000 8 0 8 0 8 0 null": answered_bytes(9, *[COUNTED[:23]] * 3),
+    "mend-cells null null null null null": "9",
+    "mend-cells 20 null 0 0 null 16 0": answered_bytes(9, COUNTED[:47]),
+    # 4,096 whole words and some bytes are no multiple of 8; 4,097 whole words are too many, also with some bytes.
+    **{f"mend-cells {'20' * length} null null null null": "9" for length in (32_768, 32_769, 32_775)},
+    **{f"mend-cells {'20' * length} null null null null": "32" for length in (32_776, 32_777, 32_783, 32_800)},
+    # 4,096 zeros are all dropped, and the mended list stays as it was.
+    f"mend-cells {'00' * 32_768} 32768 0 32768 1 32768 2 16 0": answered_bytes(
+        0,
+        bytes(range(256)).hex() * 128,
+        "00" * 32_768,
+        "0000000000000001" * 4096,
+        "00 00 00 00 00 00 00 00 00 00 00 00 00 00 10 00",
+    ),
 }
 
 
@@ -5833,19 +6786,25 @@ def bytes_text(chance, data):
     return digits or chance.choice(["empty", "null"])
 
 
+def enough(chance, need, most, given=None):
+    """A slice of just as many bytes as are needed, or more, if none is given."""
+    return out(chance, chance.choice([need, need, chance.randint(need, most)])) if given is None else given
+
+
+def tight_slices(chance, need, most):
+    """The least length, the ones beside it, one code less and one more, the ends, and none."""
+    lengths = {0, need - 8, need - 1, need, need + 1, need + 8, most}
+    return [out(chance, length) for length in sorted(lengths) if length >= 0] + ["null"]
+
+
 def host_sweep_line(chance, n, data, codes=None, lent=None):
-    """With just as many bytes for the codes as are needed, or more, and likewise for the answer, if not given."""
-    need = 8 * (len(data) // 12)
-    codes = out(chance, chance.choice([need, need, chance.randint(need, LONGEST_SWEEP)])) if codes is None else codes
-    lent = out(chance, chance.choice([24, 24, chance.randint(24, LONGEST)])) if lent is None else lent
+    codes = enough(chance, 8 * (len(data) // 12), LONGEST_SWEEP, codes)
+    lent = enough(chance, 24, LONGEST, lent)
     return f"sweep {n} {bytes_text(chance, data)} {codes} {lent}"
 
 
 def tight_codes(chance, data):
-    """The least length for the codes, the ones beside it, one code less and one more, the ends, and none."""
-    need = 8 * (len(data) // 12)
-    lengths = {0, need - 8, need - 1, need, need + 1, need + 8, LONGEST_SWEEP}
-    return [out(chance, length) for length in sorted(lengths) if length >= 0] + ["null"]
+    return tight_slices(chance, 8 * (len(data) // 12), LONGEST_SWEEP)
 
 
 HOST_SWEPT = [*range(61), *range(361, 385)]  # These lengths of BYTES are called for.
@@ -5928,11 +6887,132 @@ def host_sweep_first():
         yield f"sweep 2 {E3}{E7} 15 {start} 26 {255 - start}"
 
 
+# ==== The plotter host's calls: lists of cells
+
+
+def host_cells_line(chance, words, lent=None):
+    lent = some_out(chance, "check-cells") if lent is None else lent
+    return f"check-cells {bytes_text(chance, file_of(words))} {lent}"
+
+
+def host_cell_lists():
+    """Good lists of each greatest degree; such damaged in each way at the first, a middle and the last place; and each
+    value that a field must not have, alone and after a good word."""
+    chance = random.Random(121)
+    for deepest in range(DEEPEST + 1):
+        for many in (1, 2, 5, 20, 20 if deepest < 2 else 48):
+            yield host_cells_line(chance, good_list(chance, many, deepest))
+    for many in (1, 2, 3, 8, 48):
+        for place, damage in itertools.product(ends_and_middle(many), DAMAGES):
+            for _ in range(2):
+                done = damaged(chance, good_list(chance, many, chance.randint(2, DEEPEST)), place, damage)
+                if done is not None:
+                    yield host_cells_line(chance, done[0])
+    for n in (0, 5, 24):
+        for word in damaged_fields(random_code(chance, n)):
+            yield host_cells_line(chance, [word])
+            yield host_cells_line(chance, [codes_of(0)[0], word])
+
+
+def host_cell_slices():
+    """LIST of every length to 40 bytes, with OUT about the least length; OUT of every length, for a list that is
+    accepted, one that offends, one with bytes over and none."""
+    chance = random.Random(122)
+    for length in range(41):
+        data = file_of(chance.choice([codes_of(1), codes_of(1)[::-1]])[:5])[:length]
+        yield from (f"check-cells {bytes_text(chance, data)} {x}" for x in tight_outs(chance, "check-cells"))
+    good, bad = file_of(codes_of(0)[:3]), file_of([*codes_of(0)[:3], 0])
+    for lent in [out(chance, length) for length in range(LONGEST + 1)] + ["null"]:
+        yield from (f"check-cells {bytes_text(chance, data)} {lent}" for data in (good, bad, bad[:-3], b""))
+
+
+def host_long_lists():
+    """About 4,096 words, which is no bound here, and the longest list: accepted, damaged at the end, or with bytes
+    over."""
+    chance = random.Random(123)
+    for many in (4095, 4096, 4097, 4100):
+        words = part_of_pool(chance, many)
+        yield host_cells_line(chance, words, "16 0")
+        yield host_cells_line(chance, words[:-1] + [invalid_word(chance, words[-1])], "17 1")
+        yield host_cells_line(chance, words[:-2] + words[:-3:-1], "16 2")
+        over = file_of(words)[: -chance.randint(1, 7)]
+        yield f"check-cells {bytes_text(chance, over)} 16 3"
+
+
+def host_mend_line(chance, data, lent=(None, None, None), last=None):
+    need = len(data)
+    lent = [enough(chance, need, min(need + 24, LONGEST_LIST), x) for x in lent]
+    return " ".join(["mend-cells", bytes_text(chance, data), *lent, enough(chance, 16, LONGEST, last)])
+
+
+def host_mends():
+    """Some 400 lists of each kind, of at most 60 words."""
+    chance = random.Random(124)
+    for kind in MEND_KINDS.values():
+        lists = [words for words in kind(chance) if len(words) <= 60]
+        yield from (host_mend_line(chance, file_of(words)) for words in shuffled(chance, lists)[:400])
+
+
+HOST_MENDED = [*range(34), 63, 64, 65]  # These lengths of LIST are called for.
+
+
+def host_mend_slices():
+    """Each lent slice with lengths about the least one; OUT of every length."""
+    chance = random.Random(125)
+    for length in HOST_MENDED:
+        data = file_of(chance.choices(walk(codes_of(0)[13], 1), k=9))[:length]
+        for place in range(3):
+            for one in tight_slices(chance, length, length + 16):
+                yield host_mend_line(chance, data, [one if k == place else None for k in range(3)])
+        yield from (host_mend_line(chance, data, last=x) for x in tight_outs(chance, "mend-cells"))
+    four = file_of(child_codes(codes_of(1)[17]))
+    for last in [out(chance, length) for length in range(LONGEST + 1)] + ["null"]:
+        yield from (host_mend_line(chance, data, last=last) for data in (four, four[:-1], b""))
+
+
+def host_mend_refusals():
+    """Every choice of what is wrong: each of the four slices that is too short, and the length of LIST; and with more
+    than 4,096 words."""
+    chance = random.Random(126)
+    for length in (24, 27, 32_776, 32_777 + chance.randrange(7)):
+        data = any_file(chance, length)
+        for short in powers(range(4)):
+            need = [length] * 3 + [16]
+            lent = [out(chance, need[k]) if k not in short else chance.choice(["null", "0 0", "1 9"]) for k in range(4)]
+            yield host_mend_line(chance, data, lent[:3], lent[3])
+
+
+def host_long_mends():
+    """Some of the longest lists; one with slices that are just as long as the list, longer, and one byte or one code
+    shorter; and bytes over 4,096 words, and over 4,095."""
+    chance = random.Random(127)
+    for _, words in itertools.islice(long_mend_lists(chance), 1, None, 2):
+        yield host_mend_line(chance, file_of(words))
+    data = file_of(chance.choices(cell_pool(), k=MOST_WORDS))
+    for length in (len(data), len(data) + 1, LONGEST_LIST):
+        yield host_mend_line(chance, data, [out(chance, length)] * 3)
+    for place, less in itertools.product(range(3), (1, 8)):
+        yield host_mend_line(chance, data, [out(chance, len(data) - less * (k == place)) for k in range(3)])
+    for length in (*range(32_761, 32_768), *range(32_769, 32_778)):
+        lent = chance.choice([["null"] * 3, [out(chance, LONGEST_LIST), "null", "8 1"]])
+        yield host_mend_line(chance, (data + data)[:length], lent, "16 0")
+
+
+def host_cells_first():
+    """Slices filled in each of the 256 ways, answered and refused."""
+    four = file_of(child_codes(codes_of(1)[5])).hex()
+    for start in range(256):
+        yield from (f"check-cells {four} {length} {start}" for length in (15, 18))
+        starts = [(start + 64 * k) % 256 for k in range(4)]
+        for lengths in ((32, 33, 34, 17), (32, 32, 31, 16)):
+            yield " ".join(map(str, ["mend-cells", four, *flat(zip(lengths, starts))]))
+
+
 # ==== Internal checks of the plotter host's answers
 
 # The rows of document 01's table that each call can give, and 02's 9. 1 to 4 are a word's, 10 a corner name's; 5 takes
 # an edge argument, and a degree argument 1; 8 and 7 are a direction's. There is no parent or child, and so no 6; there
-# are no weights to be found again, and so no 11.
+# are no weights to be found again, and so no 11. 32 is for lists that are mended.
 HOST_NUMBERS = {
     "check-triangle": {1, 2, 3, 4},
     "check-name": {1, 2, 3, 4, 10},
@@ -5940,7 +7020,10 @@ HOST_NUMBERS = {
     "file": {1, 7, 8, 9},
     "list": {1, 7, 8, 9},
     "sweep": {1, 9},  # 8 and 7 are told in its answer
+    "check-cells": {9},
+    "mend-cells": {9, 32},  # 1 to 4 are told as reason 1
 }
+CELLS_CALLS = ("check-cells", "mend-cells")
 
 
 def together(numbers):
@@ -6000,7 +7083,7 @@ BYTE_CHECKS = {"cross": check_cross_bytes, "file": check_file_bytes, "list": che
 
 def check_host_bytes(records):
     """Each slice after its call: what was answered, and then, or when refused, the bytes that were there before."""
-    for asked, text in (x for x in records if x[0].call != "sweep"):
+    for asked, text in (x for x in records if x[0].call not in ("sweep", *CELLS_CALLS)):
         no, after_call = (text + " ").split(" ")[:2]
         before = b"".join(asked.lent).hex()
         must(no == str(int(no)) and len(after_call) == len(before), "all LENGTH bytes", asked, text)
@@ -6062,14 +7145,22 @@ def check_host_lengths(calls, records):
             must(found[call, no] == (every - enough if no == 9 else every), "refused", call, no, found[call, no])
 
 
+def degrees_asked(asked):
+    """The degree that a call is for, or those of the triangles in its list."""
+    if asked.call in CELLS_CALLS:
+        return set(map(degree_of, filter(is_code, numbers_in(asked.arguments[0].hex()))))
+    return {asked.arguments[0] if asked.call in ("file", "list", "sweep") else degree_of(asked.arguments[0])}
+
+
 def check_host_degrees(records):
     """Every call is answered at every degree; a word is refused there as not canonical; and there are crossings from
     side to side, and within one."""
     found = set()
     for asked, text in records:
-        n = asked.arguments[0] if asked.call in ("file", "list", "sweep") else degree_of(asked.arguments[0])
-        found.add((asked.call, n, text.split(" ")[0]))
-        if asked.call == "cross" and text.startswith("0 "):
+        no = text.split(" ")[0]
+        found.update((asked.call, n, no) for n in degrees_asked(asked))
+        if asked.call == "cross" and no == "0":
+            n = degree_of(asked.arguments[0])
             found.add((n, side_of(asked.arguments[0]) == side_of(numbers_in(text[2:18])[0])))
     for n in range(DEEPEST + 1):
         must(all((call, n, "0") in found for call in HOST_NUMBERS), "answered", n)
@@ -6090,7 +7181,8 @@ def check_host_whole(records):
     must(refused_as >= {("cross", edge, "5") for edge in OUTSIDE_EDGES}, "the edges outside")
     must(refused_as >= {(call, n, "1") for call in ("file", "list") for n in OUTSIDE_DEGREES}, "the degrees outside")
     filled_with = {(x.call, text[0] == "0", k, one[0]) for x, text in records for k, one in enumerate(x.lent) if one}
-    must(len(filled_with) == (len(BYTE_CHECKS) + 2) * 2 * 256, "answered and refused, filled in each way")
+    slices = [(call, kind) for call, (kinds, _) in HOST_FORMS.items() for kind in kinds if kind in LENT]
+    must(len(filled_with) == len(slices) * 2 * 256, "answered and refused, filled in each way")
 
 
 HostSwept = namedtuple("HostSwept", "n data codes out held nos")
@@ -6144,6 +7236,83 @@ def check_host_sweeps(calls, records):
     check_refused_places({x.nos for x in seen}, 16)
 
 
+def seen_host_cells(asked, text):
+    """Its answer, or else its refusal, and the slice after the call. It tells what was wrong, and the length of OUT."""
+    (data,), (lent,) = asked.arguments, asked.lent
+    no, after_call = (text + " ").split(" ")[:2]
+    held = frozenset(what for what, true in (("bytes", len(data) % 8), ("out", len(lent) < 16)) if true)
+    if held:
+        must(no == "9" and after_call == lent.hex(), "refused, writing nothing", asked, text)
+    else:
+        must(no == "0" and after_call[32:] == lent.hex()[32:], "answered, and later bytes", asked, text)
+        reason, place = numbers_in(after_call[:32])
+        must(reason or place == 0, "both 0 where the list is accepted", asked, text)
+        check_offence(numbers_in(data.hex()), *((place, reason) if reason else (None, None)))
+    return len(data), len(lent), held
+
+
+def check_host_cell_lists(calls, records):
+    """LIST of every length to 40 bytes, and about 4,096 words and to the longest, with OUT of 15 and 16 bytes; OUT of
+    every length; and both kinds of none."""
+    lines = [(line, x) for line, x in zip(calls, records) if x[0].call == "check-cells"]
+    seen = [seen_host_cells(*x) for _, x in lines]
+    met = {(length, lent) for length, lent, _ in seen}
+    must(met >= set(itertools.product(range(41), (0, 15, 16, 17, LONGEST))), "about what is needed")
+    must({length for length, _ in met} >= {8 * many for many in (4095, 4096, 4097, 4100)}, "the longest lists")
+    must({lent for _, lent, held in seen if held <= {"out"}} == set(range(LONGEST + 1)), "OUT of every length")
+    must({held for *_, held in seen} == {frozenset(x) for x in powers(("bytes", "out"))}, "refused lists")
+    given = {word for line, _ in lines for word in (line.split(" ")[1], line.split(" ")[-1]) if not word.isdigit()}
+    must({"empty", "null"} <= given, "both kinds of none")
+
+
+HostMended = namedtuple("HostMended", "data lent held mended")
+
+
+def seen_host_mend(asked, text):
+    """Its answer, or else its refusal, and the four slices after the call."""
+    (data,), lent = asked.arguments, asked.lent
+    no, *slices = text.split(" ")
+    must(len(slices) == sum(map(bool, lent)), "each slice of at least one byte", asked.call, text[:99])
+    left = iter(slices)
+    after_call = [next(left) if one else "" for one in lent]
+    short = [len(one) < least for one, least in zip(lent, (len(data), len(data), len(data), 16))]
+    wrong = {"32": len(data) >= 32_776, "bytes": len(data) % 8, **dict(zip((*LENT_LISTS, "OUT"), short))}
+    held = frozenset(what for what, true in wrong.items() if true)
+    if held:
+        must(no == ("32" if "32" in held else "9"), "refused", asked.call, held, no)
+        must(after_call == [one.hex() for one in lent], "nothing is changed", asked.call, held)
+        return HostMended(len(data), list(map(len, lent)), held, None)
+    must(no == "0", "answered", asked.call, text[:99])
+    many, changes = numbers_in(after_call[3][:32])
+    ends = [16 * many, 16 * changes, 16 * changes, 32]
+    later = [[x[end:] for x, end in zip(some, ends)] for some in (after_call, [one.hex() for one in lent])]
+    must(later[0] == later[1] and list(map(len, after_call)) == [2 * len(x) for x in lent], "later bytes", text)
+    words = numbers_in(data.hex())
+    done = check_mended(words, *(numbers_in(x[:end]) for x, end in zip(after_call[:3], ends)))
+    return HostMended(len(data), list(map(len, lent)), held, MendSeen(words, *done))
+
+
+def check_host_mends(calls, records):
+    """Every length of LIST that is called for, with each lent slice of just enough bytes, one less and one more, and
+    none; OUT of every length; the longest lists; and everything that can be wrong, alone and with each other."""
+    lines = [(line, x) for line, x in zip(calls, records) if x[0].call == "mend-cells"]
+    seen = [seen_host_mend(*x) for _, x in lines]
+    met = {(x.data, place, x.lent[place] - x.data) for x in seen for place in range(3)}
+    for length, place in itertools.product(HOST_MENDED, range(3)):
+        beside = {-length, -1 if length else 0, 0, 1, 8}
+        must(all((length, place, x) in met for x in beside), "about what is needed", length, place)
+    must({x.lent[3] for x in seen if x.held <= {"OUT"}} == set(range(LONGEST + 1)), "OUT of every length")
+    for many in (4095, 4096):
+        must(any(x.mended and x.data == 8 * many for x in seen), "the longest lists", many)
+    must({x.data for x in seen} >= {*range(32_761, 32_778)}, "bytes over")
+    wrong = {frozenset(x) for x in powers(("32", "bytes", *LENT_LISTS, "OUT"))}
+    must({x.held for x in seen} == wrong, "refused lists")
+    given = [(line.split(" ")[1], line) for line, _ in lines]
+    must({"empty", "null"} <= {data for data, _ in given}, "LIST of both kinds of none")
+    must({line.count(" null") for _, line in given} >= set(range(6)), "lent slices of none")
+    check_mends_met([x.mended for x in seen if x.mended], 24)
+
+
 def check_host_examples():
     for line, text in HOST_EXAMPLES.items():
         must(host_answer(line) == text, "by hand", line, text, host_answer(line))
@@ -6157,6 +7326,8 @@ def check_host_answers(calls, records):
     check_host_degrees(records)
     check_host_whole(records)
     check_host_sweeps(calls, records)
+    check_host_cell_lists(calls, records)
+    check_host_mends(calls, records)
 
 
 # ==== The program ./sweep: docs/SWEEP.md, "Filing a file of directions"
@@ -6520,15 +7691,15 @@ def check_page():
     must(all(map(read_direction, READ_LINES)), "read")
 
 
-# ==== The program ./cells: docs/CELLS.md, "Checking another yard's cell list"
+# ==== The program ./cells: docs/CELLS.md, "Checking and mending another yard's cell list"
 
-MOST_WORDS = 4096
 CellsRan = namedtuple("CellsRan", "line more")
+MendRan = namedtuple("MendRan", "mended report")
 
 
-def words_of(data):
-    # "Other yards send files of eight-byte codes, most significant byte first."
-    return [word for (word,) in struct.iter_unpack(">Q", data)]
+def invalid_text(word):
+    # "After `invalid` stand the words that `./plot check` has for the refusal."
+    return f"{REASONS[1]}: {REFUSALS[first(code_refusals(word))]}"
 
 
 def offence_text(words, found):
@@ -6536,8 +7707,7 @@ def offence_text(words, found):
     one that is no code only as a number"."""
     word, reason = words[found.place], REASONS[found.reason]
     if found.reason == 1:
-        # "After `invalid` stand the words that `./plot check` has for the refusal."
-        return f"{word_text(word)} is {reason}: {REFUSALS[first(code_refusals(word))]}"
+        return f"{word_text(word)} is {invalid_text(word)}"
     # The word before; for 4 "an earlier one", which is any that the word is inside.
     others = [words[found.place - 1]]
     if found.reason == 4:
@@ -6547,18 +7717,57 @@ def offence_text(words, found):
     return f"{code_text(word)} is {reason}, {code_text(others[0])}"
 
 
-def run_cells(data):
-    """The line for a file, and the second one that `-v` adds, or nothing."""
+def length_line(data):
+    """The line for a file whose length is not allowed, or nothing."""
     # "A file whose length isn't a multiple of 8 is "bad length", checked first; one above 4,096 words is "too long"."
     if len(data) % 8 != 0:
-        return CellsRan("bad length\n", "  its length is not a multiple of 8\n")
+        return "bad length\n"
+    return "too long\n" if len(data) // 8 > MOST_WORDS else ""
+
+
+LENGTH_MORE = {"bad length\n": "its length is not a multiple of 8", "too long\n": "it has more than 4096 words"}
+
+
+def run_cells(data):
+    """The line for a file, and the second one that `-v` adds, or nothing."""
+    line = length_line(data)
+    if line:
+        return CellsRan(line, f"  {LENGTH_MORE[line]}\n")
     words = words_of(data)
-    if len(words) > MOST_WORDS:
-        return CellsRan("too long\n", "  it has more than 4096 words\n")
     found = first_offence(words)
     # "To `accepted` no second line is added."
     more = "" if found is None else f"  {offence_text(words, found)}\n"
     return CellsRan(cells_text(found) + "\n", more)
+
+
+def drop_text(word, reason):
+    # "the words after it are those of `./plot check`"
+    if reason == 1:
+        return f"{word_text(word)} is dropped: {invalid_text(word)}"
+    return f"{code_text(word)} is dropped: {DROPS[reason]}"
+
+
+def report_text(many, done):
+    """What is told of a list of so many words."""
+    # "The place of a dropped word is where it stood in the file, from 0. The changes stand in the order of the call's
+    # change list". "A merge is told as the parent, which takes the place of its four children."
+    changes = list(zip(done.words, done.reasons))
+    lines = [f"place {place}: {drop_text(*change)}" for place, change in zip(done.places, changes)]
+    lines += [f"{code_text(parent)} takes the place of its four children" for parent in done.words[len(lines) :]]
+    # "The last line counts. Where nothing is changed it stands alone."
+    dropped = ", ".join(f"{text} {done.reasons.count(reason)}" for reason, text in DROPS.items())
+    counts = f"words in {many}, words out {len(done.codes)}; dropped: {dropped}; merges {done.reasons.count(MERGE)}"
+    return "".join(line + "\n" for line in [*lines, counts])
+
+
+def run_mend(data):
+    """The bytes of the mended list, and the report."""
+    # "Then nothing goes to standard output, and the report is the one line that `./cells check` has for it".
+    line = length_line(data)
+    if line:
+        return MendRan(b"", line)
+    done = mend(words_of(data))
+    return MendRan(file_of(done.codes), report_text(len(data) // 8, done))
 
 
 # ==== The cases of ./cells: examples, with what is written by hand
@@ -6596,20 +7805,79 @@ CELLS_PAGE_TEXT = """
 
 def cells_page_cases():
     found = {}
-    for text in re.split(r"\n    (?! )", CELLS_PAGE_TEXT.strip("\n ")):
-        name, data, line, more = (x.strip() for x in " ".join(text.split()).split("->"))
+    for entry in blocks(CELLS_PAGE_TEXT):
+        name, data, line, more = (x.strip() for x in entry.split("->"))
         found[name] = (bytes.fromhex(data), CellsRan(line + "\n", more and f"  {more}\n"))
     return found
 
 
 CELLS_PAGE = cells_page_cases()
 
+# The file's bytes in hexadecimal digits, those of the mended list, and the lines of the report.
+MEND_PAGE_TEXT = """
+    mend-page -> B800000000000000 2098000000000000 2050000000000000 0000000000000000 20AC000000000000 2098000000000000
+        2040000000000000 20A0000000000000 2050000000000000 2010000000000000 20A8000000000000 2070000000000000
+        20A4000000000000
+        -> 2000000000000000 B800000000000000
+        -> place 1: 10012 0x2098000000000000 is dropped: inside another word
+        / place 3: 0x0000000000000000 is dropped: invalid: a is 0, 6 or 7
+        / place 5: 10012 0x2098000000000000 is dropped: equal to an earlier word
+        / place 8: 1001 0x2050000000000000 is dropped: equal to an earlier word
+        / place 9: 0x2010000000000000 is dropped: invalid: a digit beyond the degree is not 0
+        / 1002 0x2060000000000000 takes the place of its four children
+        / 100 0x2000000000000000 takes the place of its four children
+        / words in 13, words out 2; dropped: invalid 2, equal to an earlier word 2, inside another word 1; merges 2
+    mend-nothing -> -> -> words in 0, words out 0; dropped: invalid 0, equal to an earlier word 0, inside another word
+        0; merges 0
+    mend-good -> 208C000000000000 2050000000000000 2070000000000000 2800000000000000
+        -> 208C000000000000 2050000000000000 2070000000000000 2800000000000000
+        -> words in 4, words out 4; dropped: invalid 0, equal to an earlier word 0, inside another word 0; merges 0
+    mend-order -> 2050000000000000 208C000000000000 -> 208C000000000000 2050000000000000
+        -> words in 2, words out 2; dropped: invalid 0, equal to an earlier word 0, inside another word 0; merges 0
+    mend-length -> 20500000000000002050000000000000 20 -> -> bad length
+    mend-four -> 2070000000000000 2060000000000000 2050000000000000 2040000000000000 -> 2000000000000000
+        -> 100 0x2000000000000000 takes the place of its four children
+        / words in 4, words out 1; dropped: invalid 0, equal to an earlier word 0, inside another word 0; merges 1
+    mend-invalid -> 2E40000000000000 C000000000000000 3010000000000000 2000000000000003 C000000000000000 ->
+        -> place 0: 0x2E40000000000000 is dropped: invalid: a degree, as field or argument, is above 24
+        / place 1: 0xC000000000000000 is dropped: invalid: a is 0, 6 or 7
+        / place 2: 0x3010000000000000 is dropped: invalid: a digit beyond the degree is not 0
+        / place 3: 0x2000000000000003 is dropped: invalid: the four zero bits are not zero, or the corner number does
+        not fit the kind of word
+        / place 4: 0xC000000000000000 is dropped: invalid: a is 0, 6 or 7
+        / words in 5, words out 0; dropped: invalid 5, equal to an earlier word 0, inside another word 0; merges 0
+    mend-copies-inside -> 2070000000000000 2070000000000000 2000000000000000 2070000000000000 2000000000000000
+        -> 2000000000000000
+        -> place 0: 1003 0x2070000000000000 is dropped: inside another word
+        / place 1: 1003 0x2070000000000000 is dropped: equal to an earlier word
+        / place 3: 1003 0x2070000000000000 is dropped: equal to an earlier word
+        / place 4: 100 0x2000000000000000 is dropped: equal to an earlier word
+        / words in 5, words out 1; dropped: invalid 0, equal to an earlier word 3, inside another word 1; merges 0
+    mend-deepest-first -> 2070000000000000 2060000000000000 2050000000000000 2040000000000000 B88C000000000000
+        B888000000000000 B884000000000000 B880000000000000
+        -> 2000000000000000 B840000000000000
+        -> 5110 0xB840000000000000 takes the place of its four children
+        / 100 0x2000000000000000 takes the place of its four children
+        / words in 8, words out 2; dropped: invalid 0, equal to an earlier word 0, inside another word 0; merges 2
+    mend-sides -> 3800000000000000 3000000000000000 2800000000000000 2000000000000000
+        -> 2000000000000000 2800000000000000 3000000000000000 3800000000000000
+        -> words in 4, words out 4; dropped: invalid 0, equal to an earlier word 0, inside another word 0; merges 0
+"""
+
+
+def mend_page_cases():
+    found = {}
+    for entry in blocks(MEND_PAGE_TEXT):
+        name, data, mended, report = (x.strip() for x in entry.split("->"))
+        lines = "".join(line + "\n" for line in report.split(" / "))
+        found[name] = (bytes.fromhex(data), MendRan(bytes.fromhex(mended), lines))
+    return found
+
+
+MEND_PAGE = mend_page_cases()
+
 
 # ==== The cases of ./cells: good lists, and such with an offending word
-
-
-def file_of(words):
-    return b"".join(word.to_bytes(8, "big") for word in words)
 
 
 @lru_cache(maxsize=None)
@@ -6787,12 +8055,90 @@ def byte_cases(chance):
     yield "accepted", b"accepted"
 
 
+# ==== The cases of ./cells: lists to be mended
+
+
+def long_mend_lists(chance):
+    """Of 4,096 words, or almost as many: all that one triangle is, evenly divided, with none missing, one, or one that
+    is replaced by another again; anything of degree 24; copies; nothing valid; nested lists; parts divided along one
+    path, or again and again, and spoiled."""
+    six, deep = all_below(chance.choice(codes_of(0)), 6), all_below(random_code(chance, 18), DEEPEST)
+    yield "degree-6-shuffled", shuffled(chance, six)
+    yield "degree-6-falling", six[::-1]
+    yield "degree-6-but-one", shuffled(chance, six)[1:]
+    yield "degree-6-one-again", shuffled(chance, six[1:] + [six[700]])
+    yield "degree-6-one-invalid", shuffled(chance, six[1:] + [invalid_word(chance, six[0])])
+    yield "degree-24-shuffled", shuffled(chance, deep)
+    yield "degree-24-but-one", shuffled(chance, deep)[1:]
+    some = [make_code(chance.choice(SIDES), chance.choices(range(4), k=DEEPEST)) for _ in range(MOST_WORDS)]
+    yield "degree-24-any", some
+    yield "degree-24-any-falling", by_path(some)[::-1]
+    yield "any-falling", part_of_pool(chance, MOST_WORDS)[::-1]
+    yield "copies-of-five", chance.choices(part_of_pool(chance, 5), k=MOST_WORDS)
+    yield "each-word-twice", shuffled(chance, part_of_pool(chance, MOST_WORDS // 2) * 2)
+    yield "nothing-valid", [invalid_word(chance, code) for code in part_of_pool(chance, MOST_WORDS)]
+    yield "nothing-valid-copies", [invalid_word(chance, random_code(chance, 9))] * MOST_WORDS
+    yield "any-words", [chance.getrandbits(64) for _ in range(MOST_WORDS)]
+    chains = [[*climbed(code), code] for code in (random_code(chance, DEEPEST) for _ in range(163))]
+    yield "chains-shuffled", shuffled(chance, flat(chains))
+    yield "chains-falling", flat(chains)
+    trees = flat(walk(side, 5) for side in chance.sample(codes_of(0), 3))
+    yield "all-to-degree-5", shuffled(chance, trees)
+    yield "all-but-sides-to-degree-5", shuffled(chance, [code for code in trees if degree_of(code) > 0])
+    ones = flat(map(child_codes, chance.sample(codes_of(0), 14)))
+    paths = flat(covering(chance, code, DEEPEST) for code in ones)
+    yield "paths-to-degree-24", shuffled(chance, paths)
+    yield "paths-to-degree-24-but-some", shuffled(chance, paths)[40:]
+    globe = flat(divided(chance, side, 202) for side in codes_of(0))
+    yield "divided-globe", shuffled(chance, globe)
+    yield "divided-globe-spoiled", spoiled(chance, globe[:3900], 150)
+    good = [code for code in part_of_pool(chance, MOST_WORDS // 2) if degree_of(code) < DEEPEST]
+    yield "all-with-one-inside", shuffled(chance, good + [descendant(chance, code) for code in good])
+
+
+def through_all_degrees(chance):
+    """A side divided along one path to degree 24, which is merged at every degree; and with something else, or with one
+    missing, at the deepest, some or the shallowest degree."""
+    side = chance.choice(codes_of(0))
+    words = covering(chance, side, DEEPEST)
+    yield "rising", words
+    yield "falling", words[::-1]
+    yield "shuffled", shuffled(chance, words)
+    yield "twice", shuffled(chance, words * 2)
+    yield "with-the-side", shuffled(chance, words + [side])
+    yield "with-all-above", shuffled(chance, words + list(climbed(max(words, key=degree_of))))
+    yield "with-one-inside", shuffled(chance, words + [descendant(chance, min(words, key=degree_of))])
+    for n in (1, 2, 6, 12, 23, 24):
+        one = chance.choice([code for code in words if degree_of(code) == n])
+        rest = [code for code in words if code != one]
+        yield f"but-one-of-degree-{n}", shuffled(chance, rest)
+        yield f"one-of-degree-{n}-invalid", shuffled(chance, rest + [invalid_word(chance, one)])
+    for digit in range(4):
+        down = [make_code((4, 0, 1), [digit] * n) for n in range(DEEPEST + 1)]
+        beside = [code for top in down[:-1] for code in child_codes(top) if code not in down]
+        yield f"digit-{digit}-always", shuffled(chance, beside + down[-1:])
+
+
+def mend_cases(chance):
+    """The longest lists; all degrees; and some lists of each kind."""
+    yield from ((f"mend-{name}", words) for name, words in long_mend_lists(chance))
+    yield from ((f"mend-all-degrees-{name}", words) for name, words in through_all_degrees(chance))
+    for kind in MEND_KINDS.values():
+        name = kind.__name__.replace("_", "-")
+        lists = sorted(chance.sample(list(kind(chance)), 6), key=len)
+        yield from ((f"mend-{name}-{at}", words) for at, words in enumerate(lists))
+    for many in (1, 2, 3, 5, 17, 64, 1000):
+        yield f"mend-spoiled-{many}", spoiled(chance, part_of_pool(chance, many), many)
+
+
 def cells_cases():
     chance = random.Random(93)
-    found = {name: data for name, (data, _) in CELLS_PAGE.items()}
+    found = {name: data for name, (data, _) in (CELLS_PAGE | MEND_PAGE).items()}
     of_words = (good_cases, place_cases, invalid_cases, reason_cases, order_cases)
     made = [(name, file_of(words)) for make in of_words for name, words in make(chance)]
-    for name, data in itertools.chain(made, length_cases(chance), byte_cases(chance)):
+    others = [*length_cases(chance), *byte_cases(chance)]
+    others += [(name, file_of(words)) for name, words in mend_cases(random.Random(131))]
+    for name, data in [*made, *others]:
         must(name not in found and re.fullmatch("[-0-9a-z]+", name), "a name of its own", name)
         found[name] = data
     return found
@@ -6850,11 +8196,70 @@ def check_cases_met(cases, ran):
     must(told == {REFUSALS[no] + "\n" for no in (1, 2, 3, 4)}, "every refusal", told)
 
 
+MEND_DROPPED = re.compile(
+    "place (0|[1-9][0-9]*): (?:([1-5][01][01][0-3]*) )?0x([0-9A-F]{16}) is dropped: "
+    "(?:invalid: (.*)|(equal to an earlier word|inside another word))"
+)
+MEND_MERGED = re.compile("([1-5][01][01][0-3]*) 0x([0-9A-F]{16}) takes the place of its four children")
+MEND_COUNTS = re.compile(
+    "words in N, words out N; dropped: invalid N, equal to an earlier word N, inside another word N; merges N".replace(
+        "N", "(0|[1-9][0-9]*)"
+    )
+)
+REASON_OF = {"equal to an earlier word": 3, "inside another word": 4}
+
+
+def read_dropped(words, line):
+    """The place and the reason, of a line that tells a dropped word as it stands there."""
+    place, text, word, refusal, told = MEND_DROPPED.fullmatch(line).groups()
+    must(int(word, 16) == words[int(place)], "the word at the place", line)
+    if told is None:
+        must(text is None and answer(f"check 0x{word}").split(": ", 1)[1] == refusal, "as check says it", line)
+    else:
+        must(read_code(text) == int(word, 16) and answer(f"check {text}") == "ok", "as document 01 writes it", line)
+    return int(place), REASON_OF.get(told, 1)
+
+
+def check_mend_case(data, ran):
+    """The report, line by line, and what is promised of the mended list; if there is one."""
+    if len(data) & 7 or len(data) > 32_768:
+        must(ran == MendRan(b"", "bad length\n" if len(data) & 7 else "too long\n"), "the length", len(data), ran)
+        return None
+    words = numbers_in(data.hex())
+    *lines, last = ran.report.removesuffix("\n").split("\n")
+    many = sum(line.startswith("place ") for line in lines)
+    dropped = [read_dropped(words, line) for line in lines[:many]]
+    must([place for place, _ in dropped] == sorted({place for place, _ in dropped}), "in the order of the file", ran)
+    parents = []
+    for line in lines[many:]:
+        text, word = MEND_MERGED.fullmatch(line).groups()
+        must(read_code(text) == int(word, 16), "as document 01 writes it", line)
+        parents.append(int(word, 16))
+    codes, reasons = numbers_in(ran.mended.hex()), [reason for _, reason in dropped]
+    counts = [len(words), len(codes), *map(reasons.count, (1, 3, 4)), len(parents)]
+    must(list(map(int, MEND_COUNTS.fullmatch(last).groups())) == counts, "the counts", last)
+    changed = [words[place] for place, _ in dropped] + parents
+    return MendSeen(words, *check_mended(words, codes, changed, reasons + [5] * len(parents)))
+
+
+def check_mend_cases(cases, mended):
+    """Every case; what is met by them; and that a list that is accepted and has no four children stays as it is."""
+    seen = [x for x in (check_mend_case(data, mended[name]) for name, data in cases.items()) if x]
+    check_mends_met(seen, 24)
+    must({len(x.words) for x in seen} >= {0, 1, 4095, 4096}, "every length")
+    must({len(ran.mended) // 8 for ran in mended.values()} >= {0, 1, 4096}, "every length of a mended list")
+    must({len(x.parents) for x in seen} >= {0, 1, 24, 1365}, "how many merges")
+
+
 def check_cells_page():
     for name, (data, ran) in CELLS_PAGE.items():
         must(run_cells(data) == ran, "by hand", name, run_cells(data))
+    for name, (data, ran) in MEND_PAGE.items():
+        must(run_mend(data) == ran, "by hand", name, run_mend(data))
     # The last one that docs/CELLS.md shows; the file is too long to be written by hand.
     must(run_cells(bytes(32_776)) == CellsRan("too long\n", "  it has more than 4096 words\n"), "by hand")
+    must(run_mend(bytes(32_776)) == MendRan(b"", "too long\n"), "by hand")
+    must(run_mend(bytes(32_777)) == MendRan(b"", "bad length\n"), "by hand")
     must(three_hold(cell_pool()) and first_offence(cell_pool()) is None, "the pool is good")
 
 
@@ -6901,6 +8306,13 @@ SECTIONS = {
     "lists of cells as long as a line": long_cells,
     "unreadable lists of cells": unreadable_cells,
     "spaced lists of cells": spaced_cells,
+    "lists to be mended, examples": MEND_EXAMPLES.keys,
+    "every list of a few cells, mended": mended_few,
+    **{f"to be mended: {name}": mend_lines(kind, 111 + at) for at, (name, kind) in enumerate(MEND_KINDS.items())},
+    "lists to be mended and lent lists of every length": mend_lengths,
+    "lists to be mended as long as a line": long_mends,
+    "unreadable lists to be mended": unreadable_mends,
+    "spaced lists to be mended": spaced_mends,
     "the last line without a table": last_without_table,
     "no table is open": before_any_table,
     "unreadable lines on a table": unreadable_on_table,
@@ -6930,6 +8342,7 @@ SECTIONS = {
     "many parents in one line": many_parents,
     "sweeps while a table is open": sweeps_on_table,
     "lists of cells while a table is open": cells_on_table,
+    "lists to be mended while a table is open": mends_on_table,
     "full tables": full_tables,
     "the last line": last_line,
 }
@@ -6960,6 +8373,7 @@ def write_files(calls_path, answers_path):
     check_totals(calls, answers)
     check_sweeps(calls, answers)
     check_cell_lists(calls, answers)
+    check_mend_lists(calls, answers)
     write_bytes(calls_path, "\n".join(calls))
     write_bytes(answers_path, "".join(text + "\n" for text in answers))
 
@@ -6993,6 +8407,14 @@ HOST_SECTIONS = {
     "sweeps with refused directions": host_sweep_places,
     "refused sweeps": host_sweep_refusals,
     "sweeps into slices filled in every way": host_sweep_first,
+    "lists of cells": host_cell_lists,
+    "lists of cells and slices of every length": host_cell_slices,
+    "the longest lists of cells": host_long_lists,
+    "lists to be mended": host_mends,
+    "lists to be mended and slices of every length": host_mend_slices,
+    "lists to be mended that are refused": host_mend_refusals,
+    "the longest lists to be mended": host_long_mends,
+    "lists of cells and slices filled in every way": host_cells_first,
 }
 
 
@@ -7040,15 +8462,19 @@ def write_cases(folder):
 def write_cells_cases(folder):
     check_cell_order()
     check_cell_lines()
+    check_mend_lines()
     check_cells_page()
     os.makedirs(folder, exist_ok=True)
     cases = cells_cases()
     ran = {name: run_cells(data) for name, data in cases.items()}
+    mended = {name: run_mend(data) for name, data in cases.items()}
     check_cases_met(cases, ran)
+    check_mend_cases(cases, mended)
     for name, data in cases.items():
-        line, more = ran[name]
         check_cells_case(data, ran[name])
-        for end, text in {"bin": data.decode("latin-1"), "line": line, "more": more}.items():
+        parts = {"bin": data.decode("latin-1"), **ran[name]._asdict()}
+        parts |= {"mended": mended[name].mended.decode("latin-1"), "report": mended[name].report}
+        for end, text in parts.items():
             write_bytes(os.path.join(folder, f"{name}.{end}"), text)
     print(f"{len(cases):8} cases of ./cells")
 

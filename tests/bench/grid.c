@@ -369,8 +369,8 @@ static int give_file(struct input *in, const char *kind, uint64_t degree) {
 }
 
 /* A list to mend: codes of random degrees up to this one; `whole`: all of a degree of one side, shuffled, of which as
- * many are taken as the list has words; `falling`: codes of the degree, each before the last; `nested`: in chains, each
- * code inside the one after it. */
+ * many are taken as the list has words; `falling`: codes of the degree, each less than the one before; `nested`: in
+ * chains from the degree up, each code inside the one after it. */
 static uint64_t cell_to_mend(const char *kind, size_t place, uint64_t degree) {
     uint64_t all = (uint64_t)1 << (2 * degree);
     if (strcmp(kind, "whole") == 0) {
@@ -380,8 +380,9 @@ static uint64_t cell_to_mend(const char *kind, size_t place, uint64_t degree) {
         return word_of(23, degree, 5 * (sweep_length - place) % all);
     }
     if (strcmp(kind, "nested") == 0) {
-        uint64_t depth = degree - place % degree;
-        return word_of(4 + place / degree % 20, depth, (place / degree / 20) & (((uint64_t)1 << (2 * depth)) - 1));
+        uint64_t depth = degree - place % degree, chain = place / degree;
+        uint64_t deepest = chain * UINT64_C(0x9E3779B97F4A7C15) % all;
+        return word_of(4 + chain % 20, depth, deepest >> (2 * (degree - depth)));
     }
     return random_code(below(degree + 1));
 }

@@ -26,7 +26,7 @@
 enum { SAME = 0, WRONG = 1, UNREAD = 2, LOST = 3 };
 
 /* A region is as wide as the widest page that Linux has on x86-64 or Arm, so that it can be shut off on either. */
-enum { REGION = 0x10000, AROUND = 256, MOST_BYTES = 384, MOST_FIELDS = 7, MOST_SLICES = 3 };
+enum { REGION = 0x10000, AROUND = 256, MOST_BYTES = 32800, MOST_FIELDS = 10, MOST_SLICES = 5 };
 
 /* ---- messages */
 
@@ -141,7 +141,9 @@ static int cut(char *line, char *fields[MOST_FIELDS]) {
 /* A lent slice, 'LENGTH FIRST' or 'null': answers how many fields it takes. */
 static int read_lent(char **fields, int count, struct slice *into) {
     uint8_t first;
+    into->is_read_only = 0;
     into->is_null = strcmp(fields[0], "null") == 0;
+    into->length = 0;
     if (into->is_null) {
         return 1;
     }
@@ -160,12 +162,13 @@ static int read_lent(char **fields, int count, struct slice *into) {
 static void read_bytes(const char *text, struct slice *into) {
     into->is_read_only = 1;
     into->is_null = strcmp(text, "null") == 0;
+    into->length = 0;
     if (into->is_null || strcmp(text, "empty") == 0) {
         return;
     }
     into->length = strlen(text) / 2;
     if (strlen(text) % 2 != 0 || into->length > MOST_BYTES) {
-        stop(UNREAD, "bytes are two digits each, and at most 384");
+        stop(UNREAD, "bytes are two digits each, and at most 32800");
     }
     for (size_t k = 0; k < into->length; k++) {
         char digits[3] = {text[2 * k], text[2 * k + 1], '\0'};
@@ -208,6 +211,16 @@ static uint64_t sweep(const struct arguments *a, uint8_t *const at[MOST_SLICES])
     return grid_sweep(a->number[0], at[0], s[0].length, at[1], s[1].length, at[2], s[2].length);
 }
 
+static uint64_t check_cells(const struct arguments *a, uint8_t *const at[MOST_SLICES]) {
+    return grid_check_cells(at[0], a->slice[0].length, at[1], a->slice[1].length);
+}
+
+static uint64_t mend_cells(const struct arguments *a, uint8_t *const at[MOST_SLICES]) {
+    const struct slice *s = a->slice;
+    return grid_mend_cells(at[0], s[0].length, at[1], s[1].length, at[2], s[2].length, at[3], s[3].length, at[4],
+                           s[4].length);
+}
+
 struct form {
     const char *name, *kinds;
     call_function *call;
@@ -220,6 +233,8 @@ static const struct form forms[] = {
     {"file", "nccco", file},
     {"list", "nccco", list},
     {"sweep", "nroo", sweep},
+    {"check-cells", "ro", check_cells},
+    {"mend-cells", "roooo", mend_cells},
 };
 
 static const struct form *read_form(const char *name) {
@@ -236,7 +251,7 @@ static const struct form *read_line(char *line, struct arguments *into) {
     char *fields[MOST_FIELDS];
     int count = cut(line, fields), at = 1, numbers = 0, coordinates = 0;
     const struct form *form = read_form(fields[0]);
-    memset(into, 0, sizeof *into);
+    into->slices = 0;
     for (const char *kind = form->kinds; *kind != '\0'; kind++) {
         if (at == count) {
             stop(UNREAD, "a field is missing");
@@ -372,7 +387,7 @@ static void look_at(enum place place, int k, const struct slice *slice, uint8_t 
 /* Makes the call, and copies the slices out after it. */
 static uint64_t call_at(enum place place, const struct form *form, const struct arguments *a,
                         uint8_t bytes[MOST_SLICES][MOST_BYTES]) {
-    uint8_t *at[MOST_SLICES] = {NULL, NULL, NULL};
+    uint8_t *at[MOST_SLICES] = {NULL};
     uint64_t refusal;
     for (int k = 0; k < a->slices; k++) {
         at[k] = set_up(place, k, &a->slice[k]);
@@ -400,6 +415,16 @@ static uint64_t call_twice(const struct form *form, const struct arguments *a, u
     return refusal;
 }
 
+/* After a space, two digits for each. */
+static void write_bytes(const uint8_t *bytes, size_t length) {
+    static const char digits[] = "0123456789abcdef";
+    putchar(' ');
+    for (size_t j = 0; j < length; j++) {
+        putchar(digits[bytes[j] / 16]);
+        putchar(digits[bytes[j] % 16]);
+    }
+}
+
 static void answer(char *line) {
     static struct arguments a;
     static uint8_t bytes[MOST_SLICES][MOST_BYTES];
@@ -407,8 +432,8 @@ static void answer(char *line) {
     prepare_trap_text();
     printf("%" PRIu64, call_twice(form, &a, bytes));
     for (int k = 0; k < a.slices; k++) {
-        for (size_t j = 0; !a.slice[k].is_read_only && j < a.slice[k].length; j++) {
-            printf(j == 0 ? " %02x" : "%02x", bytes[k][j]);
+        if (!a.slice[k].is_read_only && a.slice[k].length > 0) {
+            write_bytes(bytes[k], a.slice[k].length);
         }
     }
     putchar('\n');

@@ -34,6 +34,8 @@ ghost use Rattle.coarse.specs.Answers.{TakeAnswer, SetAnswer, ClearAnswer, Give
 ghost use Rattle.cells.specs.Checking.{checked};
 ghost use Rattle.cells.specs.declared.Verdict.{Verdict};
 ghost use Rattle.verdicts.specs.Program.{line};
+ghost use Rattle.mending.specs.Answers.{lists, MendResult};
+ghost use Rattle.mending.specs.declared.MendAnswer.{MendAnswer};
 
 // ---- words
 
@@ -361,4 +363,22 @@ pub extern "C" fn bench_cells_line(file: &[u8], head: &mut [u8], out: &mut [u8])
     }
     let size = verdicts::take_in(file, head, 0);
     verdicts::put_line(head, size, out) as u64
+}
+
+#[no_mangle]
+pub extern "C" fn bench_mend_cells(
+    words: &[u64],
+    mended: &mut [u64],
+    changed: &mut [u64],
+    reasons: &mut [u64],
+) -> u64
+    ensures { λ r. ⌜
+        ((a : MendAnswer)
+        × MendResult (now (words .entry)) (lists (now (mended .entry)) (now (changed .entry)) (now (reasons .entry))) a
+        (lists (now (mended .exit)) (now (changed .exit)) (now (reasons .exit)))
+        × (r ≡ bitXor (bitXor (a .refusal) (a .count)) (a .changes)))
+        ⌝ }
+{
+    let r = mender::mend(words, mended, changed, reasons);
+    r.refusal ^ r.count ^ r.changes
 }

@@ -14,16 +14,24 @@ fn word_at(bytes: &[u8], i: u64) -> u64
     get8(&bytes[8 * i as usize..])
 }
 
+// That a word is invalid, and why.
+pub fn put_invalid(refusal: u64, out: &mut [u8], at: usize) -> usize
+    requires { ⌜ at + 202 ≤ length (now out) ⌝ }
+    ensures { λ r. ⌜ r ≤ at + 202 ⌝ }
+{
+    let colon = texts::put_offence(1, out, at);
+    let reason = lines::put_bytes(b": ", out, colon);
+    texts::put_reason(refusal, out, reason)
+}
+
 // A word that is no code, and why.
-fn put_invalid(w: u64, refusal: u64, out: &mut [u8], at: usize) -> usize
+fn put_no_code(w: u64, refusal: u64, out: &mut [u8], at: usize) -> usize
     requires { ⌜ at + 250 ≤ length (now out) ⌝ }
     ensures { λ r. ⌜ r ≤ at + 250 ⌝ }
 {
     let is = lines::put_word(w, out, at);
     let offence = lines::put_bytes(b" is ", out, is);
-    let colon = texts::put_offence(1, out, offence);
-    let reason = lines::put_bytes(b": ", out, colon);
-    texts::put_reason(refusal, out, reason)
+    put_invalid(refusal, out, offence)
 }
 
 // A code, its reason, and the word before it.
@@ -46,7 +54,7 @@ fn put_at_place(bytes: &[u8], place: u64, reason: u64, out: &mut [u8], at: usize
     let w = word_at(bytes, place);
     let refusal = TriangleCode(w).check();
     if refusal != 0 {
-        return put_invalid(w, refusal, out, at);
+        return put_no_code(w, refusal, out, at);
     }
     // Only the word at the first place has none before it, and that offends by 1 alone.
     if place == 0 {

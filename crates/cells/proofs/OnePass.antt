@@ -22,13 +22,14 @@ use Rattle.words.proofs.WordLayout.{below-degree}
 use Rattle.words.proofs.Digits.{side-top, digits-are, path-lt}
 use Rattle.words.proofs.Codes.{code-side, code-word}
 use Rattle.cells.specs.Order.{valid, lessThan, insideOf}
-use Rattle.cells.specs.Checking.{reasonAt, offends}
-use Rattle.cells.specs.Means.Ranks.{start, width, rank, end, reach, reachBefore, reasonBy, ClearTo}
+use Rattle.cells.specs.Checking.{reasonAt, offends, verdict, accepted, checked}
+use Rattle.cells.specs.Means.Ranks.{start, width, rank, end, reach, reachBefore, reasonBy, reasonAfter}
+use Rattle.cells.specs.Means.Ranks.{ClearTo}
 use Rattle.cells.specs.declared.Reach.{Reach}
 use Rattle.cells.proofs.Dictionary.{known, clash}
 use Rattle.cells.proofs.Spelling.{valid-code, above}
 use Rattle.cells.proofs.Ranks.{degree-fits, rank-some, less-by-rank, same-by-rank, inside-by-end}
-use Rattle.cells.proofs.Accepting.{clear-valid, last-clear}
+use Rattle.cells.proofs.Accepting.{clear-valid, last-clear, all-clear, first-offence}
 
 -- ---- the word before decides
 
@@ -93,24 +94,67 @@ first-reach ws v =
     let h = rank-some (getD ws 0 0) v in
     rw (v, le-ltb r 0 (omega arith), ne-eqb r 0 (λ e. omega (arith, e, h)))
 
-pub by-reach : (ws : List ℕ) (i : ℕ) → i < length ws → ClearTo ws i → valid (getD ws i 0) ≡ true
+by-reach : (ws : List ℕ) (i : ℕ) → i < length ws → ClearTo ws i → valid (getD ws i 0) ≡ true
     → reasonAt ws i ≡ reasonBy (reachBefore ws i) (rank (getD ws i 0))
 by-reach ws zero l c v = first-reach ws v
 by-reach ws (suc i) l c v = later-reach ws i l c v
 
 -- a word that is no code
-pub reason-invalid : (ws : List ℕ) (i : ℕ) → valid (getD ws i 0) ≡ false → reasonAt ws i ≡ 1
+reason-invalid : (ws : List ℕ) (i : ℕ) → valid (getD ws i 0) ≡ false → reasonAt ws i ≡ 1
 unfolding reasonAt firstOf
 reason-invalid ws zero e = rw e
 reason-invalid ws (suc i) e = rw e
 
--- one place more offends in nothing
-pub clear-more : (ws : List ℕ) (i : ℕ) → ClearTo ws i → reasonAt ws i ≡ 0 → ClearTo ws (i + 1)
-clear-more ws i c e j h =
-    ⊎-elim (λ q. ap (reasonAt ws) q ∙ e) (λ q. c j q) (eq-or-lt-of-le (let k : j ≤ i = omega arith in k))
+-- any word
+pub after-reach : (ws : List ℕ) (i : ℕ) → i < length ws → ClearTo ws i
+    → reasonAt ws i ≡ reasonAfter (reachBefore ws i) (getD ws i 0)
+unfolding reasonAfter
+after-reach ws i l c =
+    ⊎-elim (λ v. by-reach ws i l c v ∙ rw v refl) (λ v. reason-invalid ws i v ∙ rw v refl)
+    (known (valid (getD ws i 0)))
 
-pub reach-next : (ws : List ℕ) (i : ℕ) → reach (getD ws i 0) ≡ reachBefore ws (i + 1)
-reach-next ws i = let e : suc i ≡ i + 1 = omega arith in ap (reachBefore ws) e
+-- and the same as it is tested
+pub after-invalid : (last : Reach) (w : ℕ) → valid w ≡ false → 1 ≡ reasonAfter last w
+unfolding reasonAfter
+after-invalid last w v = rw v
+
+pub after-valid : (last : Reach) (w : ℕ) → valid w ≡ true → reasonBy last (rank w) ≡ reasonAfter last w
+unfolding reasonAfter
+after-valid last w v = rw v
+
+-- ---- a pass over a list, wherever its words are read
+
+-- The words before a place offend in nothing, and the last of them has this reach.
+pub record Passed (ws : List ℕ) (i : ℕ) (last : Reach) : Type 0 where
+  pub inside : i ≤ length ws
+  pub clear : ClearTo ws i
+  pub reached : last ≡ reachBefore ws i
+
+pub none-passed : (ws : List ℕ) → Passed ws 0 (record { rank = 0; end = 0 })
+none-passed ws = record { inside = omega arith; clear = λ j l. absurd (omega arith); reached = refl }
+
+module _ (ws : List ℕ) {i : ℕ} {last : Reach} (p : Passed ws i last) where
+  -- one place more
+  module _ {k w : ℕ} (l : i < length ws) (is : w ≡ getD ws i 0) (e : k ≡ reasonAfter last w) where
+    reason : k ≡ reasonAt ws i
+    reason = e ∙ (λ j. reasonAfter (p .reached j) (is j)) ∙ sym (after-reach ws i l (p .clear))
+
+    pub stopped : (k ≡ 0 → ⊥) → verdict k i ≡ checked ws
+    stopped n = ap (λ (x : ℕ). verdict x i) reason ∙ sym (first-offence ws i l (p .clear) (λ z. n (reason ∙ z)))
+
+    pub passed-more : {own : Reach} → own ≡ reach w → k ≡ 0 → Passed ws (i + 1) own
+    passed-more f z =
+        let one : suc i ≡ i + 1 = omega arith in
+        record {
+          inside = omega arith;
+          clear = λ j h. ⊎-elim (λ q. ap (reasonAt ws) q ∙ sym reason ∙ z) (λ q. p .clear j q)
+              (eq-or-lt-of-le (let m : j ≤ i = omega arith in m));
+          reached = f ∙ ap reach is ∙ ap (reachBefore ws) one;
+        }
+
+  -- past the last
+  pub all-passed : length ws ≤ i → accepted ≡ checked ws
+  all-passed h = sym (all-clear ws (λ j k. p .clear j (omega (arith, h, k))))
 
 -- the reasons by tests in turn
 pub reason-by : (last : Reach) (r : ℕ) {k : ℕ}

@@ -6,7 +6,7 @@ ghost use mathlib.Core.Bool.{true};
 ghost use Prim.Native.Nat.{_*_};
 ghost use Rattle.cells.specs.Order.{valid};
 ghost use Rattle.cells.specs.Checking.{verdict, checked};
-ghost use Rattle.cells.specs.Means.Ranks.{start, reach, reasonBy};
+ghost use Rattle.cells.specs.Means.Ranks.{start, reach, reasonBy, reasonAfter};
 
 // What checking a list answers: the first offending place, from 0, and its reason, 1 to 4; reason 0 and place 0 where
 // the list is accepted.
@@ -58,7 +58,30 @@ fn reason_after(last: Reach, own: Reach) -> u64
     0
 }
 
-fn offence(reason: u64, place: usize) -> Verdict
+// What a word is after the words before it: its reason, 0 where it offends in nothing; and then its own reach.
+pub struct Found {
+    pub reason: u64,
+    pub own: Reach,
+}
+
+// Looks at a word after words that offend in nothing, of which the last one has this reach.
+pub fn look_at(w: u64, last: Reach) -> Found
+    ensures { λ r. ⌜ (r .reason ≡ reasonAfter last w) × (r .reason ≡ 0 → r .own ≡ reach w) ⌝ }
+{
+    if TriangleCode(w).check() != 0 {
+        return Found {
+            reason: 1,
+            own: last,
+        };
+    }
+    let own = reach_of(w);
+    Found {
+        reason: reason_after(last, own),
+        own,
+    }
+}
+
+pub fn offence(reason: u64, place: usize) -> Verdict
     ensures { λ r. ⌜ r ≡ verdict reason place ⌝ }
 {
     Verdict {
@@ -74,16 +97,11 @@ pub fn check(words: &[u64]) -> Verdict
     let mut last = Reach { rank: 0, end: 0 };
     let mut i = 0;
     while i < words.len() {
-        let w = words[i];
-        if TriangleCode(w).check() != 0 {
-            return offence(1, i);
+        let found = look_at(words[i], last);
+        if found.reason != 0 {
+            return offence(found.reason, i);
         }
-        let own = reach_of(w);
-        let reason = reason_after(last, own);
-        if reason != 0 {
-            return offence(reason, i);
-        }
-        last = own;
+        last = found.own;
         i += 1;
     }
     offence(0, 0)

@@ -2,7 +2,7 @@
 // holds a table of soundings, which the caller keeps for it: `Held`, and four lists, of readings and of owners with
 // 81,921 places each, and of counts and of sums with 20,481.
 use cellcalls::checking;
-use cellcalls::mending;
+use cellcalls::mends;
 use gridcalls::calls;
 use gridcalls::lists;
 use gridcalls::sweeping;
@@ -80,7 +80,7 @@ fn call_answer(call: u64, line: &[u8], at: usize, out: &mut [u8]) -> usize
         // check-cells
         34 => checking::answer(line, at, out),
         // mend-cells
-        35 => mending::answer(line, at, out),
+        35 => mends::answer(line, at, out),
         _ => unknown(out),
     }
 }

@@ -11,4 +11,6 @@ contracts = record {
   file = λ κs degree x y z out new r. says-itself;
   list = λ κs degree x y z out new r. says-itself;
   sweep = λ κs degree dirs dirs′ codes new out told r. says-itself;
+  checkCells = λ κs list list′ out new r. says-itself;
+  mendCells = λ κs list list′ mended new words words′ reasons reasons′ out told r. says-itself;
 }

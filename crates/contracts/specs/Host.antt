@@ -1,5 +1,5 @@
--- Document 02, 2026-01 and 2026-04: what the exported functions themselves say, as grid/specs/Contracts.antt has it of
--- document 01's. Assumes nothing.
+-- Document 02, 2026-01, 2026-04, 2026-09 and 2026-10: what the exported functions themselves say, as
+-- grid/specs/Contracts.antt has it of document 01's. Assumes nothing.
 use mathlib.Core.Path.{_≡_}
 use Prim.Native.Nat.{ℕ}
 use lib.IntN.{ℤ}
@@ -12,7 +12,9 @@ use Rattle.net.specs.Corners.{nameOf}
 use Rattle.net.specs.Refusals.{checkName}
 use Rattle.grid.specs.Contracts.{Slice}
 use Rattle.grid.specs.Writing.{towards}
+use Rattle.mending.specs.Answers.{lists}
 use Rattle.host_sweeps.specs.Answers.{SweepBytes}
+use Rattle.host_cells.specs.Answers.{CheckBytes, MendBytes}
 use Rattle.host.specs.Answers.{CrossBytes, FileBytes, ListBytes}
 use Rattle.host.proofs.grid_check_triangle.Reads as grid_check_triangle
 use Rattle.host.proofs.grid_check_name.Reads as grid_check_name
@@ -20,9 +22,11 @@ use Rattle.host.proofs.grid_cross.Reads as grid_cross
 use Rattle.host.proofs.grid_file.Reads as grid_file
 use Rattle.host.proofs.grid_list.Reads as grid_list
 use Rattle.host.proofs.grid_sweep.Reads as grid_sweep
+use Rattle.host.proofs.grid_check_cells.Reads as grid_check_cells
+use Rattle.host.proofs.grid_mend_cells.Reads as grid_mend_cells
 
--- The calls in the order of `OneAnswer`, of the crate host and then of host_sweeps: for any plain numbers, any result,
--- and bytes left with any contents.
+-- The calls in the order of `OneAnswer`, of the crate host and then of host_sweeps and of host_cells: for any plain
+-- numbers, any result, and bytes left with any contents.
 pub record Contracts : Type 0 where
   pub checkTriangle : (κs : Lfts 0) (word : ℕ) (r : ℕ)
       → Says (grid_check_triangle.Asked κs (word, tt)) (grid_check_triangle.Learnt κs (word, tt) r (word, tt))
@@ -46,3 +50,13 @@ pub record Contracts : Type 0 where
       → Says (grid_sweep.Asked κs (degree, (dirs, (codes, (out, tt)))))
       (grid_sweep.Learnt κs (degree, (dirs, (codes, (out, tt)))) r (degree, (dirs′, (new, (told, tt)))))
       (SweepBytes degree (now dirs) (now codes) (now out) r (now new, now told))
+  pub checkCells : (κs : Lfts 2) (list list′ out new : Slice) (r : ℕ)
+      → Says (grid_check_cells.Asked κs (list, (out, tt)))
+      (grid_check_cells.Learnt κs (list, (out, tt)) r (list′, (new, tt)))
+      (CheckBytes (now list) (now out) r (now new))
+  pub mendCells : (κs : Lfts 5) (list list′ mended new words words′ reasons reasons′ out told : Slice) (r : ℕ)
+      → Says (grid_mend_cells.Asked κs (list, (mended, (words, (reasons, (out, tt))))))
+      (grid_mend_cells.Learnt κs (list, (mended, (words, (reasons, (out, tt))))) r
+      (list′, (new, (words′, (reasons′, (told, tt))))))
+      (MendBytes (now list) (lists (now mended) (now words) (now reasons)) (now out) r
+      (lists (now new) (now words′) (now reasons′), now told))

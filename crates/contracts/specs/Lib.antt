@@ -3,4 +3,5 @@ pub mod Host
 pub mod Sweeps
 pub mod Soundings
 pub mod Cells
+pub mod Mending
 pub mod Verdicts

@@ -128,6 +128,7 @@ fn in_list(q: Asked, list: &mut [u64], shown: bool, out: &mut [u8]) -> usize
     requires { ⌜ (length (now list) ≤ 16) × (8192 ≤ length (now out)) ⌝ }
     ensures { λ r. ⌜ r ≤ 8000 ⌝ }
 {
+    places::number(list);
     let r = fill(q, list);
     let at = put_answer(q, r, list, out);
     if shown {
@@ -152,7 +153,7 @@ fn with_places(q: Asked, line: &[u8], at: usize, usual: usize, out: &mut [u8]) -
     if !p.read {
         return 0;
     }
-    let mut list = places::LENT;
+    let mut list = [0u64; 16];
     in_first(q, &mut list, p.count, p.shown, out)
 }
 

@@ -39,6 +39,7 @@ fn in_list(degree: u64, dirs: &[i32], codes: &mut [u64], out: &mut [u8]) -> usiz
     requires { ⌜ (length (now codes) ≤ 16) × (8192 ≤ length (now out)) ⌝ }
     ensures { λ r. ⌜ r ≤ 8000 ⌝ }
 {
+    places::number(codes);
     let r = sweep(degree, dirs, codes);
     let at = put_answer(r, out);
     places::put_places(Entry::Word, codes, out, at)
@@ -60,7 +61,7 @@ fn of_first(degree: u64, numbers: &[i32], n: usize, places: usize, out: &mut [u8
     if numbers.len() < n {
         return 0;
     }
-    let mut codes = places::LENT;
+    let mut codes = [0u64; 16];
     in_first(degree, &numbers[..n], &mut codes, places, out)
 }
 

@@ -1,6 +1,7 @@
 // The grid for a C host (document 02, 2026-01): plain numbers and lent bytes in, a refusal number out. Each call is
-// document 01's, or the sweep of 2026-04, which the crate host_sweeps has; its answer goes to the bytes, eight for each
-// number, most significant first.
+// document 01's, or the sweep of 2026-04, which the crate host_sweeps has, or one of the two on a cell list of 2026-09
+// and 2026-10, which the crate host_cells has; its answer goes to the bytes, eight for each number, most significant
+// first.
 use grid::CornerName;
 use grid::Direction;
 use grid::TriangleCode;
@@ -15,7 +16,9 @@ ghost use Rattle.words.specs.Refusals.{checkCode};
 ghost use Rattle.net.specs.Corners.{nameOf};
 ghost use Rattle.net.specs.Refusals.{checkName};
 ghost use Rattle.grid.specs.Writing.{towards};
+ghost use Rattle.mending.specs.Answers.{lists};
 ghost use Rattle.host_sweeps.specs.Answers.{SweepBytes};
+ghost use Rattle.host_cells.specs.Answers.{CheckBytes, MendBytes};
 ghost use Rattle.host.specs.Answers.{CrossBytes, FileBytes, ListBytes};
 
 // Checking a word as a triangle code.
@@ -106,4 +109,31 @@ pub extern "C" fn grid_sweep(degree: u64, dirs: &[u8], codes: &mut [u8], out: &m
         ⌝ }
 {
     host_sweeps::grid_sweep(degree, dirs, codes, out)
+}
+
+// Checking a cell list: the reason and the place of its first offence, in sixteen bytes.
+#[no_mangle]
+pub extern "C" fn grid_check_cells(list: &[u8], out: &mut [u8]) -> u64
+    ensures { λ r. ⌜ CheckBytes (now (list .entry)) (now (out .entry)) r (now (out .exit)) ⌝ }
+{
+    host_cells::grid_check_cells(list, out)
+}
+
+// Mending a cell list: its codes; for each change its word and its reason, in two lists; and both counts, in sixteen
+// bytes.
+#[no_mangle]
+pub extern "C" fn grid_mend_cells(
+    list: &[u8],
+    mended: &mut [u8],
+    words: &mut [u8],
+    reasons: &mut [u8],
+    out: &mut [u8],
+) -> u64
+    ensures { λ r. ⌜
+        MendBytes (now (list .entry)) (lists (now (mended .entry)) (now (words .entry)) (now (reasons .entry)))
+        (now (out .entry)) r
+        (lists (now (mended .exit)) (now (words .exit)) (now (reasons .exit)), now (out .exit))
+        ⌝ }
+{
+    host_cells::grid_mend_cells(list, mended, words, reasons, out)
 }

@@ -2,7 +2,7 @@
 -- nothing.
 use mathlib.Core.Path.{_≡_, _∙_, refl, sym, ap, subst}
 use mathlib.Core.Bool.{not}
-use mathlib.Core.List.{List, [], _∷_, _++_, append-nil, append-assoc}
+use mathlib.Core.List.{List, [], _∷_, _++_, append-assoc}
 use Prim.Native.Nat.{ℕ, suc, _+_, _-_, _*_, _/_, _%_, _≤_, _<_}
 use native.Mathlib.Omega.{arith}
 use borrow.Author.Tests.{ltb-false, lt-ltb, le-ltb, eqb-true, eq-eqb, ne-eqb, not-false}
@@ -15,7 +15,8 @@ use Rattle.frame.specs.Answers.{over}
 use Rattle.frame.proofs.Refusing.{refuse-first, here, next, nothing, none-so}
 use Rattle.frame.proofs.Lengths.{two-parts}
 use Rattle.octets.specs.Bytes.{bytesOf, bytes, numberAt, readEach, signed, signedNumbers}
-use Rattle.octets.proofs.Laying.{read-long, read-next, bytes-long, bytes-append, as-long}
+use Rattle.octets.proofs.Laying.{read-long, read-next, bytes-long, as-long}
+use Rattle.octets.proofs.WordLists.{bytes-more}
 use Rattle.words.specs.Refusals.{degreeRows}
 use Rattle.words.specs.declared.CodeAnswer.{CodeAnswer}
 use Rattle.net.specs.Steps.{nonZeros}
@@ -70,11 +71,6 @@ three-more i bs =
     ∙ append-assoc (signedNumbers 4 k bs) (at k ∷ []) (at (suc k) ∷ at (suc (suc k)) ∷ [])
     ∙ (λ j. signedNumbers 4 k bs ++ (at k ∷ at (one j) ∷ at (two j) ∷ []))
 
-one-more : (ws : List ℕ) (w : ℕ) → bytes 8 ws ++ bytesOf 8 w ≡ bytes 8 (ws ++ (w ∷ []))
-unfolding bytes
-one-more ws w =
-    ap (λ (l : List ℕ). bytes 8 ws ++ l) (sym (append-nil (bytesOf 8 w))) ∙ sym (bytes-append 8 ws (w ∷ []))
-
 pub bytes-next : {n : ℕ} (i : ℕ) (dirs : List ℕ) {codes mid late : List ℕ} {m : ℕ} (s : CodeAnswer)
     → CountedBytes n (signedNumbers 4 (3 * i) dirs) codes m mid → FileAnswer n (directionIn dirs i) s
     → late ≡ over (bytesOf 8 (s .code .0)) (take (length mid - 8 * i) (drop (8 * i) mid))
@@ -88,7 +84,7 @@ bytes-next {n} i dirs {codes} {mid} {late} {m} s x f p =
           (counted-append (x .counted) (counted-one _ _ _ s f));
       put = two-parts codes mid late (bytes 8 (x .written)) (bytesOf 8 (s .code .0)) (8 * i)
           (eight-each x i (read-long (signed 4) 4 (3 * i) dirs)) (x .put) p
-          ∙ ap (λ (bs : List ℕ). over bs codes) (one-more (x .written) (s .code .0));
+          ∙ ap (λ (bs : List ℕ). over bs codes) (bytes-more (x .written) (s .code .0));
     }
 
 -- ---- three numbers, each in the part that follows

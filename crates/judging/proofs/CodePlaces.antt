@@ -1,12 +1,12 @@
 -- The places of the codes in a list: they rise, and are all. Assumes nothing.
-use mathlib.Core.Path.{_≡_, _∙_, refl, sym, ap}
+use mathlib.Core.Path.{_≡_, _∙_, sym, ap}
 use mathlib.Core.Logic.{_⊎_, inl, inr, ⊎-elim}
 use mathlib.Core.List.{List, [], _∷_}
 use Prim.Native.Nat.{ℕ, zero, suc, _+_, _-_, _≤_, _<_}
 use native.Mathlib.Omega.{arith}
 use borrow.Author.Tests.{eqb-true, eqb-false, eq-eqb, ne-eqb}
 use lib.Dec.{eqb}
-use lib.ListN.{length, getD}
+use lib.ListN.{length}
 use Rattle.cells.proofs.Dictionary.{known}
 use Rattle.judging.specs.Means.Keys.{codePlaces}
 use Rattle.judging.specs.Means.Turns.{at}
@@ -43,13 +43,16 @@ pub places-there : (f : ℕ) (ks : List ℕ) (i : ℕ) → i < length (codePlace
 places-there f [] i l = absurd (unfold codePlaces in omega (arith, l))
 places-there f (k ∷ ks) i l = go (places-there (suc f) ks) (first-key f k ks) i l
   where
-    go : ((i : ℕ) → i < length (codePlaces (suc f) ks) → There (suc f) ks (at (codePlaces (suc f) ks) i)) → (k ≡ 0) ⊎ (k ≡ 0 → ⊥) → (i : ℕ) → i < length (codePlaces f (k ∷ ks)) → There f (k ∷ ks) (at (codePlaces f (k ∷ ks)) i)
+    go : ((i : ℕ) → i < length (codePlaces (suc f) ks) → There (suc f) ks (at (codePlaces (suc f) ks) i))
+        → (k ≡ 0) ⊎ (k ≡ 0 → ⊥) → (i : ℕ) → i < length (codePlaces f (k ∷ ks))
+        → There f (k ∷ ks) (at (codePlaces f (k ∷ ks)) i)
     go ih (inl e) i l =
         let s = skips f k ks e in
         rw s (there-next f k ks _ (ih i (rw s at l)))
     go ih (inr n) zero l =
         let z : f - f ≡ 0 = omega arith in
-        rw (takes f k ks n) record { low = omega arith; high = omega arith; code = λ e. n (ap (at (k ∷ ks)) (sym z) ∙ e) }
+        rw (takes f k ks n)
+        record { low = omega arith; high = omega arith; code = λ e. n (ap (at (k ∷ ks)) (sym z) ∙ e) }
     go ih (inr n) (suc i) l =
         let s = takes f k ks n in
         let m : suc i < suc (length (codePlaces (suc f) ks)) = rw s at l in

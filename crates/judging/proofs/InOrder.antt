@@ -9,12 +9,12 @@ use native.Mathlib.Decide.{decLe}
 use native.Mathlib.Omega.{arith}
 use borrow.Author.Tests.{eqb-true, eqb-false, eq-eqb, ne-eqb, lt-ltb, ltb-true, ltb-false}
 use lib.Dec.{eqb, ltb}
-use lib.ListN.{length, getD, take, set, length-set, length-append, List·getD-append}
+use lib.ListN.{length, getD, take, set, length-append, List·getD-append}
 use lib.Seq.{getD-set-same, getD-set-other, getD-take, getD-at, length-take-le}
 use Rattle.frame.specs.Refusals.{_when_, firstOf}
-use Rattle.frame.specs.Lists.{some, firstPlace}
-use Rattle.frame.proofs.Refusing.{First, nothing, here, next, refuse-first}
-use Rattle.frame.proofs.Scanning.{first-there, none-each, none-there}
+use Rattle.frame.specs.Lists.{some}
+use Rattle.frame.proofs.Refusing.{First, refuse-first}
+use Rattle.frame.proofs.Scanning.{none-each, none-there}
 use Rattle.cells.proofs.Dictionary.{known, clash}
 use Rattle.judging.specs.Means.Keys.{endOf}
 use Rattle.judging.specs.Means.Turns.{at, holds, Outer, whyAt, whyNext, InTurn, Nested, JudgedTo, Judged, Kept}
@@ -137,7 +137,8 @@ module _ (ks ps : List ℕ) (t : InTurn ks ps) where
         go zero z = absurd (some-key (e ∙ g .none (sym z)))
         go (suc j) z =
             let s : K j ≡ K i = sym (g .lastIs j z) ∙ sym e in
-            let l : at ps j < p = ⊎-elim (λ q. absurd (omega (arith, q, s))) (λ q. q .1) (t .turn j i (omega (arith, z)) h) in
+            let l : at ps j < p =
+            ⊎-elim (λ q. absurd (omega (arith, q, s))) (λ q. q .1) (t .turn j i (omega (arith, z)) h) in
             let m : at ps j < length (take p ks) =
             omega (arith, l, length-take-le p ks (omega (arith, t .there i h .0))) in
             let is : getD (take p ks) (at ps j) 0 ≡ K j = getD-take p ks (at ps j) 0 l in
@@ -313,7 +314,8 @@ module _ (ks ps : List ℕ) (t : InTurn ks ps) where
             (eq-or-lt-of-le (let z : a ≤ length kept = omega (arith, l, long) in z));
         from = λ a l. from a (eq-or-lt-of-le (let z : a ≤ length kept = omega (arith, l, long) in z));
         all = extend {P = λ j. Outer ks (K j) → (a : ℕ) × ((a < length more) × (at more a ≡ K j))}
-            (λ j l o. let x = g .all j l o in (x .0, (omega (arith, x .1 .0, long), at-kept (x .0) (x .1 .0) ∙ x .1 .1)))
+            (λ j l o. let x = g .all j l o in
+            (x .0, (omega (arith, x .1 .0, long), at-kept (x .0) (x .1 .0) ∙ x .1 .1)))
             (λ o. (length kept, (omega (arith, long), at-end (length kept) refl)));
       }
         where

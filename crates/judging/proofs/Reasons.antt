@@ -1,23 +1,22 @@
 -- What is told by keys is what mending says of the words: the reason of each, and which are kept. Assumes nothing.
 use mathlib.Core.Path.{_≡_, _∙_, refl, sym, ap}
-use mathlib.Core.Bool.{Bool, true, false, not, cond, _&&_}
-use mathlib.Core.Logic.{_⊎_, inl, inr, ⊎-elim}
+use mathlib.Core.Bool.{Bool, true, false}
+use mathlib.Core.Logic.{_⊎_, inl, inr}
 use mathlib.Core.List.{List, [], _∷_, map}
 use Prim.Native.Nat.{ℕ, zero, suc, _≤_, _<_}
 use native.Mathlib.Omega.{arith}
-use borrow.Author.Tests.{eqb-true, eqb-false, eq-eqb, ne-eqb, ltb-true}
-use lib.Dec.{eqb, ltb}
+use lib.Dec.{eqb}
 use lib.ListN.{length, getD, take, length-map}
 use lib.Seq.{ext-getD, getD-take, length-take-le}
-use Rattle.frame.specs.Refusals.{_when_, _either_, firstOf}
+use Rattle.frame.specs.Refusals.{_either_, firstOf}
 use Rattle.frame.specs.Lists.{some}
-use Rattle.cells.specs.Order.{valid, lessThan, insideOf}
+use Rattle.cells.specs.Order.{valid}
 use Rattle.cells.specs.Means.Ranks.{rank}
-use Rattle.cells.proofs.Dictionary.{known, clash}
+use Rattle.cells.proofs.Dictionary.{known}
 use Rattle.cells.proofs.Ranks.{rank-some, less-rank}
-use Rattle.mending.specs.Mending.{member, dropReason, Change, judged, sound}
+use Rattle.mending.specs.Mending.{member, dropReason, judged, sound}
 use Rattle.mending.specs.Answers.{reasonsOf}
-use Rattle.mending.proofs.Members.{Mem, mem-at, at-mem, mem-cast, Rises, Valid}
+use Rattle.mending.proofs.Members.{mem-at, at-mem, Rises, Valid}
 use Rattle.mending.proofs.Dropping.{holder, sound-mem, mem-sound, sound-good}
 use Rattle.judging.specs.Means.Keys.{key, Numbered}
 use Rattle.judging.specs.Means.Turns.{at, holds, Outer, whyAt, Judged, Kept}
@@ -105,7 +104,8 @@ module _ (ws : List ℕ) where
       → length ws ≤ length why → take (length ws) why ≡ reasonsOf (judged ws [] ws)
   reasons-are keys places old why m n j l =
       ext-getD 0 (take (length ws) why) (reasonsOf (judged ws [] ws))
-      (length-take-le (length ws) why l ∙ sym (judged-long ws [] ws)) (λ p h. each p (omega (arith, h, length-take-le (length ws) why l)))
+      (length-take-le (length ws) why l ∙ sym (judged-long ws [] ws))
+      (λ p h. each p (omega (arith, h, length-take-le (length ws) why l)))
     where
       there : (p : ℕ) → p < length ws → p < length ks
       there p h = omega (arith, h, length-map ws key)
@@ -140,7 +140,8 @@ rise-tail x xs r a b l m = r (suc a) (suc b) (omega (arith, l)) (omega (arith, m
 within-tail : (x y : ℕ) (xs ys : List ℕ) → x ≡ y → Rise (x ∷ xs) → Within (x ∷ xs) (y ∷ ys) → Within xs ys
 within-tail x y xs ys e r w a l = go (w (suc a) (omega (arith, l)))
   where
-    go : (b : ℕ) × ((b < length (y ∷ ys)) × (at (y ∷ ys) b ≡ at xs a)) → (b : ℕ) × ((b < length ys) × (at ys b ≡ at xs a))
+    go : (b : ℕ) × ((b < length (y ∷ ys)) × (at (y ∷ ys) b ≡ at xs a))
+        → (b : ℕ) × ((b < length ys) × (at ys b ≡ at xs a))
     go (zero, (m, q)) =
         let s : x < at xs a = r 0 (suc a) (omega arith) (omega (arith, l)) in
         absurd (omega (arith, s, q, e))
@@ -199,9 +200,13 @@ module _ (ws kept : List ℕ) (k : Kept (map key ws) kept) where
           let r : at (map key ws) p ≡ rank w = e ∙ key-code w v in
           let o : some (holder w) ws ≡ false =
           sym (outer-same ws w v) ∙ ap (λ (n : ℕ). some (λ r. holds r n) (map key ws)) (sym r) ∙ x .1 .1 .1 .1 in
-          let m = mem-at w (sound ws) (mem-sound ws w (at-mem ws p h) v o) in
-          (m .0, (omega (arith, m .1, length-map (sound ws) rank),
-          rank-at (sound ws) (m .0) (m .1) ∙ ap rank (m .2) ∙ sym r ∙ x .1 .1 .1 .0))
+          let m = mem-at w (sound ws) (mem-sound ws w (at-mem ws p h) v o) in (
+            m .0,
+            (
+              omega (arith, m .1, length-map (sound ws) rank),
+              rank-at (sound ws) (m .0) (m .1) ∙ ap rank (m .2) ∙ sym r ∙ x .1 .1 .1 .0,
+            ),
+          )
 
       back : Within (map rank (sound ws)) kept
       back a l =

@@ -1,12 +1,11 @@
 -- The codes of a list, sorted by their keys, are gone through as it is asked for. Assumes nothing.
-use mathlib.Core.Path.{_≡_, _∙_, refl, sym, ap}
+use mathlib.Core.Path.{_≡_, _∙_, sym, ap}
 use mathlib.Core.Bool.{true, false, _&&_}
-use mathlib.Core.Logic.{_⊎_, inl, inr, ⊎-elim}
-use mathlib.Core.List.{List, [], _∷_, map}
-use Prim.Native.Nat.{ℕ, zero, suc, _+_, _-_, _%_, _^_, _≤_, _<_}
+use mathlib.Core.Logic.{_⊎_, ⊎-elim}
+use mathlib.Core.List.{List, map}
+use Prim.Native.Nat.{ℕ, _-_, _%_, _^_, _≤_, _<_}
 use native.Mathlib.Omega.{arith}
-use borrow.Author.Tests.{ltb-true}
-use lib.ListN.{length, getD, length-map}
+use lib.ListN.{length, length-map}
 use Rattle.sorting.specs.Sorting.{sorted, PlacesOf}
 use Rattle.sorting.proofs.Sorted.{sorted-long, sorted-all, sorted-has, sorted-rises}
 use Rattle.cells.specs.Order.{valid, insideOf}
@@ -18,8 +17,9 @@ use Rattle.mending.proofs.Members.{both-true}
 use Rattle.judging.specs.Means.Keys.{key, endOf, codePlaces}
 use Rattle.judging.specs.Means.Turns.{at, holds, InTurn, Nested, SmallKeys}
 use Rattle.judging.proofs.InOrder.{held}
-use Rattle.judging.proofs.WordKeys.{key-at, key-code, key-invalid, key-some, rank-degree, rank-small, holds-inside}
-use Rattle.judging.proofs.CodePlaces.{There, places-there, places-rise, places-all}
+use Rattle.judging.proofs.WordKeys.{key-at, key-code, key-invalid, key-some, rank-degree, rank-small}
+use Rattle.judging.proofs.WordKeys.{holds-inside}
+use Rattle.judging.proofs.CodePlaces.{places-there, places-rise, places-all}
 
 module _ (ks : List ℕ) where
   abbrev ps : List ℕ
@@ -91,7 +91,8 @@ module _ (ws : List ℕ) where
       code : valid (W p) ≡ true → (K p < 2 ^ 59) × (K p % 64 ≤ 24)
       code v =
           let e = k ∙ key-code (W p) v in
-          (omega (arith, e, rank-small (W p) v), omega (arith, ap (λ (n : ℕ). n % 64) e, rank-degree (W p) v, degree-fits (W p) v))
+          let m = ap (λ (n : ℕ). n % 64) e in
+          (omega (arith, e, rank-small (W p) v), omega (arith, m, rank-degree (W p) v, degree-fits (W p) v))
 
       other : valid (W p) ≡ false → (K p < 2 ^ 59) × (K p % 64 ≤ 24)
       other v =

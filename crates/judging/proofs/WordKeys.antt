@@ -1,19 +1,19 @@
 -- The key of a word, and the places of the codes in a list. Assumes nothing.
 use mathlib.Core.Path.{_≡_, _∙_, refl, sym, ap}
-use mathlib.Core.Bool.{Bool, true, false, not, cond, _&&_}
+use mathlib.Core.Bool.{true, false, not, _&&_}
 use mathlib.Core.Logic.{_⊎_, inl, inr, ⊎-elim}
 use mathlib.Core.List.{List, [], _∷_, _++_, map, append-assoc, append-nil}
 use Prim.Native.Nat.{ℕ, zero, suc, _+_, _-_, _*_, _%_, _^_, _≤_, _<_}
 use native.Mathlib.Nat.{eq-or-lt-of-le}
 use native.Mathlib.Omega.{arith}
-use borrow.Author.Tests.{eqb-true, eqb-false, eq-eqb, ne-eqb}
+use borrow.Author.Tests.{eq-eqb, ne-eqb}
 use lib.Dec.{eqb, ltb}
 use lib.ListN.{length, getD, take, drop, set, length-map, drop-of-length-le}
 use lib.Seq.{take-suc, take-suc-set, take-all, drop-cons, getD-set-same, getD-set-other}
 use Rattle.words.specs.Words.{degreeOf}
 use Rattle.words.proofs.Codes.{code-side}
 use Rattle.cells.specs.Order.{valid, lessThan, insideOf}
-use Rattle.cells.specs.Means.Ranks.{start, width, rank, end}
+use Rattle.cells.specs.Means.Ranks.{start, rank, end}
 use Rattle.cells.proofs.Dictionary.{known, clash}
 use Rattle.cells.proofs.Ranks.{degree-fits, rank-some, less-by-rank, same-by-rank, inside-by-end}
 use Rattle.cells.proofs.OnePass.{unit-width, start-word}
@@ -81,8 +81,8 @@ module _ (ks : List ℕ) (i : ℕ) (keys places why : List ℕ) (codes k : ℕ) 
     few = omega (arith, g .few);
     keysAre = keys-next;
     placesAre =
-        rw (take-suc-set places codes i in-places, append-assoc (take codes places) (i ∷ []) (codePlaces (suc i) (drop (suc i) ks)))
-        (rw (rest, ne-eqb k 0 n) at (g .placesAre));
+        let late = codePlaces (suc i) (drop (suc i) ks) in
+        rw (take-suc-set places codes i in-places, append-assoc (take codes places) (i ∷ []) late) (rw (rest, ne-eqb k 0 n) at (g .placesAre));
     invalid = λ p m z. ⊎-elim (λ (q : p ≡ i). absurd (n (is ∙ ap (λ (j : ℕ). getD ks j 0) (sym q) ∙ z)))
         (λ q. g .invalid p q z)
         (eq-or-lt-of-le (let y : p ≤ i = omega (arith, m) in y));
@@ -132,10 +132,17 @@ module _ (w : ℕ) (v : valid w ≡ true) where
           → not (eqb (key u) 0) && (ltb (key u) (rank w) && ltb (rank w) (endOf (key u))) ≡ valid u && insideOf w u
       go (inr a) b = rw (key-invalid u a, a)
       go (inl a) (inl b) =
-          rw (key-code u a, a, ne-eqb (rank u) 0 (λ z. omega (arith, z, rank-some u a)), sym (less-by-rank u w a v), b, rank-end-of u a)
+          let n = ne-eqb (rank u) 0 (λ z. omega (arith, z, rank-some u a)) in
+          rw (key-code u a, a, n, sym (less-by-rank u w a v), b, rank-end-of u a)
           (sym (inside-by-end w u v a b))
-      go (inl a) (inr b) = rw (key-code u a, a, ne-eqb (rank u) 0 (λ z. omega (arith, z, rank-some u a)),
-          sym (less-by-rank u w a v), b, not-inside w u (λ z. clash z b))
+      go (inl a) (inr b) = rw (
+        key-code u a,
+        a,
+        ne-eqb (rank u) 0 (λ z. omega (arith, z, rank-some u a)),
+        sym (less-by-rank u w a v),
+        b,
+        not-inside w u (λ z. clash z b),
+      )
 
   -- equal keys are those of equal words
   pub same-key : (u : ℕ) → eqb (rank w) (key u) ≡ eqb w u

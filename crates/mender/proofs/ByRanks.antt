@@ -1,32 +1,29 @@
 -- Merging by ranks is merging of words: the ranks of a triangle's children, and of the triangle. Assumes nothing.
 use mathlib.Core.Path.{_≡_, _∙_, refl, sym, ap}
 use mathlib.Core.Bool.{Bool, true, false, _&&_}
-use mathlib.Core.Logic.{_⊎_, inl, inr, ⊎-elim}
-use mathlib.Core.List.{List, [], _∷_, _++_, map}
+use mathlib.Core.Logic.{_⊎_, inl, inr}
+use mathlib.Core.List.{_∷_}
 use Prim.Native.Nat.{ℕ, zero, suc, _+_, _-_, _*_, _/_, _%_, _^_, _≤_, _<_}
 use native.Mathlib.Omega.{arith}
 use borrow.Author.Tests.{eqb-true, eqb-false, eq-eqb, ne-eqb}
 use lib.Dec.{eqb, lit<}
-use lib.ListN.{length, getD}
-use lib.Pow.{pow-pos, pow-add, pow-mono}
+use lib.Pow.{pow-add, pow-mono}
 use lib.Arith.{digits-div, digits-mod}
 use Rattle.words.specs.Words.{degreeOf, digitOf, digits, sideOf, path}
 use Rattle.words.specs.Family.{codeOf}
-use Rattle.words.proofs.Codes.{Has, code-side}
 use Rattle.words.proofs.ParentChild.{child-has}
 use Rattle.cells.specs.Order.{valid}
 use Rattle.cells.specs.Means.Ranks.{start, width, rank}
 use Rattle.cells.proofs.Dictionary.{known}
-use Rattle.cells.proofs.Spelling.{valid-code}
 use Rattle.cells.proofs.Ranks.{degree-fits, same-by-rank}
 use Rattle.cells.proofs.OnePass.{start-word, word-start}
 use Rattle.mending.specs.Means.InRows.{inRow}
 use Rattle.mending.proofs.Members.{both-true}
 use Rattle.mending.proofs.WordNodes.{up, up-valid, up-degree}
 use Rattle.mending.proofs.Children.{kid, kid-allowed, kid-valid, kid-degree, kid-up}
-use Rattle.judging.proofs.WordKeys.{rank-degree, rank-small}
-use Rattle.mender.specs.Means.Joining.{wordAt, inRanks, before}
-use Rattle.mender.proofs.Rows.{unit, row-degree}
+use Rattle.judging.proofs.WordKeys.{rank-degree}
+use Rattle.merging.specs.Means.Joining.{wordAt, inRanks, before}
+use Rattle.merging.proofs.Rows.{unit, row-degree}
 
 -- ---- a child's rank
 
@@ -61,11 +58,10 @@ module _ (u : ℕ) (v : valid u ≡ true) where
   rank-rest =
       let n = degreeOf u in
       let z : 48 ≡ 2 * n + (48 - 2 * n) = omega (arith, degree-fits u v) in
-      let x : 2 ^ 48 ≡ 2 ^ (2 * n) * 2 ^ (48 - 2 * n) = ap (λ (j : ℕ). 2 ^ j) z ∙ pow-add 2 (2 * n) (48 - 2 * n) in
-      (
+      let x : 2 ^ 48 ≡ 2 ^ (2 * n) * 2 ^ (48 - 2 * n) = ap (λ (j : ℕ). 2 ^ j) z ∙ pow-add 2 (2 * n) (48 - 2 * n) in (
         sideOf u * 2 ^ (2 * n) + path (digits u n),
         ap (λ (j : ℕ). 64 * (sideOf u * j + path (digits u n) * 2 ^ (48 - 2 * n)) + n) x
-        ∙ rest-sum (sideOf u) (2 ^ (2 * n)) (2 ^ (48 - 2 * n)) (path (digits u n)) n,
+            ∙ rest-sum (sideOf u) (2 ^ (2 * n)) (2 ^ (48 - 2 * n)) (path (digits u n)) n,
       )
     where
       rest-sum : (s a b p n : ℕ) → 64 * (s * (a * b) + p * b) + n ≡ (s * a + p) * (64 * b) + n
@@ -155,7 +151,8 @@ module _ (d a : ℕ) (l : d < 24) (v : valid a ≡ true) where
 
       pub next-same : (j b : ℕ) → j < 4 → valid b ≡ true → eqb (rank b) (rank a + j * U) ≡ eqb b (kid t j)
       next-same j b h v′ =
-          ap (eqb (rank b)) (next-rank j h) ∙ sym (same-by-rank b (kid t j) v′ (kid-valid t j parent-valid parent-low h))
+          ap (eqb (rank b)) (next-rank j h)
+          ∙ sym (same-by-rank b (kid t j) v′ (kid-valid t j parent-valid parent-low h))
 
   -- the first child, by what is left over
   pub first-same : eqb (rank a % (4 * U)) (suc d) ≡ eqb (degreeOf a) (suc d) && eqb (digitOf a (suc d)) 0

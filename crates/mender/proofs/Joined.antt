@@ -1,10 +1,10 @@
 -- What the merges leave and tell by ranks is what mending says of the words; and the change list that is written in two
 -- parts. Assumes nothing.
 use mathlib.Core.Path.{_≡_, _∙_, refl, sym, ap, subst}
-use mathlib.Core.Bool.{Bool, true, false, cond}
+use mathlib.Core.Bool.{true, false}
 use mathlib.Core.Logic.{_⊎_, inl, inr, ⊎-elim}
 use mathlib.Core.List.{List, [], _∷_, _++_, map, map-append, append-nil}
-use Prim.Native.Nat.{ℕ, zero, suc, _+_, _^_, _≤_, _<_}
+use Prim.Native.Nat.{ℕ, zero, suc, _+_, _≤_, _<_}
 use native.Mathlib.Omega.{arith}
 use lib.Dec.{eqb}
 use lib.ListN.{length, getD, take, drop, take-append-drop, length-map, length-append}
@@ -15,18 +15,18 @@ use Rattle.cells.proofs.Dictionary.{known}
 use Rattle.mending.specs.Mending.{Change, change, judged, dropped, sound, mended, changes, mergesAt, replaced}
 use Rattle.mending.specs.Mending.{mergedBelow, mergesBelow}
 use Rattle.mending.specs.Answers.{wordsOf, reasonsOf}
-use Rattle.mending.specs.Means.InRows.{joined, joins, inRow, passed, passedMerges}
-use Rattle.mending.proofs.Members.{Mem, at-mem, append-mem, Valid}
+use Rattle.mending.specs.Means.InRows.{inRow, passed, passedMerges}
+use Rattle.mending.proofs.Members.{at-mem, append-mem, Valid}
 use Rattle.mending.proofs.WordNodes.{up}
 use Rattle.mending.proofs.Merging.{Good, merge-mem}
 use Rattle.mending.proofs.Dropping.{sound-good}
 use Rattle.mending.proofs.Mended.{next-good, mended-all}
 use Rattle.mending.proofs.Passes.{pass-is}
 use Rattle.judging.proofs.WordKeys.{rank-small}
-use Rattle.mender.specs.Means.Joining.{Small, wordAt, inRanks, before, joinedAt, joinsAt, joinedBelow, joinsBelow}
-use Rattle.mender.specs.Means.Joining.{fives, droppedWords, droppedReasons, Wrote}
-use Rattle.mender.proofs.Rows.{Each, joined-map}
-use Rattle.mender.proofs.Written.{writing-none, writing-on, writing-all, wrote-over}
+use Rattle.merging.specs.Means.Joining.{Small, wordAt, inRanks, before, joinedAt, joinsAt, joinedBelow, joinsBelow}
+use Rattle.merging.specs.Means.Joining.{fives, droppedWords, droppedReasons, Added}
+use Rattle.merging.proofs.Rows.{Each, joined-map}
+use Rattle.merging.proofs.Written.{writing-none, writing-on, writing-all, wrote-over}
 use Rattle.mender.proofs.ByRanks.{row-same, row-up, word-of-rank}
 
 -- ---- lists of codes
@@ -121,7 +121,7 @@ reasons-fives (u ∷ us) = ap (λ (l : List ℕ). 5 ∷ l) (reasons-fives us)
 
 -- one list in two parts
 pub two-writes : (old mid new xs ys : List ℕ) (c c′ : ℕ) → length mid ≡ length old → length new ≡ length mid
-    → Wrote old mid 0 c xs → Wrote mid new c c′ ys → (new ≡ over (xs ++ ys) old) × (c′ ≡ length (xs ++ ys))
+    → Added old mid 0 c xs → Added mid new c c′ ys → (new ≡ over (xs ++ ys) old) × (c′ ≡ length (xs ++ ys))
 two-writes old mid new xs ys c c′ l m w v =
     let a = writing-on (writing-none old 0 (xs ++ ys)) xs ys refl l w in
     let b = writing-on a ys [] (sym (append-nil ys)) m v in

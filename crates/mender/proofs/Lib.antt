@@ -1,8 +1,4 @@
--- The laws of the mender's functions.
-pub mod Written
-pub mod Rows
-pub mod Passes
-pub mod Dropped
+-- The laws of mending by ranks.
 pub mod ByRanks
 pub mod Joined
 pub mod Refusals

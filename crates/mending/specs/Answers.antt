@@ -41,10 +41,10 @@ reasonsOf cs = map (λ c. c .reason) cs
 -- "Both counts are answered; later places stay unchanged."
 abbrev pub mendOut : List ℕ → Lists → MendAnswer × Lists
 mendOut ws l =
-    let new = mended ws in
+    let list = mended ws in
     let cs = changes ws in (
-      mendAnswer 0 (length new) (length cs),
-      lists (over new (l .out)) (over (wordsOf cs) (l .words)) (over (reasonsOf cs) (l .reasons)),
+      mendAnswer 0 (length list) (length cs),
+      lists (over list (l .out)) (over (wordsOf cs) (l .words)) (over (reasonsOf cs) (l .reasons)),
     )
 
 abbrev pub MendResult : List ℕ → Lists → MendAnswer → Lists → Type 0

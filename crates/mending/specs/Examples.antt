@@ -14,7 +14,7 @@ infix 80 _for_
 abbrev pub _for_ : (code reason : ℕ) → Change
 s for r = change (written s .0) r
 
--- a list of words and three lists of so many places, which hold 7, 8 and 9
+-- three lists of so many places, which hold 7, 8 and 9
 abbrev pub lent : (out words reasons : ℕ) → Lists
 lent n m k = lists (replicate n 7) (replicate m 8) (replicate k 9)
 
@@ -45,10 +45,10 @@ pub record Examples : Type 0 where
   pub sides : mended (wordsFor (100 ∷ 101 ∷ 110 ∷ 111 ∷ [])) ≡ wordsFor (100 ∷ 101 ∷ 110 ∷ 111 ∷ [])
   -- "Both counts are answered; later places stay unchanged."
   pub places : MendResult (wordsFor (1003 ∷ 1001 ∷ 1000 ∷ 1002 ∷ 1003 ∷ [])) (lent 6 5 7) leaves (
-        mendAnswer 0 1 2,
-        lists (wordsFor (100 ∷ []) ++ replicate 5 7) (wordsFor (1003 ∷ 100 ∷ []) ++ replicate 3 8)
+    mendAnswer 0 1 2,
+    lists (wordsFor (100 ∷ []) ++ replicate 5 7) (wordsFor (1003 ∷ 100 ∷ []) ++ replicate 3 8)
         (3 ∷ 5 ∷ replicate 5 9),
-      )
+  )
   -- 9 for each of the three lists, and nothing is written
   pub short-out : MendResult (replicate 2 0) (lent 1 2 2) leaves (noMend 9, lent 1 2 2)
   pub short-words : MendResult (replicate 2 0) (lent 2 1 2) leaves (noMend 9, lent 2 1 2)

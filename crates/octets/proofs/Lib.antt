@@ -1,2 +1,3 @@
 -- The laws of numbers as bytes.
 pub mod Laying
+pub mod WordLists

@@ -1,10 +1,10 @@
--- Document 02, 2026-01 and 2026-04: numbers as bytes, and bytes as numbers. Assumes nothing.
+-- Document 02, 2026-01, 2026-04 and 2026-09: numbers as bytes, and bytes as numbers. Assumes nothing.
 use Prim.Native.Nat.{ℕ, zero, suc, _+_, _-_, _*_, _/_, _%_, _^_}
 use mathlib.Core.Bool.{cond}
 use mathlib.Core.List.{List, [], _∷_, _++_}
 use lib.Dec.{ltb}
 use lib.IntN.{ℤ, pos, negℤ}
-use lib.ListN.{take, drop}
+use lib.ListN.{length, take, drop}
 
 -- the k bytes of a number, "most significant first"
 abbrev pub bytesOf : (k w : ℕ) → List ℕ
@@ -36,6 +36,10 @@ readEach f k (suc m) bs = f (numberOf (take k bs)) ∷ readEach f k m (drop k bs
 -- as they are
 abbrev pub numbers : (k m : ℕ) → List ℕ → List ℕ
 numbers k m bs = readEach (λ w. w) k m bs
+
+-- "eight-byte codes, most significant byte first": the whole words that stand in bytes
+abbrev pub wordsIn : List ℕ → List ℕ
+wordsIn bs = numbers 8 (length bs / 8) bs
 
 -- "signed": the number of k bytes in two's complement, from the half of all on less 256^k
 unfoldable pub signed : (k w : ℕ) → ℤ

@@ -1,10 +1,10 @@
 // Numbers as bytes, most significant first. (The toolchain has a library of the name `bytes`, for bytes that are no
 // numbers.)
 ghost use mathlib.Core.Path.{_≡_};
-ghost use Prim.Native.Nat.{_≤_};
+ghost use Prim.Native.Nat.{_*_, _≤_};
 ghost use lib.ListN.{length, take};
 ghost use Rattle.frame.specs.Answers.{over};
-ghost use Rattle.octets.specs.Bytes.{bytesOf, numberOf, signed};
+ghost use Rattle.octets.specs.Bytes.{bytesOf, bytes, numberOf, numbers, signed};
 
 // The eight bytes of w over the front of out.
 pub fn put8(w: u64, out: &mut [u8])
@@ -50,4 +50,28 @@ pub fn get_signed4(bytes: &[u8]) -> i32
         return w as i32;
     }
     -1 - (0xFFFF_FFFF - w) as i32
+}
+
+// The first words of the bytes, eight for each, over the front of a list.
+pub fn read_words(bytes: &[u8], count: usize, words: &mut [u64])
+    requires { ⌜ (8 * count ≤ length (now bytes)) × (count ≤ length (now words)) ⌝ }
+    ensures { λ _. ⌜ take count (now (words .exit)) ≡ numbers 8 count (now (bytes .entry)) ⌝ }
+{
+    let mut i = 0;
+    while i < count {
+        words[i] = get8(&bytes[8 * i..]);
+        i += 1;
+    }
+}
+
+// The bytes of the first words of a list, eight for each, over the front of out.
+pub fn write_words(words: &[u64], count: usize, out: &mut [u8])
+    requires { ⌜ (count ≤ length (now words)) × (8 * count ≤ length (now out)) ⌝ }
+    ensures { λ _. ⌜ now (out .exit) ≡ over (bytes 8 (take count (now (words .entry)))) (now (out .entry)) ⌝ }
+{
+    let mut i = 0;
+    while i < count {
+        put8(words[i], &mut out[8 * i..]);
+        i += 1;
+    }
 }

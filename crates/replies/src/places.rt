@@ -2,12 +2,14 @@
 ghost use Prim.Native.Nat.{_+_, _-_, _*_, _≤_};
 ghost use lib.ListN.{length};
 
-// What a lent list holds before a call. As many of its places are lent as the line asks for.
-pub const LENT: [u64; 64] = [
-    1, 2, 3, 4, 5, 6, 7, 8, 9, 10, 11, 12, 13, 14, 15, 16, 17, 18, 19, 20, 21, 22, 23, 24, 25, 26, 27, 28, 29, 30, 31,
-    32, 33, 34, 35, 36, 37, 38, 39, 40, 41, 42, 43, 44, 45, 46, 47, 48, 49, 50, 51, 52, 53, 54, 55, 56, 57, 58, 59, 60,
-    61, 62, 63, 64,
-];
+// Before a call the places hold 1, 2, 3 and so on.
+pub fn number(list: &mut [u64]) {
+    let mut i = 0;
+    while i < list.len() {
+        list[i] = i as u64 + 1;
+        i += 1;
+    }
+}
 
 // How a place of a list is written.
 pub enum Entry {

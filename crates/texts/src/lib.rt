@@ -54,8 +54,8 @@ a lent list is too short: 12 for weights, 6 for triangles
 a word passes 1 to 4 as a corner name and is not the canonical one
 no corner of the degree has the twelve weights";
 
-// Document 02: the same, from 20.
-const REASONS_FROM_20: [u8; 356] = *b"wrong degree
+// Document 02: the same, from 20. (No call gives 30 or 31.)
+const REASONS_FROM_20: [u8; 391] = *b"wrong degree
 reading out of range
 the list's length isn't 20*4^degree
 the list holds a number that is neither a reading nor -1
@@ -64,7 +64,10 @@ owner list malformed (wrong length or another number)
 owned by the other desk
 not owned
 a list of counts or sums has the wrong length
-the stored count or sum of the parent concerned differs from its children's readings";
+the stored count or sum of the parent concerned differs from its children's readings
+
+
+a list has more than 4,096 words";
 
 // Document 02, 2026-09: the reasons of an offending place, from 1.
 const OFFENCES: [u8; 80] = *b"invalid

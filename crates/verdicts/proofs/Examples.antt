@@ -8,14 +8,14 @@ use lib.ListN.{length, getD}
 use borrow.Author.Tests.{eqb-false}
 use Rattle.frame.specs.Refusals.{firstOf}
 use Rattle.frame.specs.Lists.{some, firstPlace, below}
-use Rattle.octets.specs.Bytes.{bytes, readEach}
+use Rattle.octets.specs.Bytes.{bytes, readEach, wordsIn}
 use Rattle.words.specs.Words.{digits, path, wordOf}
 use Rattle.words.specs.Refusals.{checkCode}
 use Rattle.words.specs.Writing.{decimals, written}
 use Rattle.lines.specs.Writing.{glyph, lastDecimals, decimal}
 use Rattle.cells.specs.Order.{spelled, sooner, begins, lessThan, insideOf}
 use Rattle.cells.specs.Checking.{reasonAt, checked}
-use Rattle.verdicts.specs.Program.{wordsIn, badLengthText, tooLongText, verdictText, text, line}
+use Rattle.verdicts.specs.Program.{badLengthText, tooLongText, verdictText, text, line}
 use Rattle.verdicts.specs.Examples.{Examples, Bounds, Mistakes}
 
 pub examples : Examples

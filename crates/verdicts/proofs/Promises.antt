@@ -8,7 +8,7 @@ use native.Mathlib.Omega.{arith}
 use lib.Dec.{ltb, eqb}
 use lib.ListN.{length, getD}
 use borrow.Author.Tests.{ltb-true, ltb-false, eqb-true, eqb-false}
-use Rattle.octets.specs.Bytes.{bytes, readEach, numbers}
+use Rattle.octets.specs.Bytes.{bytes, readEach, numbers, wordsIn}
 use Rattle.octets.proofs.Laying.{bytes-long, read-long, numbers-back}
 use Rattle.lines.specs.Writing.{decimal}
 use Rattle.cells.specs.Checking.{checked, Accepted}
@@ -16,7 +16,7 @@ use Rattle.cells.specs.Promises.{FirstOffence}
 use Rattle.cells.specs.declared.Verdict.{Verdict}
 use Rattle.cells.proofs.Dictionary.{known}
 use Rattle.cells.proofs.Accepting.{checks, reason-none}
-use Rattle.verdicts.specs.Program.{wordsIn, acceptedText, badLengthText, tooLongText, placeText, reasonText}
+use Rattle.verdicts.specs.Program.{acceptedText, badLengthText, tooLongText, placeText, reasonText}
 use Rattle.verdicts.specs.Program.{verdictText, text}
 use Rattle.verdicts.specs.Promises.{Lines}
 use Rattle.verdicts.proofs.Texts.{text-accepted, text-place}

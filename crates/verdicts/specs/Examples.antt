@@ -3,10 +3,10 @@ use mathlib.Core.Path.{_≡_}
 use mathlib.Core.List.{List, [], _∷_, _++_}
 use Prim.Native.Nat.{ℕ}
 use lib.ListN.{length, replicate}
-use Rattle.octets.specs.Bytes.{bytes}
+use Rattle.octets.specs.Bytes.{bytes, wordsIn}
 use Rattle.words.specs.Writing.{written, wordsFor}
 use Rattle.cells.specs.Checking.{checked}
-use Rattle.verdicts.specs.Program.{wordsIn, acceptedText, badLengthText, tooLongText, placeText, reasonText}
+use Rattle.verdicts.specs.Program.{acceptedText, badLengthText, tooLongText, placeText, reasonText}
 use Rattle.verdicts.specs.Program.{verdictText, line}
 
 -- 1001, and 1001 again

@@ -4,14 +4,10 @@ use mathlib.Core.List.{List, [], _∷_, _++_}
 use Prim.Native.Nat.{ℕ, _/_, _%_}
 use lib.Dec.{ltb, eqb}
 use lib.ListN.{length}
-use Rattle.octets.specs.Bytes.{numbers}
+use Rattle.octets.specs.Bytes.{wordsIn}
 use Rattle.lines.specs.Writing.{decimal}
 use Rattle.cells.specs.Checking.{checked}
 use Rattle.cells.specs.declared.Verdict.{Verdict}
-
--- "eight-byte codes, most significant byte first"
-abbrev pub wordsIn : (file : List ℕ) → List ℕ
-wordsIn file = numbers 8 (length file / 8) file
 
 -- "accepted"   "bad length"   "too long"   "place "   " reason "
 abbrev pub acceptedText : List ℕ

@@ -4,12 +4,12 @@ use mathlib.Core.Logic.{_↔_}
 use mathlib.Core.List.{List, [], _++_}
 use Prim.Native.Nat.{ℕ, _%_, _^_, _<_, _≤_}
 use lib.ListN.{length, getD}
-use Rattle.octets.specs.Bytes.{bytes}
+use Rattle.octets.specs.Bytes.{bytes, wordsIn}
 use Rattle.lines.specs.Writing.{decimal}
 use Rattle.cells.specs.Checking.{Accepted}
 use Rattle.cells.specs.Promises.{FirstOffence}
 use Rattle.cells.specs.declared.Verdict.{Verdict}
-use Rattle.verdicts.specs.Program.{wordsIn, acceptedText, badLengthText, tooLongText, placeText, reasonText}
+use Rattle.verdicts.specs.Program.{acceptedText, badLengthText, tooLongText, placeText, reasonText}
 use Rattle.verdicts.specs.Program.{text, line}
 use Rattle.verdicts.specs.Files.{Holds}
 

@@ -1,10 +1,10 @@
 // The line that the program of document 02, 2026-09, writes for a file of cells: the file taken in part by part, in a
 // buffer that does not grow with it, and the line.
 use cells::Verdict;
-use octets::get8;
+use octets::read_words;
 ghost use mathlib.Core.Path.{_≡_};
 ghost use Prim.Native.Nat.{_+_, _*_, _%_, _≤_};
-ghost use lib.ListN.{length, take};
+ghost use lib.ListN.{length};
 ghost use Rattle.octets.specs.Bytes.{numbers};
 ghost use Rattle.lines.specs.Writing.{Wrote};
 ghost use Rattle.cells.specs.Checking.{checked};
@@ -31,18 +31,6 @@ pub fn take_in(next: &[u8], head: &mut [u8], size: usize) -> usize
         return past_room(size, next.len());
     }
     lines::put_bytes(next, head, size)
-}
-
-// The first words of the bytes, over the front of a list.
-fn read_words(bytes: &[u8], count: usize, words: &mut [u64])
-    requires { ⌜ (8 * count ≤ length (now bytes)) × (count ≤ length (now words)) ⌝ }
-    ensures { λ _. ⌜ take count (now (words .exit)) ≡ numbers 8 count (now (bytes .entry)) ⌝ }
-{
-    let mut i = 0;
-    while i < count {
-        words[i] = get8(&bytes[8 * i..]);
-        i += 1;
-    }
 }
 
 // Checks the first words of the bytes.

@@ -1,11 +1,13 @@
 -- A means to the proofs, of which no promise speaks: the order of the tree as an order of numbers. Assumes nothing.
 use mathlib.Core.Path.{_≡_}
+use mathlib.Core.Bool.{cond}
 use mathlib.Core.List.{List, [], _∷_}
 use Prim.Native.Nat.{ℕ, zero, suc, _+_, _-_, _*_, _^_, _<_}
 use lib.Dec.{ltb, eqb}
 use lib.ListN.{getD}
 use Rattle.frame.specs.Refusals.{_when_, firstOf}
 use Rattle.words.specs.Words.{degreeOf, digits, sideOf, path}
+use Rattle.cells.specs.Order.{valid}
 use Rattle.cells.specs.Checking.{reasonAt}
 use Rattle.cells.specs.declared.Reach.{Reach}
 
@@ -40,3 +42,7 @@ unfoldable pub reasonBy : (last : Reach) (rank : ℕ) → ℕ
 reasonBy l r =
     firstOf (2 ∷ 3 ∷ 4 ∷ [])
     (2 when ltb r (l .rank) ∷ 3 when eqb r (l .rank) ∷ 4 when ltb r (l .end) ∷ [])
+
+-- All reasons of a word after one with this reach.
+unfoldable pub reasonAfter : (last : Reach) (w : ℕ) → ℕ
+reasonAfter l w = cond (valid w) (reasonBy l (rank w)) 1

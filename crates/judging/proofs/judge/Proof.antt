@@ -1,14 +1,14 @@
 -- `judging::judge` meets its contract: what is told by keys is what mending says of the words (Reasons). Assumes
 -- nothing.
 use mathlib.Core.Path.{_≡_, _∙_, sym, ap, subst}
-use mathlib.Core.List.{List, map}
+use mathlib.Core.List.{List}
 use Prim.Native.Nat.{ℕ, _≤_}
 use native.Mathlib.Omega.{arith}
 use lib.ListN.{length, take}
 use lib.Seq.{length-take-le}
 use denote.Ref.{now}
 use borrow.Author.Needs.{needs}
-use Rattle.judging.specs.Means.Keys.{key, codePlaces, Numbered}
+use Rattle.judging.specs.Means.Keys.{codePlaces, Numbered}
 use Rattle.judging.specs.Means.Turns.{Nested, SmallKeys, Judged, Kept}
 use Rattle.judging.proofs.Turned.{nested, small-keys}
 use Rattle.judging.proofs.Reasons.{reasons-are, kept-are}
@@ -79,8 +79,8 @@ judge-codes-requires c κs =
     let n = c .before .before .before .before .before .before .before .before .before in
     let s = n .before .before .before .before .before .before .before in
     let e = sym (numbered n .keysAre) in
-    let l : length (n .number-words .last .1 .1 .1 .0) ≡ length (now (s .args .why)) = n .number-words .kept .1 .1 .1 .0 in
-    (
+    let l : length (n .number-words .last .1 .1 .1 .0) ≡ length (now (s .args .why)) =
+    n .number-words .kept .1 .1 .1 .0 in (
       in-order n,
       subst Nested e (nested (words n)),
       subst SmallKeys e (small-keys (words n)),
@@ -107,11 +107,10 @@ returns c =
     let why = r .judge-codes .last .1 .1 .1 .0 in
     let kept = take (r .judge-codes .result) (r .judge-codes .last .1 .1 .1 .1 .0) in
     let l : length old ≡ length (now (s .args .why)) = n .number-words .kept .1 .1 .1 .0 in
-    let m : length why ≡ length old = r .judge-codes .kept .1 .1 .1 .0 in
-    (
+    let m : length why ≡ length old = r .judge-codes .kept .1 .1 .1 .0 in (
       omega (arith, x .0, places-long n, numbered n .few),
       reasons-are ws (keys n) (places n) old why (codes n) (numbered n)
-      (subst (λ (ks : List ℕ). Judged ks old why) e (x .1)) (omega (arith, l, m, s .pre .1)),
+          (subst (λ (ks : List ℕ). Judged ks old why) e (x .1)) (omega (arith, l, m, s .pre .1)),
       kept-are ws kept (subst (λ (ks : List ℕ). Kept ks kept) e (x .2)),
     )
 

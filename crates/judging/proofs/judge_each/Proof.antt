@@ -1,12 +1,12 @@
 -- `judging::judge_each` meets its contract: after i codes the lists are as JudgedTo says (InOrder). Assumes nothing.
-use mathlib.Core.Path.{_≡_, _∙_, refl, sym, ap, subst}
-use mathlib.Core.List.{List, [], _∷_, _++_}
+use mathlib.Core.Path.{_≡_, refl, subst}
+use mathlib.Core.List.{[], _∷_, _++_}
 use Prim.Native.Nat.{ℕ, suc, _+_, _-_, _≤_, _<_}
 use native.Mathlib.Numerals.{add-one}
 use native.Mathlib.Omega.{arith}
 use denote.Ref.{now}
-use lib.ListN.{length, getD, take, set, length-set}
-use lib.Seq.{take-suc-set, length-take-le}
+use lib.ListN.{length, take, set, length-set}
+use lib.Seq.{take-suc-set}
 use borrow.Author.Needs.{needs}
 use Rattle.judging.specs.Means.Keys.{endOf}
 use Rattle.judging.specs.Means.Turns.{at, JudgedTo}
@@ -99,12 +99,13 @@ loop-again c =
     (set (l .why) (at ps (l .i)) (n .why-next .result)) (take (l .count) (l .kept) ++ (own ∷ [])) =
     next-kept ks ps (s .pre .0) (now (s .args .why)) (l .why)
     (take (l .count) (l .kept)) (l .i) (l .last) (l .end) t (l .inv .4) (slice-write-why n)
-    (n .why-next .result) (n .why-next .ensures) (b .if1 .taken) in (
+    (n .why-next .result) (n .why-next .ensures) (b .if1 .taken) in
+    let k = take-suc-set (l .kept) (l .count) own (slice-write-kept b) in (
       omega (arith, t),
       omega (arith, l .inv .1),
       simp length-set (l .inv .2),
       simp length-set (l .inv .3),
-      rw (add-one (l .i), add-one (l .count), take-suc-set (l .kept) (l .count) own (slice-write-kept b), c .end-of .ensures) g,
+      rw (add-one (l .i), add-one (l .count), k, c .end-of .ensures) g,
     )
 
 add-i-2 : tie.Need-add-i-2 Inv-loop μ-loop
@@ -145,8 +146,7 @@ returns c =
     let e : l .i ≡ length ps = omega (arith, c .loop-test .left, l .inv .0) in
     let g : JudgedTo ks ps (now (s .args .why)) (length ps) (l .last) (l .end) (l .why) (take (l .count) (l .kept)) =
     subst (λ (n : ℕ). JudgedTo ks ps (now (s .args .why)) n (l .last) (l .end) (l .why) (take (l .count) (l .kept)))
-    e (l .inv .4) in
-    (
+    e (l .inv .4) in (
       omega (arith, l .inv .1, e),
       judged-all ks ps (s .pre .0) _ _ _ _ _ g,
       kept-all ks ps (s .pre .0) _ _ _ _ _ g,

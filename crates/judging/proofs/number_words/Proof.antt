@@ -1,12 +1,12 @@
 -- `judging::number_words` meets its contract: after i words the lists are as NumberedTo says (WordKeys). Assumes
 -- nothing.
-use mathlib.Core.Path.{_≡_, _∙_, refl, sym, ap}
+use mathlib.Core.Path.{_≡_, _∙_, refl, sym}
 use mathlib.Core.List.{map}
-use Prim.Native.Nat.{ℕ, suc, _+_, _-_, _≤_, _<_}
+use Prim.Native.Nat.{_-_, _≤_, _<_}
 use native.Mathlib.Numerals.{add-one}
 use native.Mathlib.Omega.{arith}
 use denote.Ref.{now}
-use lib.ListN.{length, getD, set, length-set, length-map}
+use lib.ListN.{length, getD, length-set, length-map}
 use borrow.Author.Needs.{needs}
 use Rattle.judging.specs.Means.Keys.{key, NumberedTo}
 use Rattle.judging.proofs.WordKeys.{key-at, numbered-none, numbered-other, numbered-code, numbered-all}

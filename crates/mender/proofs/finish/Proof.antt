@@ -1,7 +1,7 @@
 -- `mender::finish` meets its contract: the dropped words, then the merges, and what is left (Joined). Assumes nothing.
-use mathlib.Core.Path.{_≡_, _∙_, refl, sym, ap, subst}
-use mathlib.Core.List.{List, [], _++_, map}
-use Prim.Native.Nat.{ℕ, _+_, _≤_, _<_}
+use mathlib.Core.Path.{_≡_, _∙_, sym, ap, subst}
+use mathlib.Core.List.{List, map}
+use Prim.Native.Nat.{ℕ, _+_, _≤_}
 use native.Mathlib.Omega.{arith}
 use lib.ListN.{length, take, length-map}
 use lib.Seq.{length-take-le}
@@ -10,9 +10,8 @@ use borrow.Author.Needs.{needs}
 use Rattle.frame.specs.Answers.{over}
 use Rattle.cells.specs.Means.Ranks.{rank}
 use Rattle.mending.specs.Mending.{mended, changes}
-use Rattle.mending.specs.Answers.{wordsOf, reasonsOf}
 use Rattle.mending.proofs.Again.{fits}
-use Rattle.mender.specs.Means.Joining.{Small, wordAt, joinsBelow, fives, droppedWords, droppedReasons}
+use Rattle.merging.specs.Means.Joining.{Small, wordAt, joinsBelow, fives, droppedWords, droppedReasons}
 use Rattle.mender.proofs.Joined.{small-kept, left-ranks, all-words, all-reasons, all-count, two-writes}
 use Rattle.mender.proofs.Joined.{mended-words, mended-small}
 use Rattle.mender.proofs.finish.Statement.{statement}
@@ -51,7 +50,8 @@ module _ (p : tie.After-put-dropped) where
   changed-long : length words ≤ length (p .put-dropped .last .1 .1 .0)
   changed-long =
       let s = p .before .before .before .before .before .before .before .before .before in
-      let e : length (p .put-dropped .last .1 .1 .0) ≡ length (now (s .args .changed)) = p .put-dropped .kept .1 .1 .0 in
+      let e : length (p .put-dropped .last .1 .1 .0) ≡ length (now (s .args .changed)) =
+      p .put-dropped .kept .1 .1 .0 in
       omega (arith, e, s .pre .2)
 
   reasons-long : length words ≤ length (p .put-dropped .last .1 .1 .1 .0)
@@ -64,8 +64,7 @@ module _ (p : tie.After-put-dropped) where
 merge-all-requires : tie.Need-merge-all-requires
 merge-all-requires c κs =
     let p = c .before .before .before .before .before .before .before in
-    let s = p .before .before .before .before .before .before .before .before .before in
-    (
+    let s = p .before .before .before .before .before .before .before .before .before in (
       s .pre .4,
       small-kept (words p) (why p) (kept p) (s .pre .5) (s .pre .6),
       omega (arith, room p, changed-long p),
@@ -102,8 +101,7 @@ module _ (m : tie.After-merge-all) where
 put-words-requires : tie.Need-put-words-requires
 put-words-requires c κs =
     let m = c .before .before .before .before .before .before .before .before in
-    let s = before-merges m .before .before .before .before .before .before .before .before .before in
-    (
+    let s = before-merges m .before .before .before .before .before .before .before .before .before in (
       few m,
       omega (arith, count-is m, fits (list m) .0, s .pre .1),
       subst Small (sym (left m)) (mended-small (list m)),
@@ -130,18 +128,18 @@ returns c =
     let ws = list m in
     let cw = two-writes (now (s .args .changed)) (p .put-dropped .last .1 .1 .0) (m .merge-all .last .1 .1 .0)
     (droppedWords ws (why p)) (map wordAt (joinsBelow 24 (kept p))) (dropped p) (m .merge-all .result .changes)
-    (p .put-dropped .kept .1 .1 .0) (m .merge-all .kept .1 .1 .0) (p .put-dropped .ensures .0) (m .merge-all .ensures .2) in
+    (p .put-dropped .kept .1 .1 .0) (m .merge-all .kept .1 .1 .0) (p .put-dropped .ensures .0)
+    (m .merge-all .ensures .2) in
     let cr = two-writes (now (s .args .reasons)) (p .put-dropped .last .1 .1 .1 .0) (m .merge-all .last .1 .1 .1 .0)
     (droppedReasons ws (why p)) (fives (joinsBelow 24 (kept p))) (dropped p) (m .merge-all .result .changes)
     (p .put-dropped .kept .1 .1 .1 .0) (m .merge-all .kept .1 .1 .1 .0) (p .put-dropped .ensures .1)
     (m .merge-all .ensures .3) in
     let ew = all-words ws (why p) (kept p) (s .pre .5) (s .pre .6) in
-    let er = all-reasons ws (why p) (kept p) (s .pre .5) (s .pre .6) in
-    (
+    let er = all-reasons ws (why p) (kept p) (s .pre .5) (s .pre .6) in (
       count-is m,
       cw .1 ∙ ap length ew ∙ length-map (changes ws) (λ c. c .word),
       w .put-words .ensures ∙ ap (λ (l : List ℕ). over (map wordAt l) (now (s .args .out))) (left m)
-      ∙ ap (λ (l : List ℕ). over l (now (s .args .out))) (mended-words ws),
+          ∙ ap (λ (l : List ℕ). over l (now (s .args .out))) (mended-words ws),
       cw .0 ∙ ap (λ (l : List ℕ). over l (now (s .args .changed))) ew,
       cr .0 ∙ ap (λ (l : List ℕ). over l (now (s .args .reasons))) er,
     )

@@ -1,5 +1,5 @@
 -- `mender::mend` meets its contract: the refusals in turn (Refusals), and then the answer. Assumes nothing.
-use mathlib.Core.Path.{_≡_, sym}
+use mathlib.Core.Path.{sym}
 use native.Mathlib.Omega.{arith}
 use denote.Ref.{now}
 use borrow.Author.Needs.{needs}
@@ -26,7 +26,8 @@ refused-requires-3 c κs = search needs
 
 returns-3 : tie.Need-returns-3
 returns-3 c =
-    rw (c .refused3 .ensures) (refusing (refuse-words _ _ (omega arith) (omega arith) (omega arith)) (λ z. omega (arith, z)))
+    rw (c .refused3 .ensures)
+    (refusing (refuse-words _ _ (omega arith) (omega arith) (omega arith)) (λ z. omega (arith, z)))
 
 refused-requires-4 : tie.Need-refused-requires-4
 refused-requires-4 c κs = search needs
@@ -54,8 +55,8 @@ returns-5 c =
     let x = m .mend-all .ensures in
     let s = m .before .before .before .before .before .before .before .before .before .before .before .before in
     answering (sym (refuse-none (now (s .args .input))
-    (lists (now (s .args .out)) (now (s .args .words)) (now (s .args .reasons))) (omega arith) (omega arith) (omega arith)
-    (omega arith)))
+    (lists (now (s .args .out)) (now (s .args .words)) (now (s .args .reasons)))
+    (omega arith) (omega arith) (omega arith) (omega arith)))
     (λ i. (x .0 i, lists (x .1 i) (x .2 i) (x .3 i)))
 
 pub mend-spec : {M : Type 1} → statement M

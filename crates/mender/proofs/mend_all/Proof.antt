@@ -2,7 +2,6 @@
 use mathlib.Core.Path.{_≡_}
 use native.Mathlib.Omega.{arith}
 use lib.ListN.{length}
-use denote.Ref.{now}
 use borrow.Author.Needs.{needs}
 use Rattle.mending.specs.Answers.{mendAnswer}
 use Rattle.mender.proofs.mend_all.Statement.{statement}
@@ -29,8 +28,7 @@ finish-requires c κs =
     let s = j .before .before .before .before .before .before .before in
     let x = j .judge .ensures in
     let w : length (j .judge .last .1 .0) ≡ 4096 = j .judge .kept .1 .0 in
-    let k : length (j .judge .last .1 .1 .0) ≡ 4096 = j .judge .kept .1 .1 .0 in
-    (
+    let k : length (j .judge .last .1 .1 .0) ≡ 4096 = j .judge .kept .1 .1 .0 in (
       omega (arith, w, s .pre .0),
       s .pre .1,
       s .pre .2,

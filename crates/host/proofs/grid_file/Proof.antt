@@ -1,45 +1,23 @@
--- The grid's refusal, then 9, then the eight bytes (Calls). Assumes nothing.
+-- The three numbers are handed on as they came. Assumes nothing.
 use borrow.Author.Needs.{needs}
-use mathlib.Core.Path.{_∙_}
-use native.Mathlib.Omega.{arith}
 use mir.Syntax.{w32}
 use mir.ValLaws.{toZ-ofZ}
-use Rattle.directions.specs.Answers.{FileAnswer}
-use Rattle.grid.specs.Writing.{towards}
-use Rattle.octets.proofs.Laying.{laid-one}
-use Rattle.host.proofs.Calls.{file-returns}
 use Rattle.host.proofs.grid_file.Statement.{statement}
 use Rattle.host.proofs.grid_file.Tie as tie
 
-file-requires : tie.Need-file-requires
-file-requires c κs = search needs
-
--- the direction that was handed on is the one of the three numbers
-filed : (c : tie.After-file) → (let a = c .before .before .args in
-    FileAnswer (a .degree) (towards (a .x) (a .y) (a .z)) (c .file .result))
-filed c =
-    let a = c .before .before .args in
-    let f = c .before .before .fits in
-    rw (toZ-ofZ w32 (a .x) (f .x), toZ-ofZ w32 (a .y) (f .y), toZ-ofZ w32 (a .z) (f .z)) at (c .file .ensures)
-
-returns : tie.Need-returns
-returns c = file-returns _ _ _ (filed (c .before .before)) .refused (c .if1 .taken)
-
-returns-2 : tie.Need-returns-2
-returns-2 c = file-returns _ _ _ (filed (c .before .before .before)) .short (c .before .if1 .left) (omega arith)
-
-put8-requires : tie.Need-put8-requires
-put8-requires c κs = search needs
+grid-file-requires : tie.Need-grid-file-requires
+grid-file-requires c κs = search needs
 
 same-length : tie.Need-same-length
 same-length c = search needs
 
-returns-3 : tie.Need-returns-3
-returns-3 c =
-    let p = c .before .before in
-    let e = p .before .before in
-    file-returns _ _ _ (filed (e .before .before .before)) .sent (e .before .if1 .left) (omega arith)
-    (p .put8 .ensures ∙ laid-one 8 _ _)
+returns : tie.Need-returns
+returns c =
+    let s = c .before .before .before .before .before in
+    let a = s .args in
+    let f = s .fits in
+    rw (toZ-ofZ w32 (a .x) (f .x), toZ-ofZ w32 (a .y) (f .y), toZ-ofZ w32 (a .z) (f .z))
+    at (c .before .before .grid-file .ensures)
 
 pub grid-file-spec : {M : Type 1} → statement M
-grid-file-spec = tie.close (tie.spec file-requires returns returns-2 put8-requires same-length returns-3)
+grid-file-spec = tie.close (tie.spec grid-file-requires same-length returns)

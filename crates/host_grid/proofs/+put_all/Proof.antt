@@ -10,15 +10,15 @@ use denote.Ref.{now}
 use Rattle.frame.specs.Answers.{over}
 use Rattle.octets.specs.Bytes.{bytes}
 use Rattle.octets.proofs.Laying.{laid-next, no-bytes}
-use Rattle.host.proofs.Exporting.{first-and-rest}
+use Rattle.host_grid.proofs.Exporting.{first-and-rest}
 use borrow.Fn.Kinds.{In}
 use borrow.Fn.PlainCycle.{Measures, is, falls, and}
-use Rattle.host.proofs.put_all.Reads as put-all
-use Rattle.host.proofs.put_all.Kinds as put-all-kinds
-use Rattle.host.proofs.+put_all.Lts-put_all as put-all-lts
+use Rattle.host_grid.proofs.put_all.Reads as put-all
+use Rattle.host_grid.proofs.put_all.Kinds as put-all-kinds
+use Rattle.host_grid.proofs.+put_all.Lts-put_all as put-all-lts
 use Rattle.octets.proofs.put8.Reads as put8-reads
-use Rattle.host.proofs.+put_all.{statement}
-use Rattle.host.proofs.+put_all.Tie.{close}
+use Rattle.host_grid.proofs.+put_all.{statement}
+use Rattle.host_grid.proofs.+put_all.Tie.{close}
 
 abbrev μ-put-all : Measures 2 put-all-kinds.ps ℕ
 μ-put-all κs a = length (a .0 .now)

@@ -13,8 +13,8 @@ use Rattle.frame.proofs.Answering.{answers-or-not, refusing, answering, answer-
 use Rattle.frame.proofs.Lengths.{ThenNine}
 use Rattle.octets.specs.Bytes.{bytes, numberAt}
 use Rattle.octets.proofs.Laying.{number-at, after-bytes, as-long}
-use Rattle.host.specs.Answers.{Sent, Exported}
-use Rattle.host.specs.Promises.{Hosted}
+use Rattle.host_grid.specs.Answers.{Sent, Exported}
+use Rattle.host_grid.specs.Promises.{Hosted}
 
 -- What the program returns over a call of document 01 that refuses k, and answers the numbers ms where k is 0.
 pub record Returns (k g least : ℕ) (Good : List ℕ → Type 0) (ms out : List ℕ) : Type 0 where

@@ -4,9 +4,9 @@ use mathlib.Core.Path.{_∙_}
 use mathlib.Core.List.{[], _∷_}
 use native.Mathlib.Omega.{arith}
 use Rattle.octets.proofs.Laying.{laid-one, laid-next}
-use Rattle.host.proofs.Calls.{cross-returns}
-use Rattle.host.proofs.grid_cross.Statement.{statement}
-use Rattle.host.proofs.grid_cross.Tie as tie
+use Rattle.host_grid.proofs.Calls.{cross-returns}
+use Rattle.host_grid.proofs.grid_cross.Statement.{statement}
+use Rattle.host_grid.proofs.grid_cross.Tie as tie
 
 cross-requires : tie.Need-cross-requires
 cross-requires c κs = search needs

@@ -25,8 +25,8 @@ use Rattle.host.proofs.grid_sweep.Reads as grid_sweep
 use Rattle.host.proofs.grid_check_cells.Reads as grid_check_cells
 use Rattle.host.proofs.grid_mend_cells.Reads as grid_mend_cells
 
--- The calls in the order of `OneAnswer`, of the crate host_grid and then of host_sweeps and of host_cells: for any plain
--- numbers, any result, and bytes left with any contents.
+-- The calls in the order of `OneAnswer`, of the crate host_grid and then of host_sweeps and of host_cells: for any
+-- plain numbers, any result, and bytes left with any contents.
 pub record Contracts : Type 0 where
   pub checkTriangle : (κs : Lfts 0) (word : ℕ) (r : ℕ)
       → Says (grid_check_triangle.Asked κs (word, tt)) (grid_check_triangle.Learnt κs (word, tt) r (word, tt))

@@ -1,5 +1,5 @@
-// What is exported to a C host (document 02, 2026-01): plain numbers and lent bytes in, a refusal number out. The calls of
-// document 01 are in the crate host_grid, the sweep of 2026-04 in host_sweeps, those on a cell list of 2026-09 and
+// What is exported to a C host (document 02, 2026-01): plain numbers and lent bytes in, a refusal number out. Document
+// 01's calls are in the crate host_grid, the sweep of 2026-04 in host_sweeps, those on a cell list of 2026-09 and
 // 2026-10 in host_cells. A library for C has the functions of one crate, and so they stand here once more, a line each.
 ghost use mathlib.Core.Path.{_≡_};
 ghost use Rattle.words.specs.Family.{codeOf};

@@ -82,7 +82,8 @@ module _ (ks : List ℕ) (i : ℕ) (keys places why : List ℕ) (codes k : ℕ) 
     keysAre = keys-next;
     placesAre =
         let late = codePlaces (suc i) (drop (suc i) ks) in
-        rw (take-suc-set places codes i in-places, append-assoc (take codes places) (i ∷ []) late) (rw (rest, ne-eqb k 0 n) at (g .placesAre));
+        rw (take-suc-set places codes i in-places, append-assoc (take codes places) (i ∷ []) late)
+        (rw (rest, ne-eqb k 0 n) at (g .placesAre));
     invalid = λ p m z. ⊎-elim (λ (q : p ≡ i). absurd (n (is ∙ ap (λ (j : ℕ). getD ks j 0) (sym q) ∙ z)))
         (λ q. g .invalid p q z)
         (eq-or-lt-of-le (let y : p ≤ i = omega (arith, m) in y));

@@ -17,7 +17,7 @@ use Rattle.frame.specs.Refusals.{_when_, firstOf}
 use Rattle.frame.specs.Lists.{some}
 use Rattle.frame.proofs.Refusing.{First, refuse-first}
 use Rattle.frame.proofs.Scanning.{none-each, none-there}
-use Rattle.words.specs.Words.{degreeOf, digits, sideOf, path, wordOf}
+use Rattle.words.specs.Words.{degreeOf, digits, sideOf, path, wordIn}
 use Rattle.words.proofs.WordLayout.{below-degree}
 use Rattle.words.proofs.Digits.{side-top, digits-are, path-lt}
 use Rattle.words.proofs.Codes.{code-side, code-word}
@@ -188,7 +188,7 @@ module _ (w : ℕ) (v : valid w ≡ true) where
   start-word =
       let s = sideOf w in
       let is : w ≡ (s * 2 ^ 5 + n) * 2 ^ 54 + p * 2 ^ (54 - 2 * n) =
-      code-word (valid-code w v) ∙ unfold wordOf in omega arith in
+      code-word (valid-code w v) ∙ unfold wordIn in omega arith in
       let m : w % 2 ^ 54 ≡ p * 2 ^ (54 - 2 * n) =
       ap (λ (k : ℕ). k % 2 ^ 54) is ∙ digits-mod (s * 2 ^ 5 + n) small in
       let q : p * 2 ^ (54 - 2 * n) ≡ 64 * (p * 2 ^ (48 - 2 * n)) =

@@ -4,7 +4,7 @@ use mathlib.Core.Logic.{_↔_, _⊎_}
 use mathlib.Core.List.{List, []}
 use Prim.Native.Nat.{ℕ, _*_, _^_, _≤_, _<_}
 use native.Mathlib.Omega.{arith}
-use Rattle.words.specs.Words.{degreeOf, digits, path, sideOf, wordOf}
+use Rattle.words.specs.Words.{degreeOf, digits, path, sideOf, wordOf, wordIn}
 use Rattle.words.specs.Family.{codeOf}
 use Rattle.words.specs.Refusals.{IsCode}
 use Rattle.words.specs.declared.TriangleCode.{TriangleCode}
@@ -62,5 +62,5 @@ pub words-order :
     → v < 2 ^ (2 * n)
     → w < 2 ^ (2 * n)
     → (wordOf s n v < wordOf t n w) ↔ ((s < t) ⊎ ((s ≡ t) × (v < w)))
-unfolding wordOf
+unfolding wordIn
 words-order s t n v w hn hv hw = word-order 5 24 6 s t n v w hn (omega arith) hv hw

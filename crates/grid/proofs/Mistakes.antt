@@ -16,7 +16,7 @@ use Rattle.frame.proofs.Answering.{no-other}
 use Rattle.golden.specs.Numbers.{golden, whole, _+φ_, negφ, _*φ_}
 use Rattle.golden.proofs.GoldenOrder.{is-nonneg, not-nonneg}
 use Rattle.golden.proofs.IntegerOrder.{pp}
-use Rattle.words.specs.Words.{digits, path, wordOf, sideOf, degreeOf}
+use Rattle.words.specs.Words.{digitsIn, path, wordOf, wordIn, sideOf, degreeOf}
 use Rattle.words.specs.Refusals.{checkCode, IsCode}
 use Rattle.words.specs.Family.{codeOf, codeAnswer}
 use Rattle.words.specs.declared.TriangleCode.{TriangleCode}
@@ -59,12 +59,12 @@ use Rattle.grid.proofs.Examples.{examples, points, rings}
 -- ---- close to an edge
 
 close-filed : FileAnswer 24 close gives codeAnswer 0 holder
-unfolding firstOf refuseFile decimals written path wordOf triangleAt unitAt cornerVertex leastFrom first holds nonNeg
+unfolding firstOf refuseFile decimals written path wordIn triangleAt unitAt cornerVertex leastFrom first holds nonNeg
     sideDets determinants replaced determinant exact _+φ_ negφ _*φ_ descent leastChild
 close-filed = files 24 close holder refl refl
 
 close-outside : Holds across-edge close → ⊥
-unfolding decimals written path wordOf digits corner cornerOf triangleAt unitAt cornerVertex determinants replaced
+unfolding decimals written path wordIn digitsIn corner cornerOf triangleAt unitAt cornerVertex determinants replaced
     determinant exact _+φ_ negφ _*φ_
 close-outside h = not-nonneg (dets across-edge close .d1) tt (h .n1)
 
@@ -76,7 +76,7 @@ six = written 10003 .0 ∷ written 10012 .0 ∷ written 10021 .0
     ∷ written 50002 .0 ∷ written 50013 .0 ∷ written 50031 .0 ∷ []
 
 all-six : allWords up 2 4 ≡ six
-unfolding decimals written path wordOf triangleAt unitAt cornerVertex holds nonNeg sideDets determinants replaced
+unfolding decimals written path wordIn triangleAt unitAt cornerVertex holds nonNeg sideDets determinants replaced
     determinant exact _+φ_ negφ _*φ_ allWords sideWords joined holders
 all-six = refl
 
@@ -85,7 +85,7 @@ abbrev OnEdge : ℕ → Type 0
 OnEdge w = (dets (codeOf w) up .d1 ≡ whole (pos 0)) ⊎ (dets (codeOf w) up .d2 ≡ whole (pos 0))
 
 each-on-edge : (m : ℕ) → m < 6 → OnEdge (getD six m 0)
-unfolding decimals written path wordOf digits corner cornerOf triangleAt unitAt cornerVertex determinants replaced
+unfolding decimals written path wordIn digitsIn corner cornerOf triangleAt unitAt cornerVertex determinants replaced
     determinant exact _+φ_ negφ _*φ_
 each-on-edge zero l = inl refl
 each-on-edge (suc zero) l = inl refl
@@ -156,7 +156,7 @@ fixed-name n q l f =
 -- ---- all of them
 
 pub mistakes : Mistakes
-unfolding firstOf refuseNumbered refuseBack checkCode decimals written path wordOf digits corner cornerOf triangleAt
+unfolding firstOf refuseNumbered refuseBack checkCode decimals written path wordIn digitsIn corner cornerOf triangleAt
     unitAt cornerVertex sum stepOf cross seamSide seamKept leastFrom first holds nonNeg sideDets determinants replaced
     determinant exact _+φ_ negφ _*φ_ descent leastChild refuseFile
 mistakes = record {

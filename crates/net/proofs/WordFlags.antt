@@ -9,7 +9,7 @@ use lib.Bits.{bitXor, bitAnd, xor-block, and-block, and-zero-l, xor-self}
 use lib.Pow.{pow-pos, pow-mono}
 use Rattle.words.proofs.Digits.{AreDigits, more}
 use Rattle.words.proofs.WordLayout.{unit-high}
-use Rattle.words.specs.Words.{path, wordOf}
+use Rattle.words.specs.Words.{path, wordOf, wordIn}
 use Rattle.net.specs.Sides.{OneToThree}
 use Rattle.net.specs.Division.{each}
 use Rattle.net.specs.Means.Paths.{digitsOf}
@@ -63,7 +63,7 @@ module _ (s : ℕ) {n : ℕ} {ds : List ℕ} (short : n ≤ 24) (are : AreDigits
   -- other digits and another number in the same place
   pub word-onto : {es : List ℕ} → AreDigits n es → (i : ℕ)
       → wordOf s n (path es) + i ≡ onto above es * unit + i
-  unfolding wordOf
+  unfolding wordIn
   word-onto {es} is i =
       let b : above * (2 ^ (2 * n) * unit) ≡ above * 2 ^ 54 = ap (λ (x : ℕ). above * x) filled in
       let c : above * (2 ^ (2 * n) * unit) ≡ above * 2 ^ (2 * n) * unit = sym (mul-assoc above (2 ^ (2 * n)) unit) in

@@ -10,7 +10,7 @@ use Rattle.frame.specs.Lists.{firstPlace}
 use Rattle.frame.specs.Answers.{over}
 use Rattle.frame.specs.Promises.{_leaves_}
 use Rattle.frame.proofs.Answering.{refusing, answering, gives-one, no-other}
-use Rattle.words.specs.Words.{path, wordOf}
+use Rattle.words.specs.Words.{path, wordIn}
 use Rattle.words.specs.Family.{codeAnswer, noCode}
 use Rattle.words.specs.declared.CodeAnswer.{CodeAnswer}
 use Rattle.filing.specs.declared.Direction.{Direction}
@@ -98,7 +98,7 @@ abbrev left-at : ℕ → SweepAnswer × List ℕ → ℕ
 left-at i x = getD (x .1) i 0
 
 pub mistakes : Mistakes
-unfolding decimals written path wordOf
+unfolding decimals written path wordIn
 mistakes = record {
   stops = no-other (told-by (λ r. r .refused)) (examples .swept) refl;
   all-refused = no-other (told-by (λ r. r .refusal)) (examples .swept) refl;

@@ -13,7 +13,7 @@ use lib.Pow.{shr-shr}
 use borrow.Author.Tests.{ltb-false, eqb-true, eqb-false, not-false, le-ltb, eq-eqb, ne-eqb}
 use Rattle.frame.specs.Refusals.{_either_, refusal, order}
 use Rattle.frame.proofs.Refusing.{none-so, none-after, either-false}
-use Rattle.words.specs.Words.{aOf, degreeOf, digits, beyond, zeroBits, cornerNumber, sideOf, path, wordOf}
+use Rattle.words.specs.Words.{aOf, degreeOf, digits, beyond, zeroBits, cornerNumber, sideOf, path, wordOf, wordIn}
 use Rattle.words.specs.Words.{inside}
 use Rattle.words.specs.Refusals.{wordRows, checkCode, checkNameFields, IsCode}
 use Rattle.words.specs.Family.{codeOf}
@@ -187,7 +187,7 @@ module _ {n : ℕ} {t : TriangleCode} (code : IsCode n t) where
 
   -- a code is the word of its side, degree and digits
   pub code-word : t .0 ≡ wordOf (sideOf (t .0)) n (path (digits (t .0) n))
-  unfolding wordOf
+  unfolding wordIn
   code-word =
       let w = t .0 in
       let clear : beyond w n ≡ 0 = rw (code .degreeIs) at (code-fields .clear) in
@@ -220,10 +220,10 @@ module _ (s n : ℕ) (s≥ : 4 ≤ s) (s< : s < 24) (n≤ : n ≤ 24) where
         degree = omega arith;
         aLow = omega arith;
         aHigh = omega arith;
-        clear = ap (λ (k : ℕ). beyond w k) d ∙ unfold wordOf in beyond-is 5 24 6 s n v n≤ (omega arith) h;
+        clear = ap (λ (k : ℕ). beyond w k) d ∙ unfold wordIn in beyond-is 5 24 6 s n v n≤ (omega arith) h;
       } in
       record {
-        passes = code-passes (codeOf w) .1 (f, unfold wordOf in low-is 5 24 6 s n v n≤ (omega arith) h);
+        passes = code-passes (codeOf w) .1 (f, unfold wordIn in low-is 5 24 6 s n v n≤ (omega arith) h);
         degreeIs = d;
       }
 

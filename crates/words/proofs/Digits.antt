@@ -7,14 +7,14 @@ use native.Mathlib.Nat.{mod-one, lt-of-lt-of-le}
 use native.Mathlib.Omega.{arith}
 use lib.Dec.{lit<}
 use lib.Pow.{pow-add, pow-mono}
-use Rattle.words.specs.Words.{degreeOf, digitOf, digits, beyond, sideOf, path, wordOf}
+use Rattle.words.specs.Words.{degreeOf, digitOf, digits, digitsIn, beyond, sideOf, path, wordOf, wordIn}
 use Rattle.words.proofs.WordLayout.{side-is, degree-is, path-is, path-next, beyond-means}
 
 pub side-top : (w : ℕ) → sideOf w ≡ w / 2 ^ 59
 side-top w = omega arith
 
 pub path-digits : (w n : ℕ) → n ≤ 24 → path (digits w n) ≡ w / 2 ^ (54 - 2 * n) % 2 ^ (2 * n)
-unfolding path digits
+unfolding path digitsIn
 path-digits w zero h = sym (mod-one (w / 2 ^ 54))
 path-digits w (suc n) h = omega (arith, path-digits w n (omega arith), path-next 5 24 6 w n h)
 
@@ -33,7 +33,7 @@ pub other-digits : {n d : ℕ} {ds : List ℕ} → AreDigits (suc n) (d ∷ ds) 
 other-digits (more h a) = a
 
 pub digits-are : (w n : ℕ) → AreDigits n (digits w n)
-unfolding digits
+unfolding digitsIn
 digits-are w zero = none
 digits-are w (suc n) = more {d = digitOf w (suc n)} (omega arith) (digits-are w n)
 
@@ -57,15 +57,15 @@ path-injective (more {d = d} {ds = ds} h a) (more {d = d′} {ds = es} k b) e =
 -- ---- what a made word holds
 
 pub side-word : (s n v : ℕ) → n ≤ 24 → v < 2 ^ (2 * n) → sideOf (wordOf s n v) ≡ s
-unfolding wordOf
+unfolding wordIn
 side-word s n v h k = side-top _ ∙ side-is 5 24 6 s n v h (omega arith) k
 
 pub degree-word : (s n v : ℕ) → n ≤ 24 → v < 2 ^ (2 * n) → degreeOf (wordOf s n v) ≡ n
-unfolding wordOf
+unfolding wordIn
 degree-word s n v h k = degree-is 5 24 6 s n v h (omega arith) k
 
 pub path-word : (s n v : ℕ) → n ≤ 24 → v < 2 ^ (2 * n) → path (digits (wordOf s n v) n) ≡ v
-unfolding wordOf
+unfolding wordIn
 path-word s n v h k = path-digits _ n h ∙ path-is 5 24 6 s n v h (omega arith) k
 
 pub digits-word : (s : ℕ) {n : ℕ} {ds : List ℕ} → n ≤ 24 → AreDigits n ds → digits (wordOf s n (path ds)) n ≡ ds

@@ -4,7 +4,7 @@ use mathlib.Core.Logic.{_↔_, _⊎_, inl, inr, ⊎-elim}
 use mathlib.Core.List.{List, _∷_}
 use Prim.Native.Nat.{ℕ, _<_}
 use native.Mathlib.Omega.{arith}
-use Rattle.words.specs.Words.{digits, sideOf, path, wordOf}
+use Rattle.words.specs.Words.{digits, sideOf, path, wordIn}
 use Rattle.words.specs.Refusals.{IsCode}
 use Rattle.words.specs.declared.TriangleCode.{TriangleCode}
 use Rattle.words.proofs.WordLayout.{lex, word-order}
@@ -34,7 +34,7 @@ before-path a b = (λ l. to-path l a b, from-path a b)
 module _ {n : ℕ} {t t′ : TriangleCode} (c : IsCode n t) (c′ : IsCode n t′) where
   pub order-by-path :
       (t .0 < t′ .0) ↔ ((sideOf (t .0) < sideOf (t′ .0)) ⊎ ((sideOf (t .0) ≡ sideOf (t′ .0)) × (path (digits (t .0) n) < path (digits (t′ .0) n))))
-  unfolding wordOf
+  unfolding wordIn
   order-by-path =
       let law = word-order 5 24 6 (sideOf (t .0)) (sideOf (t′ .0)) n _ _ (code-degree c) (omega (arith, code-degree c)) (path-lt (digits-are (t .0) n)) (path-lt (digits-are (t′ .0) n)) in
       (λ h. law .0 (omega (arith, code-word c, code-word c′)), λ h. omega (arith, code-word c, code-word c′, law .1 h))

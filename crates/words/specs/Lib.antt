@@ -1,3 +1,4 @@
+pub mod Forms
 pub mod Words
 pub mod Refusals
 pub mod Family

@@ -2,7 +2,7 @@
 use mathlib.Core.Path.{ap}
 use Prim.Native.Nat.{ℕ, _*_, _^_, _<_}
 use native.Mathlib.Omega.{arith}
-use Rattle.words.specs.Words.{wordOf}
+use Rattle.words.specs.Words.{wordIn}
 use Rattle.words.proofs.WordLayout.{below-degree}
 use borrow.Author.Needs.{needs}
 use Rattle.words.proofs.word_of.Statement.{statement}
@@ -36,7 +36,7 @@ add-result-2 : tie.Need-add-result-2
 add-result-2 c = omega (arith, below-54 c)
 
 returns : tie.Need-returns
-unfolding wordOf
+unfolding wordIn
 returns c = omega (arith, ap (λ (k : ℕ). c .before .args .v * k) (c .power .ensures))
 
 pub word-of-spec : {M : Type 1} → statement M

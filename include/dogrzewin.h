@@ -5,7 +5,8 @@
  * 3, lies opposite its corner k. A direction is any point but (0, 0, 0) on the ray from the centre, in whole numbers.
  *
  * Each call returns 0 where it answers, else the number of its refusal, and writes its answer to bytes that the caller
- * lends: eight bytes for each number, the most significant first. grid_number reads them.
+ * lends: eight bytes for each number, the most significant first. grid_number reads them. (The small word of a code of
+ * degree 11 or less has four bytes, which grid_small_number reads.)
  *
  *     uint8_t out[GRID_FILE_BYTES];
  *     if (grid_file(2, 0, 0, 1, out, sizeof out) == GRID_ANSWERED) {
@@ -40,7 +41,7 @@ extern "C" {
 #endif
 
 /* What a call returns: 0, or a refusal number of the grid's rules. Where several refusals hold, the first in the order
- * 32, 1, 2, 3, 4, 10, 5, 6, 8, 7, 9, 11 is given: 32 is checked before all others. Each call below names its own in
+ * 32, 1, 30, 2, 3, 4, 31, 10, 5, 6, 8, 7, 9, 11 is given: 32 is checked before all others. Each call below names its own in
  * that order. No call here gives 6 or 11. For 9 the lent list is out, or one of a sweep's or of a cell list's, and what
  * it needs stands at each call, in bytes. */
 enum grid_refusal {
@@ -68,6 +69,10 @@ enum grid_refusal {
     GRID_NOT_CANONICAL = 10,
     /* no corner of the degree has the twelve weights */
     GRID_NO_SUCH_CORNER = 11,
+    /* a degree, as field or argument, is 12 to 24 */
+    GRID_TOO_DEEP_FOR_SMALL = 30,
+    /* the last bit is set */
+    GRID_LAST_BIT_SET = 31,
     /* a list has more than 4,096 words */
     GRID_TOO_LONG = 32
 };
@@ -79,7 +84,11 @@ enum grid_bytes {
     GRID_LIST_BYTES = 56,
     GRID_SWEEP_BYTES = 24,
     GRID_CHECK_CELLS_BYTES = 16,
-    GRID_MEND_CELLS_BYTES = 16
+    GRID_MEND_CELLS_BYTES = 16,
+    GRID_SMALL_BYTES = 4,
+    GRID_LARGE_BYTES = 8,
+    GRID_CROSS_SMALL_BYTES = 12,
+    GRID_FILE_SMALL_BYTES = 4
 };
 
 /* The number in eight bytes, the most significant first: number k of an answer, from 0, is grid_number(out + 8 * k). */
@@ -90,6 +99,11 @@ static inline uint64_t grid_number(const uint8_t *bytes) {
         number = number << 8 | bytes[k];
     }
     return number;
+}
+
+/* The small word in four bytes, the most significant first. */
+static inline uint32_t grid_small_number(const uint8_t *bytes) {
+    return (uint32_t)bytes[0] << 24 | (uint32_t)bytes[1] << 16 | (uint32_t)bytes[2] << 8 | bytes[3];
 }
 
 /* Checks a word as the code of a triangle: 0 where it is one.
@@ -157,6 +171,37 @@ uint64_t grid_check_cells(const uint8_t *list, size_t list_length, uint8_t *out,
  * mended_length, words_length or reasons_length is below list_length, or out_length below GRID_MEND_CELLS_BYTES.) */
 uint64_t grid_mend_cells(const uint8_t *list, size_t list_length, uint8_t *mended, size_t mended_length, uint8_t *words,
                          size_t words_length, uint8_t *reasons, size_t reasons_length, uint8_t *out, size_t out_length);
+
+/* The small word of a code, for units that store 32 bits: the same triangle, of degree 11 or less. grid_large gives the
+ * code back.
+ *
+ * Writes: 4 bytes: the small word.
+ * Refusals: 1, 30, 2, 3, 4, 9. (9 where out_length is below GRID_SMALL_BYTES.) */
+uint64_t grid_small(uint64_t code, uint8_t *out, size_t out_length);
+
+/* The code of a small word. grid_small gives the small word back.
+ *
+ * Writes: 8 bytes: the code.
+ * Refusals: 30, 2, 3, 31, 9. (9 where out_length is below GRID_LARGE_BYTES.) */
+uint64_t grid_large(uint32_t word, uint8_t *out, size_t out_length);
+
+/* Checks a 32-bit word as the small word of a triangle: 0 where it is one.
+ *
+ * Writes: nothing.
+ * Refusals: 30, 2, 3, 31. */
+uint64_t grid_check_small(uint32_t word);
+
+/* Crosses an edge, 1 to 3, of the triangle with this small word, as grid_cross does.
+ *
+ * Writes: 12 bytes: the small word of the triangle across the edge in 4, and the number that the edge has there in 8.
+ * Refusals: 30, 2, 3, 31, 5, 9. (9 where out_length is below GRID_CROSS_SMALL_BYTES.) */
+uint64_t grid_cross_small(uint32_t word, uint64_t edge, uint8_t *out, size_t out_length);
+
+/* Files the direction (x, y, z) at a degree, as grid_file does.
+ *
+ * Writes: 4 bytes: the small word of the code that grid_file writes.
+ * Refusals: 1, 30, 8, 7, 9. (9 where out_length is below GRID_FILE_SMALL_BYTES.) */
+uint64_t grid_file_small(uint64_t degree, int32_t x, int32_t y, int32_t z, uint8_t *out, size_t out_length);
 
 #ifdef __cplusplus
 }

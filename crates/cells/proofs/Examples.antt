@@ -7,7 +7,7 @@ use lib.Dec.{eqb, lit<}
 use borrow.Author.Tests.{eqb-false}
 use Rattle.frame.specs.Refusals.{firstOf}
 use Rattle.frame.specs.Lists.{some, firstPlace, below}
-use Rattle.words.specs.Words.{digitsIn, path, wordIn}
+use Rattle.words.specs.Words.{firstDigits, path, wordIn}
 use Rattle.words.specs.Refusals.{checkCode}
 use Rattle.words.specs.Writing.{decimals, written}
 use Rattle.cells.specs.Order.{spelled, sooner, begins, lessThan, insideOf}
@@ -16,7 +16,7 @@ use Rattle.cells.specs.Examples.{Examples, Orders, Mistakes}
 use Rattle.cells.specs.declared.Verdict.{Verdict}
 
 pub examples : Examples
-unfolding firstOf some firstPlace below digitsIn path wordIn checkCode decimals written spelled sooner begins lessThan
+unfolding firstOf some firstPlace below firstDigits path wordIn checkCode decimals written spelled sooner begins lessThan
     insideOf reasonAt checked
 examples = record {
   tree = refl;
@@ -35,7 +35,7 @@ examples = record {
 }
 
 pub orders : Orders
-unfolding digitsIn path wordIn decimals written spelled sooner begins lessThan insideOf
+unfolding firstDigits path wordIn decimals written spelled sooner begins lessThan insideOf
 orders = record {
   by-side = refl;
   by-digits = refl;
@@ -58,7 +58,7 @@ place : Verdict → ℕ
 place r = r .place
 
 pub mistakes : Mistakes
-unfolding firstOf some firstPlace below digitsIn path wordIn checkCode decimals written spelled sooner begins lessThan
+unfolding firstOf some firstPlace below firstDigits path wordIn checkCode decimals written spelled sooner begins lessThan
     insideOf reasonAt checked reason place
 mistakes = record {
   as-numbers = differ reason refl;

@@ -10,16 +10,15 @@ use native.Mathlib.Omega.{arith}
 use lib.Dec.{ltb, eqb}
 use lib.ListN.{length, getD, take}
 use lib.Pow.{pow-add, pow-mono}
-use lib.Arith.{digits-mod}
 use lib.Seq.{getD-take, length-take-le}
 use borrow.Author.Tests.{eqb-false, le-ltb, ne-eqb}
 use Rattle.frame.specs.Refusals.{_when_, firstOf}
 use Rattle.frame.specs.Lists.{some}
 use Rattle.frame.proofs.Refusing.{First, refuse-first}
 use Rattle.frame.proofs.Scanning.{none-each, none-there}
-use Rattle.words.specs.Words.{degreeOf, digits, sideOf, path, wordIn}
-use Rattle.words.proofs.WordLayout.{below-degree}
-use Rattle.words.proofs.Digits.{side-top, digits-are, path-lt}
+use Rattle.words.specs.Words.{large, degreeOf, digits, sideOf, path}
+use Rattle.words.proofs.WordLayout.{side-top, tail-is}
+use Rattle.words.proofs.Digits.{digits-are, path-lt, large-roomy}
 use Rattle.words.proofs.Codes.{code-side, code-word}
 use Rattle.cells.specs.Order.{valid, lessThan, insideOf}
 use Rattle.cells.specs.Checking.{reasonAt, offends, verdict, accepted, checked}
@@ -179,25 +178,19 @@ module _ (w : ℕ) (v : valid w ≡ true) where
       let e : 54 - 2 * n ≡ 6 + (48 - 2 * n) = omega (arith, degree-fits w v) in
       ap (λ (k : ℕ). 2 ^ k) e ∙ pow-add 2 6 (48 - 2 * n)
 
-  small : p * 2 ^ (54 - 2 * n) < 2 ^ 54
-  small = below-degree 5 24 6 (sideOf w) n p (degree-fits w v) (omega (arith, degree-fits w v))
-      (path-lt (digits-are w n))
-
   pub start-word : sideOf w * 2 ^ 54 + w % 2 ^ 54 ≡ 64 * start w
   unfolding start width
   start-word =
-      let s = sideOf w in
-      let is : w ≡ (s * 2 ^ 5 + n) * 2 ^ 54 + p * 2 ^ (54 - 2 * n) =
-      code-word (valid-code w v) ∙ unfold wordIn in omega arith in
       let m : w % 2 ^ 54 ≡ p * 2 ^ (54 - 2 * n) =
-      ap (λ (k : ℕ). k % 2 ^ 54) is ∙ digits-mod (s * 2 ^ 5 + n) small in
+      ap (λ (k : ℕ). k % 2 ^ 54) (code-word (valid-code w v))
+      ∙ tail-is large large-roomy (sideOf w) n p (degree-fits w v) (path-lt (digits-are w n)) in
       let q : p * 2 ^ (54 - 2 * n) ≡ 64 * (p * 2 ^ (48 - 2 * n)) =
       ap (λ (k : ℕ). p * k) unit-width ∙ omega arith in
       omega (arith, m, q)
 
   -- a word is its side and degree, and what its start has below them
   pub word-start : w ≡ sideOf w * 2 ^ 59 + n * 2 ^ 54 + w % 2 ^ 54
-  word-start = omega (arith, side-top w)
+  word-start = omega (arith, side-top large w)
 
   pub start-fits : 64 * start w < 2 ^ 60
   start-fits = omega (arith, start-word, code-side (valid-code w v) .1)

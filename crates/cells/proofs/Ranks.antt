@@ -11,7 +11,7 @@ use native.Mathlib.Omega.{arith}
 use lib.Dec.{ltb, eqb}
 use lib.ListN.{length, length-reverse}
 use borrow.Author.Tests.{lt-ltb, le-ltb, eq-eqb, ne-eqb}
-use Rattle.words.specs.Words.{degreeOf, digitOf, digits, digitsIn, sideOf, path}
+use Rattle.words.specs.Words.{degreeOf, digitOf, digits, firstDigits, sideOf, path}
 use Rattle.words.proofs.Codes.{code-degree, code-side}
 use Rattle.words.proofs.CodeCount.{four-pow}
 use Rattle.cells.specs.Order.{valid, spelled, lessThan, insideOf}
@@ -27,7 +27,7 @@ abbrev letters : ℕ → List ℕ
 letters w = reverse (digits w (degreeOf w))
 
 letters-are : (w n : ℕ) → Digs (reverse (digits w n))
-unfolding digitsIn
+unfolding firstDigits
 letters-are w zero = tt
 letters-are w (suc n) =
     rw (reverse-cons (digitOf w (suc n)) (digits w n))
@@ -38,7 +38,7 @@ how-many w = length-reverse (digits w (degreeOf w)) ∙ digits-length w (degreeO
 
 filled : (w a n : ℕ) → n ≤ 24
     → fill 24 a (reverse (digits w n)) ≡ a * 4 ^ 24 + path (digits w n) * 4 ^ (24 - n)
-unfolding digitsIn path
+unfolding firstDigits path
 filled w a zero h = omega arith
 filled w a (suc n) h =
     let ds = digits w n in

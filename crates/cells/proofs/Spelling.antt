@@ -8,7 +8,7 @@ use Prim.Native.Nat.{ℕ, zero, suc, _-_}
 use native.Mathlib.Omega.{arith}
 use lib.ListN.{length}
 use borrow.Author.Tests.{eqb-true, eq-eqb}
-use Rattle.words.specs.Words.{degreeOf, digitOf, digits, digitsIn, sideOf}
+use Rattle.words.specs.Words.{degreeOf, digitOf, digits, firstDigits, sideOf}
 use Rattle.words.specs.Refusals.{IsCode}
 use Rattle.words.specs.Family.{codeOf, refuseParent, parentOf}
 use Rattle.words.proofs.Codes.{is-code, same-code}
@@ -26,7 +26,7 @@ pub code-valid : {n : ℕ} (w : ℕ) → IsCode n (codeOf w) → valid w ≡ tru
 code-valid w c = eq-eqb _ 0 (c .passes)
 
 pub digits-length : (w n : ℕ) → length (digits w n) ≡ n
-unfolding digitsIn
+unfolding firstDigits
 digits-length w zero = refl
 digits-length w (suc n) = ap suc (digits-length w n)
 
@@ -93,7 +93,7 @@ inside-between e p w h k b = begins-between (spelled e) (spelled p) (spelled w) 
 -- ---- by parents
 
 inside-side : (w u : ℕ) → degreeOf w ≡ 0 → insideOf w u ≡ false
-unfolding insideOf spelled digitsIn
+unfolding insideOf spelled firstDigits
 inside-side w u e =
     let s : sideOf w ∷ reverse (digits w (degreeOf w)) ≡ sideOf w ∷ [] =
     ap (λ (n : ℕ). sideOf w ∷ reverse (digits w n)) e in
@@ -102,7 +102,7 @@ inside-side w u e =
 -- a code is written as its parent, and one digit more
 spelled-parent : (w : ℕ) → refuseParent (codeOf w) ≡ 0
     → spelled w ≡ spelled (parentOf (codeOf w) .0) ++ (digitOf w (degreeOf w) ∷ [])
-unfolding spelled digitsIn
+unfolding spelled firstDigits
 spelled-parent w e =
     let n = degreeOf w in
     let p = parentOf (codeOf w) .0 in

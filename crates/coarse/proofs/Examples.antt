@@ -5,7 +5,7 @@ use lib.ListN.{getD}
 use Rattle.frame.specs.Refusals.{firstOf}
 use Rattle.frame.specs.Lists.{some, firstPlace, below}
 use Rattle.frame.proofs.Answering.{known-gives}
-use Rattle.words.specs.Words.{digits, path, wordOf}
+use Rattle.words.specs.Words.{firstDigits, path, wordIn}
 use Rattle.words.specs.Family.{parentOf, childOf}
 use Rattle.words.specs.Counting.{codeAt, placeOf}
 use Rattle.net.specs.Division.{sum}
@@ -21,7 +21,7 @@ use Rattle.coarse.specs.Examples.{Examples, Bounds, Mistakes}
 
 pub examples : Examples
 unfolding placeOf codeAt parentOf childOf some firstPlace below firstOf sum refuseCall refuseKept refuseWorkOut
-    everyParent answers after toldBy presentBy decimals written path wordOf digits
+    everyParent answers after toldBy presentBy decimals written path wordIn firstDigits
 examples = record {
   counted = refl;
   again = refl;
@@ -45,7 +45,7 @@ examples = record {
 
 pub bounds : Bounds
 unfolding placeOf codeAt parentOf childOf some firstPlace below firstOf sum refuseCall refuseKept refuseWorkOut
-    everyParent decimals written path wordOf digits
+    everyParent decimals written path wordIn firstDigits
 bounds = record {
   counts-19 = refl;
   counts-21 = refl;
@@ -96,7 +96,7 @@ counted x = getD (x .1 .counts) 0 0
 
 pub mistakes : Mistakes
 unfolding placeOf codeAt parentOf childOf some firstPlace below firstOf sum refuseCall refuseKept refuseWorkOut
-    everyParent decimals written path wordOf digits
+    everyParent decimals written path wordIn firstDigits
 mistakes = record {
   counted-twice = wrong (count 0) refl;
   not-lowered = wrong (total 0) refl;

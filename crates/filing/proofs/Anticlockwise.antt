@@ -14,7 +14,7 @@ use Rattle.golden.proofs.GoldenRing.{φ-ring, reφ, +φ-*φ, of-addφ, one-mul�
 use Rattle.golden.proofs.Magnitudes.{abs-mul}
 use Rattle.golden.proofs.RingSolver.{reify, done}
 use Rattle.golden.proofs.Signs.{of-squares}
-use Rattle.words.specs.Words.{digitOf, digits, digitsIn, sideOf}
+use Rattle.words.specs.Words.{digitOf, digits, firstDigits, sideOf}
 use Rattle.words.specs.Refusals.{IsCode}
 use Rattle.words.specs.declared.TriangleCode.{TriangleCode}
 use Rattle.words.proofs.Codes.{code-side}
@@ -89,7 +89,7 @@ once-more n x =
     ∙ ap (λ (m : ℕ). whole (pos m) *φ x) e
 
 orientation-at : (s : ℕ) → IsSide s → (w n : ℕ) → orientation (triangleAt s (digits w n)) ≡ powered n κ
-unfolding triangleAt digitsIn
+unfolding triangleAt firstDigits
 orientation-at s h w zero = side-orientation s h ∙ sym (one-mulφ κ)
 orientation-at s h w (suc n) =
     child-orientation (triangleAt s (digits w n)) (all-twelve s (digits w n)) (digitOf w (suc n))

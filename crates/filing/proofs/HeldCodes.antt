@@ -1,16 +1,15 @@
--- Whether a triangle code holds a direction, by its side and path; and the words of one degree in order. Assumes nothing.
+-- Whether a triangle code holds a direction, by its side and path. Assumes nothing.
 use mathlib.Core.Path.{_≡_, sym, _∙_, ap, subst}
-use mathlib.Core.Logic.{_↔_, _⊎_}
+use mathlib.Core.Logic.{_↔_}
 use mathlib.Core.List.{List, []}
 use Prim.Native.Nat.{ℕ, _*_, _^_, _≤_, _<_}
 use native.Mathlib.Omega.{arith}
-use Rattle.words.specs.Words.{degreeOf, digits, path, sideOf, wordOf, wordIn}
+use Rattle.words.specs.Words.{degreeOf, digits, path, sideOf, wordOf}
 use Rattle.words.specs.Family.{codeOf}
 use Rattle.words.specs.Refusals.{IsCode}
 use Rattle.words.specs.declared.TriangleCode.{TriangleCode}
 use Rattle.words.proofs.Digits.{digits-are, path-lt}
 use Rattle.words.proofs.Codes.{Has, code-side, code-word, made}
-use Rattle.words.proofs.WordLayout.{word-order}
 use Rattle.net.specs.Sides.{IsSide}
 use Rattle.net.specs.Division.{Triangle, triangle, cornerOf, triangleAt}
 use Rattle.net.specs.Corners.{corner}
@@ -54,13 +53,3 @@ pub code-is-word : {n : ℕ} {t : TriangleCode} → IsCode n t → (s : ℕ) × 
 code-is-word {n} {t} c =
     let e : t .0 ≡ wordOf (sideOf (t .0)) n (path (digits (t .0) n)) = code-word c in
     (sideOf (t .0), path (digits (t .0) n), code-side c, path-lt (digits-are (t .0) n), λ i. codeOf (e i))
-
--- words of one degree are ordered by side and then by path
-pub words-order :
-    (s t n v w : ℕ)
-    → n ≤ 24
-    → v < 2 ^ (2 * n)
-    → w < 2 ^ (2 * n)
-    → (wordOf s n v < wordOf t n w) ↔ ((s < t) ⊎ ((s ≡ t) × (v < w)))
-unfolding wordIn
-words-order s t n v w hn hv hw = word-order 5 24 6 s t n v w hn (omega arith) hv hw

@@ -1,7 +1,7 @@
 -- Refusals at their bounds and in their order (specs/Examples.antt: Bounds), computed. Assumes nothing.
 use mathlib.Core.Path.{refl}
 use Rattle.frame.specs.Refusals.{firstOf}
-use Rattle.words.specs.Words.{digits, path, wordOf}
+use Rattle.words.specs.Words.{firstDigits, path, wordIn}
 use Rattle.words.specs.Counting.{codeAt, placeOf}
 use Rattle.words.specs.Refusals.{checkCode}
 use Rattle.words.specs.Family.{refuseParent, refuseChild}
@@ -16,7 +16,7 @@ use Rattle.grid.specs.Examples.{Bounds}
 
 pub bounds : Bounds
 unfolding firstOf checkCode refuseParent refuseChild checkName lesserHas placeOf codeAt refuseNumbered refuseWeights
-    refuseNameWeights refuseBack refuseRing refuseFile refuseList decimals written path wordOf digits corner cornerOf
+    refuseNameWeights refuseBack refuseRing refuseFile refuseList decimals written path wordIn firstDigits corner cornerOf
     triangleAt unitAt cornerVertex sum
 bounds = record {
   word-0 = refl;

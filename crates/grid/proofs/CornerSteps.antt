@@ -8,7 +8,7 @@ use lib.ListN.{length}
 use Rattle.words.proofs.Codes.{code-side}
 use Rattle.words.proofs.Digits.{digits-are, more}
 use Rattle.words.specs.Refusals.{IsCode}
-use Rattle.words.specs.Words.{digitOf, digits, digitsIn, sideOf}
+use Rattle.words.specs.Words.{digitOf, digits, firstDigits, sideOf}
 use Rattle.words.specs.declared.TriangleCode.{TriangleCode}
 use Rattle.net.specs.Corners.{corner}
 use Rattle.net.specs.Division.{Weights, cornerOf, kept, middle, triangleAt}
@@ -134,7 +134,7 @@ module _ {n : ℕ} {t : TriangleCode} (c : IsCode (suc n) t) (low : suc n ≤ 24
   parent-corner = for-corner s above (code-side c) above-digits (omega (arith, above-length))
 
   last-digit : digitsIn t ≡ digitOf (t .0) (suc n) ∷ above
-  unfolding digitsIn
+  unfolding firstDigits
   last-digit = ap (digits (t .0)) (c .degreeIs)
 
   from-parent : (p : Weights) → Made s above p → IsKept n p ⊎ IsMiddle n p

@@ -11,7 +11,7 @@ use Rattle.words.proofs.Codes.{code-side}
 use Rattle.words.proofs.Digits.{none}
 use Rattle.words.specs.Counting.{codeAt, placeOf}
 use Rattle.words.specs.Refusals.{IsCode}
-use Rattle.words.specs.Words.{cornerNumber, digits, digitsIn, sideOf}
+use Rattle.words.specs.Words.{cornerNumber, digits, firstDigits, sideOf}
 use Rattle.words.specs.declared.CornerName.{CornerName}
 use Rattle.words.specs.declared.TriangleCode.{TriangleCode}
 use Rattle.net.specs.Corners.{nameOf, codeInside, corner, named}
@@ -61,7 +61,7 @@ units-differ = sound (below 12 λ u. below 12 λ v. same (getD (unitAt u) u 0) (
 
 -- a code of degree 0 has no digits
 no-digits : {t : TriangleCode} → IsCode 0 t → digitsIn t ≡ []
-unfolding digitsIn
+unfolding firstDigits
 no-digits {t} c = ap (digits (t .0)) (c .degreeIs)
 
 -- its corners are the vertices of its side

@@ -9,7 +9,7 @@ use lib.Seq.{take-append-seam}
 use Rattle.frame.specs.Answers.{Known, Lent, over}
 use Rattle.frame.specs.Promises.{_gives_}
 use Rattle.frame.proofs.Answering.{answering, good, keeps, keeps-is, keeps-known, passed}
-use Rattle.words.specs.Words.{cornerNumber, degreeOf, digitOf, digits, digitsIn, sideOf}
+use Rattle.words.specs.Words.{cornerNumber, degreeOf, digitOf, digits, firstDigits, sideOf}
 use Rattle.words.specs.Refusals.{IsCode}
 use Rattle.words.specs.Family.{codeAnswer, noCode, refuseParent, refuseChild, parentOf, childOf, ParentAnswer}
 use Rattle.words.specs.Family.{ChildAnswer}
@@ -87,7 +87,7 @@ unfolding corner cornerOf
 triangle-at t = refl
 
 side-corners : (t : TriangleCode) → IsCode 0 t → triangleOf t ≡ triangleAt (sideOf (t .0)) []
-unfolding digitsIn
+unfolding firstDigits
 side-corners t c = triangle-at t ∙ ap (λ (n : ℕ). triangleAt (sideOf (t .0)) (digits (t .0) n)) (c .degreeIs)
 
 child-corners : (t : TriangleCode) (d : ℕ) → refuseChild t d ≡ 0

@@ -7,7 +7,7 @@ use lib.Ieee.{fits, ofBits}
 use lib.ListN.{replicate}
 use Rattle.frame.specs.Refusals.{firstOf}
 use Rattle.golden.specs.Numbers.{_+φ_, negφ, _*φ_}
-use Rattle.words.specs.Words.{digits, digitsIn, path, wordOf, wordIn}
+use Rattle.words.specs.Words.{firstDigits, path, wordIn}
 use Rattle.words.specs.Counting.{codeAt, placeOf}
 use Rattle.words.specs.Refusals.{checkNameFields}
 use Rattle.words.specs.Family.{refuseParent, refuseChild, parentOf, childOf}
@@ -39,7 +39,7 @@ use Rattle.grid.proofs.Showing.{point-by, ticks-test}
 -- ---- the name of V(41), its t, and what is drawn
 
 passes : checkName (nameOf 0x7000000000000002) ≡ 0
-unfolding checkNameFields firstOf path wordIn digitsIn stepOf cross seamSide seamKept around wordAt nameAt leastName
+unfolding checkNameFields firstOf path wordIn firstDigits stepOf cross seamSide seamKept around wordAt nameAt leastName
 passes = passes-by (nameOf 0x7000000000000002) refl refl
 
 ticks-41 : AreTicks (exact (unitAt (vertex 4 1))) (ticks (minus 106039) (pos 0) (minus 65536) .at)
@@ -60,21 +60,21 @@ unfolding ofBits fits
 point-20 = point-by _ _ _ _ ticks-20 ((refl, refl), tt) ((refl, refl), tt) ((refl, refl), tt)
 
 passes-20 : checkName (nameOf 0x2000000000000003) ≡ 0
-unfolding checkNameFields firstOf path wordIn digitsIn stepOf cross seamSide seamKept around wordAt nameAt leastName
+unfolding checkNameFields firstOf path wordIn firstDigits stepOf cross seamSide seamKept around wordAt nameAt leastName
 passes-20 = passes-by (nameOf 0x2000000000000003) refl refl
 
 deeper-20 : AreTicks (exact (corner (written 2002) 2)) (ticks (pos 212079) (pos 0) (pos 131072) .at)
-unfolding decimals written path wordIn digitsIn corner cornerOf triangleAt unitAt cornerVertex exact _+φ_ negφ _*φ_
+unfolding decimals written path wordIn firstDigits corner cornerOf triangleAt unitAt cornerVertex exact _+φ_ negφ _*φ_
 deeper-20 = ticks-test _ _ (tt, tt) (tt, tt) (tt, tt)
 
 deeper-41 : AreTicks (exact (corner (written 4011) 1)) (ticks (minus 212079) (pos 0) (minus 131072) .at)
-unfolding decimals written path wordIn digitsIn corner cornerOf triangleAt unitAt cornerVertex exact _+φ_ negφ _*φ_
+unfolding decimals written path wordIn firstDigits corner cornerOf triangleAt unitAt cornerVertex exact _+φ_ negφ _*φ_
 deeper-41 = ticks-test _ _ (tt, tt) (tt, tt) (tt, tt)
 
 -- ---- E1 to E12
 
 pub examples : Examples
-unfolding firstOf refuseFile refuseNumbered refuseBack decimals written path wordIn digitsIn corner cornerOf triangleAt
+unfolding firstOf refuseFile refuseNumbered refuseBack decimals written path wordIn firstDigits corner cornerOf triangleAt
     unitAt cornerVertex sum stepOf cross seamSide seamKept around wordAt nameAt leastName leastFrom first holds nonNeg
     sideDets determinants replaced determinant exact _+φ_ negφ _*φ_ descent leastChild allWords sideWords joined
     holders
@@ -101,7 +101,7 @@ examples = record {
 -- ---- how the corners turn, parent and child, weights, rings
 
 pub crossings : Crossings
-unfolding firstOf refuseNumbered decimals written path wordIn digitsIn stepOf cross seamSide seamKept
+unfolding firstOf refuseNumbered decimals written path wordIn firstDigits stepOf cross seamSide seamKept
 crossings = record {
   inside = crosses (written 1000) 1 _ _ refl refl refl;
   seam = crosses (written 100) 3 _ _ refl refl refl;
@@ -110,7 +110,7 @@ crossings = record {
 }
 
 pub family : Family
-unfolding firstOf refuseParent refuseChild parentOf childOf decimals written path wordIn digitsIn
+unfolding firstOf refuseParent refuseChild parentOf childOf decimals written path wordIn firstDigits
 family = record {
   child = gives-code _ _ _ refl refl;
   parent = gives-code _ _ _ refl refl;
@@ -119,12 +119,12 @@ family = record {
 }
 
 passes-weighed : checkName (cornerIn 10000 1) ≡ 0
-unfolding checkNameFields firstOf decimals written path wordIn digitsIn stepOf cross seamSide seamKept around wordAt
+unfolding checkNameFields firstOf decimals written path wordIn firstDigits stepOf cross seamSide seamKept around wordAt
     nameAt leastName
 passes-weighed = passes-by (cornerIn 10000 1) refl refl
 
 pub weighed : Weighed
-unfolding firstOf refuseNumbered decimals written path wordIn digitsIn corner cornerOf triangleAt unitAt cornerVertex
+unfolding firstOf refuseNumbered decimals written path wordIn firstDigits corner cornerOf triangleAt unitAt cornerVertex
 weighed = record {
   w1 = weighs (written 10012) 1 _ refl refl;
   w2 = weighs (written 10012) 2 _ refl refl;
@@ -133,17 +133,17 @@ weighed = record {
 }
 
 passes-five : checkName (cornerIn 100 1) ≡ 0
-unfolding checkNameFields firstOf decimals written path wordIn digitsIn stepOf cross seamSide seamKept around wordAt
+unfolding checkNameFields firstOf decimals written path wordIn firstDigits stepOf cross seamSide seamKept around wordAt
     nameAt leastName
 passes-five = passes-by (cornerIn 100 1) refl refl
 
 passes-six : checkName (cornerIn 1000 3) ≡ 0
-unfolding checkNameFields firstOf decimals written path wordIn digitsIn stepOf cross seamSide seamKept around wordAt
+unfolding checkNameFields firstOf decimals written path wordIn firstDigits stepOf cross seamSide seamKept around wordAt
     nameAt leastName
 passes-six = passes-by (cornerIn 1000 3) refl refl
 
 pub rings : Rings
-unfolding decimals written path wordIn digitsIn corner cornerOf triangleAt unitAt cornerVertex stepOf cross seamSide
+unfolding decimals written path wordIn firstDigits corner cornerOf triangleAt unitAt cornerVertex stepOf cross seamSide
     seamKept around wordAt ringWords
 rings =
     record { five = rings-by (cornerIn 100 1) _ passes-five refl; six = rings-by (cornerIn 1000 3) _ passes-six refl }
@@ -152,7 +152,7 @@ rings =
 
 pub places : Places
 unfolding firstOf refuseWeights refuseNumbered refuseRing refuseList checkName lesserHas placeOf codeAt decimals
-    written path wordOf digits corner cornerOf triangleAt unitAt cornerVertex
+    written path wordIn firstDigits corner cornerOf triangleAt unitAt cornerVertex
 places = record {
   ring = rings .five (replicate 7 7) (lit≤ tt);
   holders = examples .whole (replicate 7 7) (lit≤ tt);
@@ -165,7 +165,7 @@ places = record {
 -- ---- coordinates
 
 ticks-six : AreTicks (exact (named (cornerIn 1000 3))) (ticks (pos 0) (pos 0) (pos 212079) .at)
-unfolding decimals written path wordIn digitsIn corner cornerOf triangleAt unitAt cornerVertex exact _+φ_ negφ _*φ_
+unfolding decimals written path wordIn firstDigits corner cornerOf triangleAt unitAt cornerVertex exact _+φ_ negφ _*φ_
 ticks-six = ticks-test _ _ (tt, tt) (tt, tt) (tt, tt)
 
 point-six : IsPoint 1 (exact (named (cornerIn 1000 3))) (point 0 0 0 0x3ff9e37800000000 .at)
@@ -173,7 +173,7 @@ unfolding ofBits fits
 point-six = point-by _ _ _ _ ticks-six ((refl, refl), tt) ((refl, refl), tt) ((refl, refl), tt)
 
 pub points : Points
-unfolding firstOf refuseNumbered checkName decimals written path wordIn digitsIn corner cornerOf triangleAt unitAt
+unfolding firstOf refuseNumbered checkName decimals written path wordIn firstDigits corner cornerOf triangleAt unitAt
     cornerVertex exact _+φ_ _*φ_
 points = record {
   v41 = placed (written 401) 1 refl _ refl;

@@ -16,14 +16,15 @@ use Rattle.frame.proofs.Answering.{no-other}
 use Rattle.golden.specs.Numbers.{golden, whole, _+φ_, negφ, _*φ_}
 use Rattle.golden.proofs.GoldenOrder.{is-nonneg, not-nonneg}
 use Rattle.golden.proofs.IntegerOrder.{pp}
-use Rattle.words.specs.Words.{digitsIn, path, wordOf, wordIn, sideOf, degreeOf}
+use Rattle.words.specs.Words.{large, firstDigits, path, wordOf, wordIn, sideOf, degreeOf}
 use Rattle.words.specs.Refusals.{checkCode, IsCode}
 use Rattle.words.specs.Family.{codeOf, codeAnswer}
 use Rattle.words.specs.declared.TriangleCode.{TriangleCode}
 use Rattle.words.specs.declared.CornerName.{CornerName}
 use Rattle.words.specs.declared.CodeAnswer.{CodeAnswer}
 use Rattle.words.proofs.Codes.{path-code}
-use Rattle.words.proofs.Digits.{side-word}
+use Rattle.words.proofs.WordLayout.{side-is}
+use Rattle.words.proofs.Digits.{large-roomy}
 use Rattle.net.specs.Sides.{cornerVertex}
 use Rattle.net.specs.Division.{unitAt, triangleAt, cornerOf, sum}
 use Rattle.net.specs.Corners.{corner}
@@ -64,7 +65,7 @@ unfolding firstOf refuseFile decimals written path wordIn triangleAt unitAt corn
 close-filed = files 24 close holder refl refl
 
 close-outside : Holds across-edge close → ⊥
-unfolding decimals written path wordIn digitsIn corner cornerOf triangleAt unitAt cornerVertex determinants replaced
+unfolding decimals written path wordIn firstDigits corner cornerOf triangleAt unitAt cornerVertex determinants replaced
     determinant exact _+φ_ negφ _*φ_
 close-outside h = not-nonneg (dets across-edge close .d1) tt (h .n1)
 
@@ -85,7 +86,7 @@ abbrev OnEdge : ℕ → Type 0
 OnEdge w = (dets (codeOf w) up .d1 ≡ whole (pos 0)) ⊎ (dets (codeOf w) up .d2 ≡ whole (pos 0))
 
 each-on-edge : (m : ℕ) → m < 6 → OnEdge (getD six m 0)
-unfolding decimals written path wordIn digitsIn corner cornerOf triangleAt unitAt cornerVertex determinants replaced
+unfolding decimals written path wordIn firstDigits corner cornerOf triangleAt unitAt cornerVertex determinants replaced
     determinant exact _+φ_ negφ _*φ_
 each-on-edge zero l = inl refl
 each-on-edge (suc zero) l = inl refl
@@ -111,7 +112,7 @@ filed-side n d t l z a =
     let e : t ≡ codeOf (wordOf (leastFrom d 4) n v) = filed-once (a .answered z .is) (found-code n d l) in
     let k : 0 + n ≡ n = omega arith in
     ap (λ (t : TriangleCode). sideOf (t .0)) e
-    ∙ side-word (leastFrom d 4) n v l (rw k at (descent-low n (sideDets d (leastFrom d 4)) 0 0 (omega arith)))
+    ∙ side-is large large-roomy (leastFrom d 4) n v l (rw k at (descent-low n (sideDets d (leastFrom d 4)) 0 0 (omega arith)))
 
 -- (1, 1, 1) and (-1, -1, -1) lie in different sides
 abbrev there : Direction
@@ -156,7 +157,7 @@ fixed-name n q l f =
 -- ---- all of them
 
 pub mistakes : Mistakes
-unfolding firstOf refuseNumbered refuseBack checkCode decimals written path wordIn digitsIn corner cornerOf triangleAt
+unfolding firstOf refuseNumbered refuseBack checkCode decimals written path wordIn firstDigits corner cornerOf triangleAt
     unitAt cornerVertex sum stepOf cross seamSide seamKept leastFrom first holds nonNeg sideDets determinants replaced
     determinant exact _+φ_ negφ _*φ_ descent leastChild refuseFile
 mistakes = record {

@@ -24,14 +24,15 @@ use Rattle.golden.proofs.GoldenRing.{φ-ring, reφ}
 use Rattle.golden.proofs.IntegerOrder.{le-or-lt}
 use Rattle.golden.proofs.Nearest.{t-small}
 use Rattle.golden.proofs.RingSolver.{reify, done}
-use Rattle.words.specs.Words.{degreeOf, sideOf}
+use Rattle.words.specs.Words.{large, degreeOf, sideOf}
 use Rattle.words.specs.Refusals.{IsCode, checkNameFields, nameRows}
 use Rattle.words.specs.declared.CornerName.{CornerName}
 use Rattle.words.specs.declared.TriangleCode.{TriangleCode}
 use Rattle.words.proofs.CodeCount.{at-place, code-at, codes-rise, place-at, place-below}
 use Rattle.words.proofs.Codes.{code-below, code-side, code-word, made}
-use Rattle.words.proofs.Digits.{beyond-zero, more, none}
+use Rattle.words.proofs.Digits.{more, none}
 use Rattle.words.proofs.Digits as digits
+use Rattle.words.proofs.WordLayout.{beyond-means}
 use Rattle.words.proofs.WordOrder.{order-by-path}
 use Rattle.net.specs.Sides.{OneToThree, cornerVertex, next, prev}
 use Rattle.net.specs.Division.{Weights, sum, unitAt}
@@ -289,7 +290,7 @@ sentences = record {
         let m = made s n (hs .0) (hs .1) h (digits-are n ds a) in (m .code, m .side, m .digitsAre);
   };
   refusals = record {
-    digitsBeyond = beyond-zero;
+    digitsBeyond = beyond-means large;
     notCanonical = row-10;
     canonical = name-means;
     noCorner = row-11;

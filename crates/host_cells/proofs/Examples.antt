@@ -12,7 +12,7 @@ use Rattle.frame.specs.Promises.{_leaves_}
 use Rattle.frame.proofs.Refusing.{given-so}
 use Rattle.frame.proofs.Answering.{known-gives, no-other}
 use Rattle.octets.specs.Bytes.{bytes, readEach}
-use Rattle.words.specs.Words.{digitsIn, path, wordIn}
+use Rattle.words.specs.Words.{firstDigits, path, wordIn}
 use Rattle.words.specs.Refusals.{checkCode}
 use Rattle.words.specs.Family.{parentOf, childOf}
 use Rattle.words.specs.Writing.{decimals, written}
@@ -28,7 +28,7 @@ use Rattle.host_cells.specs.Examples.{inside, children, Examples, Bounds
 use Rattle.host_cells.proofs.CellBytes.{check-nothing, mend-long, mend-odd, mend-nothing}
 
 pub examples : Examples
-unfolding firstOf some firstPlace those below bytes readEach digitsIn path wordIn checkCode parentOf childOf decimals
+unfolding firstOf some firstPlace those below bytes readEach firstDigits path wordIn checkCode parentOf childOf decimals
     written spelled sooner begins lessThan insideOf reasonAt checked member dropReason judged kept dropped insert
     ordered sound wholeIn parents mergesAt replaced mergedBelow mergesBelow mended changes refuseCheck refuseMend
 examples = record {
@@ -86,7 +86,7 @@ abbrev count-byte : ℕ → ℕ × (Lists × List ℕ) → ℕ
 count-byte i x = getD (x .1 .1) i 0
 
 offence-told : CheckBytes inside (replicate 16 9) leaves (0, replicate 7 0 ++ (4 ∷ replicate 7 0) ++ (1 ∷ []))
-unfolding firstOf some firstPlace below bytes readEach digitsIn path checkCode spelled sooner begins lessThan insideOf
+unfolding firstOf some firstPlace below bytes readEach firstDigits path checkCode spelled sooner begins lessThan insideOf
     reasonAt checked refuseCheck
 offence-told = known-gives refl
 
@@ -109,7 +109,7 @@ unfolding firstOf those bytes readEach judged kept dropped ordered sound parents
 nothing-mended = known-gives refl
 
 pub mistakes : Mistakes
-unfolding firstOf some those bytes readEach digitsIn path wordIn checkCode parentOf childOf decimals written spelled
+unfolding firstOf some those bytes readEach firstDigits path wordIn checkCode parentOf childOf decimals written spelled
     sooner begins lessThan insideOf member dropReason judged kept dropped insert ordered sound wholeIn parents mergesAt
     replaced mergedBelow mergesBelow mended changes
 mistakes = record {

@@ -10,7 +10,7 @@ use Rattle.frame.specs.Promises.{_leaves_}
 use Rattle.frame.proofs.Answering.{gives-one, no-other, refusing}
 use Rattle.octets.specs.Bytes.{bytes}
 use Rattle.golden.specs.Numbers.{_+φ_, negφ, _*φ_}
-use Rattle.words.specs.Words.{digitsIn, path, wordIn}
+use Rattle.words.specs.Words.{firstDigits, path, wordIn}
 use Rattle.words.specs.Refusals.{checkCode}
 use Rattle.words.specs.declared.CodeAnswer.{CodeAnswer}
 use Rattle.words.specs.declared.TriangleCode.{TriangleCode}
@@ -83,7 +83,7 @@ two out z =
 six : (out : List ℕ) → refuseList 2 up out ≡ 0
     → ListBytes 2 up out
     leaves (0, over (bytes 8 (6 ∷ wordsFor (10003 ∷ 10012 ∷ 10021 ∷ 50002 ∷ 50013 ∷ 50031 ∷ []))) out)
-unfolding directions.refuseFile firstOf decimals written digitsIn path wordIn leastFrom first holds nonNeg sideDets
+unfolding directions.refuseFile firstOf decimals written firstDigits path wordIn leastFrom first holds nonNeg sideDets
     determinants replaced determinant exact unitAt triangleAt cornerVertex _+φ_ negφ _*φ_ descent leastChild allWords
     sideWords joined holders
 six out z =
@@ -98,7 +98,7 @@ refused t k f out e =
     gives-one (exported-one (CodeAndEdge t k) out (cross-nine t k out) (cross-same t k)) is
 
 pub examples : Examples
-unfolding bytes refuseCross refuseFile refuseList checkCode firstOf decimals written digitsIn path wordIn
+unfolding bytes refuseCross refuseFile refuseList checkCode firstOf decimals written firstDigits path wordIn
 examples = record {
   eight-bytes = refl;
   back = refl;
@@ -112,7 +112,7 @@ examples = record {
 }
 
 pub bounds : Bounds
-unfolding refuseCross refuseFile refuseList firstOf decimals written digitsIn path wordIn
+unfolding refuseCross refuseFile refuseList firstOf decimals written firstDigits path wordIn
 bounds = record {
   cross-15 = refl;
   cross-16 = refl;
@@ -132,7 +132,7 @@ abbrev byte : ℕ → ℕ × List ℕ → ℕ
 byte i x = getD (x .1) i 0
 
 pub mistakes : Mistakes
-unfolding bytes refuseCross refuseFile refuseList checkCode firstOf decimals written digitsIn path wordIn
+unfolding bytes refuseCross refuseFile refuseList checkCode firstOf decimals written firstDigits path wordIn
 mistakes = record {
   one-check = λ e. let f = sym (grid-bounds.bounds .not-canonical) ∙ e in absurd (omega (arith, f));
   reversed = no-other {s = (0, _)} (byte 0) (e3 (replicate 8 9) refl) refl;

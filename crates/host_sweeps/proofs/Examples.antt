@@ -11,7 +11,7 @@ use Rattle.frame.specs.Answers.{over}
 use Rattle.frame.specs.Promises.{_leaves_}
 use Rattle.frame.proofs.Answering.{gives-one, no-other, refusing, answering}
 use Rattle.octets.specs.Bytes.{bytes, readEach, signed}
-use Rattle.words.specs.Words.{digitsIn, path, wordIn}
+use Rattle.words.specs.Words.{firstDigits, path, wordIn}
 use Rattle.words.specs.Family.{codeAnswer, noCode}
 use Rattle.directions.specs.Refusals as directions
 use Rattle.words.specs.Writing.{decimals, written}
@@ -47,7 +47,7 @@ two-swept codes out z =
     }))
 
 pub examples : Examples
-unfolding bytes readEach signed refuseSweep firstOf decimals written digitsIn path wordIn
+unfolding bytes readEach signed refuseSweep firstOf decimals written firstDigits path wordIn
 examples = record {
   minus-two = refl;
   swept = two-swept (replicate 17 9) (replicate 25 9) refl;
@@ -75,7 +75,7 @@ abbrev told-byte : ℕ → ℕ × (List ℕ × List ℕ) → ℕ
 told-byte i x = getD (x .1 .1) i 0
 
 pub mistakes : Mistakes
-unfolding bytes readEach signed refuseSweep firstOf decimals written digitsIn path wordIn
+unfolding bytes readEach signed refuseSweep firstOf decimals written firstDigits path wordIn
 mistakes = record {
   old-code = no-other {s = (0, _)} (code-byte 8) (two-swept (replicate 17 9) (replicate 24 9) refl) refl;
   sweep-cleared = no-other {s = (0, _)} (code-byte 16) (two-swept (replicate 17 9) (replicate 24 9) refl) refl;

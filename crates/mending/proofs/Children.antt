@@ -6,7 +6,7 @@ use mathlib.Core.List.{List, _∷_}
 use Prim.Native.Nat.{ℕ, zero, suc, _+_, _*_, _≤_, _<_}
 use native.Mathlib.Omega.{arith}
 use lib.Dec.{lit<}
-use Rattle.words.specs.Words.{degreeOf, digitOf, digits, digitsIn, sideOf}
+use Rattle.words.specs.Words.{degreeOf, digitOf, digits, firstDigits, sideOf}
 use Rattle.words.specs.Family.{codeOf, refuseChild, childOf}
 use Rattle.words.specs.Counting.{placeOf}
 use Rattle.words.specs.declared.TriangleCode.{TriangleCode}
@@ -42,7 +42,7 @@ module _ (u k : ℕ) (v : valid u ≡ true) (l : degreeOf u < 24) (h : k < 4) wh
 
   -- its last digit
   pub kid-digit : digitOf (kid u k) (suc (degreeOf u)) ≡ k
-  unfolding digitsIn
+  unfolding firstDigits
   kid-digit = cc (kid-has .digitsAre)
 
   kid-place : placeOf (codeOf (kid u k)) ≡ 4 * placeOf (codeOf u) + k

@@ -12,7 +12,7 @@ use Rattle.frame.specs.Lists.{some, those}
 use Rattle.frame.specs.Promises.{_leaves_}
 use Rattle.frame.proofs.Refusing.{given-so}
 use Rattle.frame.proofs.Answering.{known-gives, no-other}
-use Rattle.words.specs.Words.{digitsIn, path, wordIn}
+use Rattle.words.specs.Words.{firstDigits, path, wordIn}
 use Rattle.words.specs.Refusals.{checkCode}
 use Rattle.words.specs.Family.{parentOf, childOf}
 use Rattle.words.specs.Writing.{decimals, written}
@@ -44,7 +44,7 @@ as-long-answered ws l e f g h =
     )
 
 pub examples : Examples
-unfolding firstOf some those digitsIn path wordIn checkCode parentOf childOf decimals written spelled sooner begins
+unfolding firstOf some those firstDigits path wordIn checkCode parentOf childOf decimals written spelled sooner begins
     lessThan insideOf member dropReason judged kept dropped insert ordered sound wholeIn parents mergesAt replaced
     mergedBelow mergesBelow mended changes refuseMend
 examples = record {
@@ -102,7 +102,7 @@ unfolding firstOf some those checkCode member dropReason judged kept dropped ord
 one-invalid = known-gives refl
 
 pub mistakes : Mistakes
-unfolding firstOf some those digitsIn path wordIn checkCode parentOf childOf decimals written spelled sooner begins
+unfolding firstOf some those firstDigits path wordIn checkCode parentOf childOf decimals written spelled sooner begins
     lessThan insideOf member dropReason judged kept dropped insert ordered sound wholeIn parents mergesAt replaced
     mergedBelow mergesBelow mended changes
 mistakes = record {

@@ -8,7 +8,7 @@ use native.Mathlib.Nat.{div-lt-iff-lt-mul, eq-or-lt-of-le}
 use native.Mathlib.Omega.{arith}
 use lib.ListN.{length, getD, length-map, List·getD-map}
 use lib.Pow.{pow-add}
-use Rattle.words.specs.Words.{degreeOf, digitsIn, path}
+use Rattle.words.specs.Words.{degreeOf, firstDigits, path}
 use Rattle.words.specs.Refusals.{IsCode}
 use Rattle.words.specs.Family.{codeOf}
 use Rattle.words.specs.Counting.{codeAt, placeOf}
@@ -70,7 +70,7 @@ abbrev pub nodes : List ℕ → List Node
 nodes ws = map nodeOf ws
 
 nothing-node : nowhere ≡ nodeOf 0
-unfolding placeOf digitsIn path
+unfolding placeOf firstDigits path
 nothing-node = refl
 
 pub at-node : (ws : List ℕ) (i : ℕ) → At (nodes ws) i ≡ nodeOf (getD ws i 0)

@@ -9,7 +9,7 @@ use lib.Bits.{bitXor, bitAnd, xor-block, and-block, and-zero-l, xor-self}
 use lib.Pow.{pow-pos, pow-mono}
 use Rattle.words.proofs.Digits.{AreDigits, more}
 use Rattle.words.proofs.WordLayout.{unit-high}
-use Rattle.words.specs.Words.{path, wordOf, wordIn}
+use Rattle.words.specs.Words.{large, path, wordOf, wordIn}
 use Rattle.net.specs.Sides.{OneToThree}
 use Rattle.net.specs.Division.{each}
 use Rattle.net.specs.Means.Paths.{digitsOf}
@@ -58,7 +58,7 @@ module _ (s : ℕ) {n : ℕ} {ds : List ℕ} (short : n ≤ 24) (are : AreDigits
   padded a es i = omega (arith, pad-onto a (26 - n) es, ap (λ (x : ℕ). onto a es * x) unit-is)
 
   filled : 2 ^ (2 * n) * unit ≡ 2 ^ 54
-  filled = unit-high 5 24 6 n short
+  filled = unit-high large n short
 
   -- other digits and another number in the same place
   pub word-onto : {es : List ℕ} → AreDigits n es → (i : ℕ)

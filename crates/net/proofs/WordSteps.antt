@@ -10,11 +10,11 @@ use lib.ListN.{length}
 use borrow.Author.Tests.{lt-ltb, le-ltb}
 use Rattle.words.proofs.Codes.{code-below, code-degree, code-name, code-passes, code-side, code-word, inside-side}
 use Rattle.words.proofs.Codes.{is-code, name-code, name-passes, path-code}
-use Rattle.words.proofs.Digits.{AreDigits, digits-are, path-lt}
+use Rattle.words.proofs.Digits.{AreDigits, digits-are, path-lt, large-roomy}
 use Rattle.words.proofs.WordLayout.{below-side}
 use Rattle.words.specs.Family.{codeOf}
 use Rattle.words.specs.Refusals.{IsCode, checkCode, checkNameFields}
-use Rattle.words.specs.Words.{cornerNumber, degreeOf, digits, path, sideOf, wordOf, wordIn}
+use Rattle.words.specs.Words.{large, cornerNumber, degreeOf, digits, path, sideOf, wordOf, wordIn}
 use Rattle.words.specs.Words as words
 use Rattle.words.specs.declared.TriangleCode.{TriangleCode}
 use Rattle.net.specs.Corners.{named, nameOf}
@@ -196,7 +196,7 @@ side-changed : (s t : ℕ) {n : ℕ} {ds : List ℕ} → IsSide s → n ≤ 24 �
     → (wordOf s n (path ds) + i) % 2 ^ 59 + 2 ^ 59 * t ≡ wordOf t n (path ds) + i
 unfolding wordIn
 side-changed s t {n} {ds} hs low are i hi =
-    let b = below-side 5 24 6 s n (path ds) low (omega arith) (path-lt are) in
+    let b = below-side large large-roomy s n (path ds) low (path-lt are) in
     let z = code-passes _ .0 (path-code s n (hs .0) (hs .1) low (path ds) (path-lt are) .passes) .1 in
     let y : (n * 2 ^ 54 + path ds * 2 ^ (54 - 2 * n)) % 64 ≡ 0 = unfold wordIn in omega (arith, z) in
     omega (arith, b, y)

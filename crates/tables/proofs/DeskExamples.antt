@@ -5,7 +5,7 @@ use lib.ListN.{getD}
 use Rattle.frame.specs.Refusals.{firstOf}
 use Rattle.frame.specs.Lists.{some, firstPlace, those}
 use Rattle.frame.proofs.Answering.{known-gives}
-use Rattle.words.specs.Words.{digits, digitsIn, path, wordIn}
+use Rattle.words.specs.Words.{firstDigits, path, wordIn}
 use Rattle.words.specs.Counting.{placeOf}
 use Rattle.words.specs.Writing.{decimals, written}
 use Rattle.tables.specs.Owners.{Shared}
@@ -17,7 +17,7 @@ use Rattle.tables.proofs.Examples.{wrong, at, refusal}
 
 pub examples : Examples
 unfolding placeOf some firstPlace those firstOf refuseCall refuseDeed answers after seen decimals written path wordIn
-    digits
+    firstDigits
 examples = record {
   day = refl;
   sees = refl;
@@ -33,7 +33,7 @@ examples = record {
 }
 
 pub bounds : Bounds
-unfolding placeOf some firstPlace firstOf refuseCall refuseDeed decimals written path wordIn digitsIn
+unfolding placeOf some firstPlace firstOf refuseCall refuseDeed decimals written path wordIn firstDigits
 bounds = record {
   desk-0 = refl;
   desk-1 = refl;
@@ -71,7 +71,7 @@ abbrev owner : ℕ → TableAnswer × Shared → ℕ
 owner i x = getD (x .1 .owners) i 0
 
 pub mistakes : Mistakes
-unfolding placeOf some firstPlace firstOf refuseCall refuseDeed decimals written path wordIn digitsIn
+unfolding placeOf some firstPlace firstOf refuseCall refuseDeed decimals written path wordIn firstDigits
 mistakes = record {
   stolen = wrong refusal refl;
   cleared-on-taking = wrong (at 2) refl;

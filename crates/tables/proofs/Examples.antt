@@ -9,7 +9,7 @@ use Rattle.frame.specs.Refusals.{firstOf}
 use Rattle.frame.specs.Answers.{Known, settled}
 use Rattle.frame.specs.Lists.{some, firstPlace}
 use Rattle.frame.proofs.Answering.{known-gives, no-other}
-use Rattle.words.specs.Words.{digitsIn, path, wordIn}
+use Rattle.words.specs.Words.{firstDigits, path, wordIn}
 use Rattle.words.specs.Counting.{placeOf}
 use Rattle.words.specs.Writing.{decimals, written}
 use Rattle.tables.specs.Tables.{number}
@@ -23,7 +23,7 @@ use Rattle.tables.specs.declared.SoundingAnswer.{SoundingAnswer}
 use Rattle.tables.specs.declared.TableAnswer.{TableAnswer}
 
 pub examples : Examples
-unfolding placeOf some firstPlace firstOf refuseCall refuseDeed answers after decimals written path wordIn digitsIn
+unfolding placeOf some firstPlace firstOf refuseCall refuseDeed answers after decimals written path wordIn firstDigits
 examples = record {
   first = refl;
   second = refl;
@@ -40,7 +40,7 @@ examples = record {
 }
 
 pub bounds : Bounds
-unfolding placeOf some firstPlace firstOf refuseCall refuseDeed decimals written path wordIn digitsIn
+unfolding placeOf some firstPlace firstOf refuseCall refuseDeed decimals written path wordIn firstDigits
 bounds = record {
   reading-0 = refl;
   reading-most = refl;
@@ -102,7 +102,7 @@ case Nothing = 0
 case (Reading x) = 1
 
 pub mistakes : Mistakes
-unfolding placeOf some firstPlace firstOf refuseCall refuseDeed decimals written path wordIn digitsIn
+unfolding placeOf some firstPlace firstOf refuseCall refuseDeed decimals written path wordIn firstDigits
 mistakes = record {
   unwritten = wrong (at 0) refl;
   elsewhere = wrong (at 0) refl;

@@ -9,7 +9,7 @@ use borrow.Author.Tests.{eqb-false}
 use Rattle.frame.specs.Refusals.{firstOf}
 use Rattle.frame.specs.Lists.{some, firstPlace, below}
 use Rattle.octets.specs.Bytes.{bytes, readEach, wordsIn}
-use Rattle.words.specs.Words.{digitsIn, path, wordIn}
+use Rattle.words.specs.Words.{firstDigits, path, wordIn}
 use Rattle.words.specs.Refusals.{checkCode}
 use Rattle.words.specs.Writing.{decimals, written}
 use Rattle.lines.specs.Writing.{glyph, lastDecimals, decimal}
@@ -19,7 +19,7 @@ use Rattle.verdicts.specs.Program.{badLengthText, tooLongText, verdictTe
 use Rattle.verdicts.specs.Examples.{Examples, Bounds, Mistakes}
 
 pub examples : Examples
-unfolding firstOf some firstPlace below bytes readEach digitsIn path wordIn checkCode decimals written glyph lastDecimals
+unfolding firstOf some firstPlace below bytes readEach firstDigits path wordIn checkCode decimals written glyph lastDecimals
     decimal spelled sooner begins lessThan insideOf reasonAt checked verdictText text
 examples = record { none = refl; one = refl; same = refl; twelfth = refl; seven = refl; nine = refl }
 
@@ -45,7 +45,7 @@ differ : {xs ys : List ℕ} (i : ℕ) → eqb (getD xs i 0) (getD ys i 0) ≡ fa
 differ i d e = eqb-false _ _ d (ap (λ (l : List ℕ). getD l i 0) e)
 
 pub mistakes : Mistakes
-unfolding firstOf some firstPlace below bytes readEach digitsIn path wordIn checkCode decimals written glyph lastDecimals
+unfolding firstOf some firstPlace below bytes readEach firstDigits path wordIn checkCode decimals written glyph lastDecimals
     decimal spelled sooner begins lessThan insideOf reasonAt checked verdictText text
 mistakes = record {
   last-first = differ 6 refl;

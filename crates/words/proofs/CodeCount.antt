@@ -7,13 +7,13 @@ use native.Mathlib.Nat.{mod-lt, div-add-mod', div-lt-iff-lt-mul}
 use native.Mathlib.Omega.{arith}
 use lib.Arith.{digits-div, digits-mod, digits-lt}
 use lib.Pow.{pow-add, pow-pos, pow-mono}
-use Rattle.words.specs.Words.{digits, sideOf, path, wordOf}
+use Rattle.words.specs.Words.{large, digits, sideOf, path, wordOf}
 use Rattle.words.specs.Refusals.{IsCode}
 use Rattle.words.specs.Family.{codeOf}
 use Rattle.words.specs.Counting.{codeAt, placeOf}
 use Rattle.words.specs.declared.TriangleCode.{TriangleCode}
-use Rattle.words.proofs.WordLayout.{lex}
-use Rattle.words.proofs.Digits.{digits-are, path-lt, side-word, degree-word, path-word}
+use Rattle.words.proofs.WordLayout.{lex, side-is, degree-is}
+use Rattle.words.proofs.Digits.{digits-are, path-lt, large-roomy, path-made}
 use Rattle.words.proofs.Codes.{code-degree, code-side, code-word, path-code}
 use Rattle.words.proofs.WordOrder.{order-by-path}
 
@@ -41,18 +41,18 @@ module _ (n i : ℕ) (n≤ : n ≤ 24) where
 
   at-side : sideOf (codeAt n i .0) ≡ 4 + i / 4 ^ n
   unfolding codeAt
-  at-side = side-word (4 + i / 4 ^ n) n (i % 4 ^ n) n≤ small
+  at-side = side-is large large-roomy (4 + i / 4 ^ n) n (i % 4 ^ n) n≤ small
 
   at-path : path (digits (codeAt n i .0) n) ≡ i % 4 ^ n
   unfolding codeAt
-  at-path = path-word (4 + i / 4 ^ n) n (i % 4 ^ n) n≤ small
+  at-path = path-made large large-roomy (4 + i / 4 ^ n) n (i % 4 ^ n) n≤ small
 
   -- whose place it is
   pub place-at : placeOf (codeAt n i) ≡ i
   unfolding placeOf codeAt
   place-at =
       let w = codeAt n i .0 in
-      let d = degree-word (4 + i / 4 ^ n) n (i % 4 ^ n) n≤ small in
+      let d = degree-is large large-roomy (4 + i / 4 ^ n) n (i % 4 ^ n) n≤ small in
       let s : sideOf w - 4 ≡ i / 4 ^ n = omega (arith, at-side) in
       (λ j. (sideOf w - 4) * 4 ^ d j + path (digits w (d j))) ∙ (λ j. s j * 4 ^ n + at-path j)
       ∙ div-add-mod' i (4 ^ n)

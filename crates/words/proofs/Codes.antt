@@ -13,50 +13,26 @@ use lib.Pow.{shr-shr}
 use borrow.Author.Tests.{ltb-false, eqb-true, eqb-false, not-false, le-ltb, eq-eqb, ne-eqb}
 use Rattle.frame.specs.Refusals.{_either_, refusal, order}
 use Rattle.frame.proofs.Refusing.{none-so, none-after, either-false}
-use Rattle.words.specs.Words.{aOf, degreeOf, digits, beyond, zeroBits, cornerNumber, sideOf, path, wordOf, wordIn}
-use Rattle.words.specs.Words.{inside}
+use Rattle.words.specs.Words.{large, aOf, degreeOf, digits, beyond, zeroBits, cornerNumber, sideOf, path}
+use Rattle.words.specs.Words.{wordOf, inside}
 use Rattle.words.specs.Refusals.{wordRows, checkCode, checkNameFields, IsCode}
 use Rattle.words.specs.Family.{codeOf}
 use Rattle.words.specs.declared.TriangleCode.{TriangleCode}
 use Rattle.words.specs.declared.CornerName.{CornerName}
-use Rattle.words.proofs.WordLayout.{word-is, beyond-is, low-is, below-zero as layout-below-zero}
-use Rattle.words.proofs.Digits.{side-top, path-digits, AreDigits, path-lt, side-word, degree-word, digits-word}
+use Rattle.words.proofs.WordLayout.{side-top, side-is, degree-is}
+use Rattle.words.proofs.Digits.{AreDigits, path-lt, large-roomy, digits-made}
+use Rattle.words.proofs.FormCodes.{Fields, rows-pass, side-low, side-high, word-made, made-code}
 
--- What both kinds of word share: refusals 1 to 3 are not given.
-pub record Fields (w : ℕ) : Type 0 where
-  pub degree : degreeOf w ≤ 24
-  pub aLow : 1 ≤ aOf w
-  pub aHigh : aOf w ≤ 5
-  pub clear : beyond w (degreeOf w) ≡ 0
-
-pub word-passes : (w : ℕ) → (refusal (wordRows w) ≡ 0) ↔ Fields w
+-- refusals 1 to 3, which both kinds of word share, are not given
+pub word-passes : (w : ℕ) → (refusal (wordRows w) ≡ 0) ↔ Fields large w
 word-passes w = (
-  λ e.
-      let n = none-so order (wordRows w) tt .0 e in
-      let a = either-false _ _ .0 (n .1 .0) in
-      record {
-        degree = ltb-false 24 _ (n .0);
-        aLow = pos-of-ne-zero (eqb-false _ _ (a .0));
-        aHigh = ltb-false 5 _ (a .1);
-        clear = eqb-true _ _ (not-false _ (n .1 .1 .0));
-      },
-  λ f.
-      none-so order (wordRows w) tt .1 (
-        le-ltb 24 _ (f .degree),
-        (
-          either-false _ _ .1 (ne-eqb (aOf w) 0 (λ e. omega arith), le-ltb 5 _ (f .aHigh)),
-          (ap not (eq-eqb _ _ (f .clear)), tt),
-        ),
-      ),
+  λ e. let n = none-so order (wordRows w) tt .0 e in rows-pass large w (ltb-false 24 _ (n .0)) .0 (n .1),
+  λ g. none-so order (wordRows w) tt .1 (le-ltb 24 _ (g .degree), rows-pass large w (g .degree) .1 g),
 )
 
 -- where refusals 1 and 2 are not given, the degree is at most 24
 pub side-degree : (w : ℕ) → refusal (take 2 (wordRows w)) ≡ 0 → degreeOf w ≤ 24
 side-degree w e = ltb-false 24 _ (none-so order (take 2 (wordRows w)) tt .0 e .0)
-
--- all below n digits is 0: the digits beyond, and the low bits
-pub below-zero : (w n : ℕ) → n ≤ 24 → (w % 2 ^ (54 - 2 * n) ≡ 0) ↔ ((beyond w n ≡ 0) × (w % 64 ≡ 0))
-below-zero = layout-below-zero 5 24 6
 
 -- the zero bits and the corner number are 0
 pub low-zero : (w : ℕ) → ((not (eqb (zeroBits w) 0) either not (eqb (cornerNumber w) 0)) ≡ false) ↔
@@ -73,7 +49,7 @@ low-zero w = (
   ),
 )
 
-pub code-passes : (t : TriangleCode) → (checkCode t ≡ 0) ↔ (Fields (t .0) × (t .0 % 64 ≡ 0))
+pub code-passes : (t : TriangleCode) → (checkCode t ≡ 0) ↔ (Fields large (t .0) × (t .0 % 64 ≡ 0))
 unfolding checkCode
 code-passes t =
     let w = t .0 in (
@@ -84,7 +60,7 @@ code-passes t =
 
 pub name-passes :
     (r : CornerName)
-    → (checkNameFields r ≡ 0) ↔ (Fields (r .0) × (zeroBits (r .0) ≡ 0) × (1 ≤ cornerNumber (r .0))
+    → (checkNameFields r ≡ 0) ↔ (Fields large (r .0) × (zeroBits (r .0) ≡ 0) × (1 ≤ cornerNumber (r .0))
     × (cornerNumber (r .0) ≤ 3))
 unfolding checkNameFields
 name-passes r =
@@ -120,8 +96,8 @@ inside-bits w = let e : inside w / 2 ^ 2 ≡ w / 2 ^ 2 = omega arith in ap (λ (
 pub inside-side : (w : ℕ) → sideOf (inside w) ≡ sideOf w
 inside-side w =
     let e : inside w / 4 ≡ w / 4 = omega arith in
-    side-top (inside w) ∙ sym (shr-shr (inside w) 2 57) ∙ ap (λ (m : ℕ). m / 2 ^ 57) e ∙ shr-shr w 2 57
-    ∙ sym (side-top w)
+    side-top large (inside w) ∙ sym (shr-shr (inside w) 2 57) ∙ ap (λ (m : ℕ). m / 2 ^ 57) e ∙ shr-shr w 2 57
+    ∙ sym (side-top large w)
 
 inside-degree : (w : ℕ) → zeroBits w ≡ 0 → degreeOf (inside w) ≡ degreeOf w
 inside-degree w z = omega arith
@@ -136,7 +112,7 @@ name-code r e =
     let f = p .0 in
     let d : degreeOf u ≡ degreeOf w = inside-degree w z in
     let x : u / 64 ≡ w / 64 = omega arith in
-    let g : Fields u =
+    let g : Fields large u =
     record {
       degree = omega (arith, f .degree);
       aLow = omega (arith, f .aLow);
@@ -158,7 +134,7 @@ code-name r e low high =
     let f = p .0 in
     let d : degreeOf w ≡ degreeOf u = sym (inside-degree w z) in
     let x : w / 64 ≡ u / 64 = omega (arith, z) in
-    let g : Fields w =
+    let g : Fields large w =
     record {
       degree = omega (arith, f .degree);
       aLow = omega (arith, f .aLow);
@@ -173,26 +149,21 @@ pub is-code : (t : TriangleCode) → checkCode t ≡ 0 → IsCode (degreeOf (t .
 is-code t e = record { passes = e; degreeIs = refl }
 
 module _ {n : ℕ} {t : TriangleCode} (code : IsCode n t) where
-  pub code-fields : Fields (t .0)
+  pub code-fields : Fields large (t .0)
   code-fields = code-passes t .0 (code .passes) .0
 
   pub code-degree : n ≤ 24
   code-degree = omega (arith, code-fields .degree, code .degreeIs)
 
   pub code-side : (4 ≤ sideOf (t .0)) × (sideOf (t .0) < 24)
-  code-side = omega (arith, code-fields .aLow, code-fields .aHigh)
+  code-side = (side-low large code-fields, side-high large code-fields)
 
   pub code-below : t .0 < 2 ^ 64
   code-below = omega (arith, code-fields .aHigh)
 
   -- a code is the word of its side, degree and digits
   pub code-word : t .0 ≡ wordOf (sideOf (t .0)) n (path (digits (t .0) n))
-  unfolding wordIn
-  code-word =
-      let w = t .0 in
-      let clear : beyond w n ≡ 0 = rw (code .degreeIs) at (code-fields .clear) in
-      rw (side-top w, path-digits w n code-degree) (word-is 5 24 6 w n (code .degreeIs) code-degree clear
-      (code-passes t .0 (code .passes) .1))
+  code-word = word-made large (code-passes t .0 (code .passes)) n (code .degreeIs)
 
 -- two codes of one degree with the same side and digits are the same
 pub same-code : {n : ℕ} {t t′ : TriangleCode} → IsCode n t → IsCode n t′
@@ -211,25 +182,14 @@ pub record Has (s n : ℕ) (ds : List ℕ) (t : TriangleCode) : Type 0 where
 
 module _ (s n : ℕ) (s≥ : 4 ≤ s) (s< : s < 24) (n≤ : n ≤ 24) where
   pub path-code : (v : ℕ) → v < 2 ^ (2 * n) → IsCode n (codeOf (wordOf s n v))
-  path-code v h =
-      let w = wordOf s n v in
-      let d : degreeOf w ≡ n = degree-word s n v n≤ h in
-      let q : sideOf w ≡ s = side-word s n v n≤ h in
-      let f : Fields w =
-      record {
-        degree = omega arith;
-        aLow = omega arith;
-        aHigh = omega arith;
-        clear = ap (λ (k : ℕ). beyond w k) d ∙ unfold wordIn in beyond-is 5 24 6 s n v n≤ (omega arith) h;
-      } in
-      record {
-        passes = code-passes (codeOf w) .1 (f, unfold wordIn in low-is 5 24 6 s n v n≤ (omega arith) h);
-        degreeIs = d;
-      }
+  path-code v h = record {
+    passes = code-passes (codeOf (wordOf s n v)) .1 (made-code large large-roomy s n v s≥ s< n≤ h);
+    degreeIs = degree-is large large-roomy s n v n≤ h;
+  }
 
   pub made : {ds : List ℕ} → AreDigits n ds → Has s n ds (codeOf (wordOf s n (path ds)))
   made {ds} a = record {
     code = path-code (path ds) (path-lt a);
-    side = side-word s n (path ds) n≤ (path-lt a);
-    digitsAre = digits-word s n≤ a;
+    side = side-is large large-roomy s n (path ds) n≤ (path-lt a);
+    digitsAre = digits-made large large-roomy s n≤ a;
   }

@@ -4,7 +4,7 @@ use mathlib.Core.Path.{_≡_, refl}
 use mathlib.Core.Bool.{true, false}
 use mathlib.Core.List.{[], _∷_}
 use Prim.Native.Nat.{ℕ, _+_}
-use Rattle.words.specs.Words.{digits, digitsIn, wordOf, wordIn}
+use Rattle.words.specs.Words.{digits, firstDigits, wordOf, wordIn}
 use Rattle.frame.specs.Refusals.{firstOf, order}
 use Rattle.frame.proofs.Refusing.{inOrder}
 use Rattle.words.specs.Refusals.{checkCode, checkNameFields}
@@ -26,5 +26,5 @@ pub table :
     × (inOrder order (1 ∷ 1 ∷ 4 ∷ 10 ∷ 5 ∷ 6 ∷ 8 ∷ 7 ∷ 9 ∷ 11 ∷ []) ≡ true)
     × (inOrder order (4 ∷ 5 ∷ 10 ∷ []) ≡ false)
     × (inOrder order (1 ∷ 2 ∷ 1 ∷ []) ≡ false)
-unfolding wordIn digitsIn firstOf checkCode checkNameFields
+unfolding wordIn firstDigits firstOf checkCode checkNameFields
 table = (refl, refl, refl, refl, refl, refl, refl, refl)

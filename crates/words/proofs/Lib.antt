@@ -2,6 +2,8 @@
 pub mod Answers
 pub mod WordLayout
 pub mod Digits
+pub mod FormCodes
+pub mod Carrying
 pub mod Codes
 pub mod WordOrder
 pub mod ParentChild

@@ -7,7 +7,7 @@ use native.Mathlib.Nat.{pos-of-ne-zero}
 use native.Mathlib.Omega.{arith}
 use lib.Arith.{lt-of-le-ne}
 use borrow.Author.Tests.{ltb-false, eqb-false, le-ltb, ne-eqb}
-use Rattle.words.specs.Words.{degreeOf, digitOf, digits, digitsIn, sideOf}
+use Rattle.words.specs.Words.{degreeOf, digitOf, digits, firstDigits, sideOf}
 use Rattle.words.specs.Refusals.{codeRows, checkCode}
 use Rattle.words.specs.Family.{refuseParent, refuseChild, parentOf, childOf}
 use Rattle.words.specs.declared.TriangleCode.{TriangleCode}
@@ -56,7 +56,7 @@ parent-has t e =
 -- the child's parent is the code itself
 pub child-then-parent : (t : TriangleCode) (d : ℕ) → refuseChild t d ≡ 0
     → (refuseParent (childOf t d) ≡ 0) × (parentOf (childOf t d) ≡ t)
-unfolding digitsIn
+unfolding firstDigits
 child-then-parent t d e =
     let n = degreeOf (t .0) in
     let u = childOf t d in
@@ -72,7 +72,7 @@ child-then-parent t d e =
 -- the parent's child with the code's last digit is the code itself
 pub parent-then-child : (t : TriangleCode) → refuseParent t ≡ 0
     → let d = digitOf (t .0) (degreeOf (t .0)) in (refuseChild (parentOf t) d ≡ 0) × (childOf (parentOf t) d ≡ t)
-unfolding digitsIn
+unfolding firstDigits
 parent-then-child t e =
     let w = t .0 in
     let n = degreeOf w in

@@ -4,12 +4,13 @@ use mathlib.Core.Logic.{_↔_, _⊎_, inl, inr, ⊎-elim}
 use mathlib.Core.List.{List, _∷_}
 use Prim.Native.Nat.{ℕ, _<_}
 use native.Mathlib.Omega.{arith}
-use Rattle.words.specs.Words.{digits, sideOf, path, wordIn}
+use Rattle.words.specs.Words.{large, digits, sideOf, path}
 use Rattle.words.specs.Refusals.{IsCode}
 use Rattle.words.specs.declared.TriangleCode.{TriangleCode}
-use Rattle.words.proofs.WordLayout.{lex, word-order}
-use Rattle.words.proofs.Digits.{AreDigits, none, more, digits-are, path-lt, path-injective}
-use Rattle.words.proofs.Codes.{code-degree, code-word}
+use Rattle.words.proofs.WordLayout.{lex}
+use Rattle.words.proofs.Digits.{AreDigits, none, more, digits-are, path-lt, path-injective, large-roomy}
+use Rattle.words.proofs.FormCodes.{codes-order}
+use Rattle.words.proofs.Codes.{code-passes}
 
 -- Of two lists of digits, the last first, the one comes before the other: the first digit in which they differ decides.
 pub data Before : List ℕ → List ℕ → Type 0 where
@@ -33,11 +34,11 @@ before-path a b = (λ l. to-path l a b, from-path a b)
 
 module _ {n : ℕ} {t t′ : TriangleCode} (c : IsCode n t) (c′ : IsCode n t′) where
   pub order-by-path :
-      (t .0 < t′ .0) ↔ ((sideOf (t .0) < sideOf (t′ .0)) ⊎ ((sideOf (t .0) ≡ sideOf (t′ .0)) × (path (digits (t .0) n) < path (digits (t′ .0) n))))
-  unfolding wordIn
+      (t .0 < t′ .0) ↔ ((sideOf (t .0) < sideOf (t′ .0))
+      ⊎ ((sideOf (t .0) ≡ sideOf (t′ .0)) × (path (digits (t .0) n) < path (digits (t′ .0) n))))
   order-by-path =
-      let law = word-order 5 24 6 (sideOf (t .0)) (sideOf (t′ .0)) n _ _ (code-degree c) (omega (arith, code-degree c)) (path-lt (digits-are (t .0) n)) (path-lt (digits-are (t′ .0) n)) in
-      (λ h. law .0 (omega (arith, code-word c, code-word c′)), λ h. omega (arith, code-word c, code-word c′, law .1 h))
+      codes-order large large-roomy (code-passes t .0 (c .passes)) (code-passes t′ .0 (c′ .passes)) n (c .degreeIs)
+      (c′ .degreeIs)
 
   pub order-by-digits :
       (t .0 < t′ .0) ↔ ((sideOf (t .0) < sideOf (t′ .0)) ⊎ ((sideOf (t .0) ≡ sideOf (t′ .0)) × Before (digits (t .0) n) (digits (t′ .0) n)))

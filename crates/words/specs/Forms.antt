@@ -39,9 +39,9 @@ abbrev pub digitIn : Form → ℕ → ℕ → ℕ
 digitIn f w i = bits w (belowDegree f - 2 * i) 2
 
 -- Digits n to 1, the last first: a child has one more at the head.
-unfoldable pub digitsIn : Form → ℕ → ℕ → List ℕ
-digitsIn f w zero = []
-digitsIn f w (suc n) = digitIn f w (suc n) ∷ digitsIn f w n
+unfoldable pub firstDigits : Form → ℕ → ℕ → List ℕ
+firstDigits f w zero = []
+firstDigits f w (suc n) = digitIn f w (suc n) ∷ firstDigits f w n
 
 -- The digits after the n-th as one number, which is 0 exactly when each of them is.
 abbrev pub beyondIn : Form → ℕ → ℕ → ℕ
@@ -68,4 +68,4 @@ wordIn f s n v = s * 2 ^ belowSide f + n * 2 ^ belowDegree f + v * 2 ^ (belowDeg
 
 -- The same side, degree and digits in another form.
 unfoldable pub carried : (from to : Form) → ℕ → ℕ
-carried f g w = let n = degreeIn f w in wordIn g (sideIn f w) n (path (digitsIn f w n))
+carried f g w = let n = degreeIn f w in wordIn g (sideIn f w) n (path (firstDigits f w n))

@@ -5,7 +5,8 @@ use mathlib.Core.Bool.{not}
 use mathlib.Core.List.{List, [], _∷_, _++_}
 use lib.Dec.{ltb, eqb}
 use Rattle.frame.specs.Refusals.{_either_, Row, _when_, refusal}
-use Rattle.words.specs.Words.{aOf, degreeOf, beyond, zeroBits, cornerNumber}
+use Rattle.words.specs.Forms.{Form, aIn, degreeIn, beyondIn}
+use Rattle.words.specs.Words.{large, degreeOf, zeroBits, cornerNumber}
 use Rattle.words.specs.declared.TriangleCode.{TriangleCode}
 use Rattle.words.specs.declared.CornerName.{CornerName}
 
@@ -13,16 +14,21 @@ use Rattle.words.specs.declared.CornerName.{CornerName}
 abbrev pub degreeRows : ℕ → List Row
 degreeRows n = 1 when ltb 24 n ∷ []
 
--- "2: a is 0, 6 or 7"   "3: a digit beyond the degree is not 0"
+-- "2: a is 0, 6 or 7"   "3: a digit beyond the degree is not 0": of a word of any form
+abbrev pub fieldRows : Form → ℕ → List Row
+fieldRows f w =
+    2 when (eqb (aIn f w) 0 either ltb 5 (aIn f w)) ∷ 3 when not (eqb (beyondIn f w (degreeIn f w)) 0) ∷ []
+
 abbrev pub wordRows : ℕ → List Row
-wordRows w =
-    degreeRows (degreeOf w)
-    ++ (2 when (eqb (aOf w) 0 either ltb 5 (aOf w)) ∷ 3 when not (eqb (beyond w (degreeOf w)) 0) ∷ [])
+wordRows w = degreeRows (degreeOf w) ++ fieldRows large w
 
 -- "4: the four zero bits are not zero, or the corner number does not fit the kind of word": "A triangle code has corner
 -- number 0."
+abbrev pub codeLowRows : TriangleCode → List Row
+codeLowRows t = 4 when (not (eqb (zeroBits (t .0)) 0) either not (eqb (cornerNumber (t .0)) 0)) ∷ []
+
 abbrev pub codeRows : TriangleCode → List Row
-codeRows t = wordRows (t .0) ++ (4 when (not (eqb (zeroBits (t .0)) 0) either not (eqb (cornerNumber (t .0)) 0)) ∷ [])
+codeRows t = wordRows (t .0) ++ codeLowRows t
 
 -- "A corner name has corner number 1 to 3"
 abbrev pub nameRows : CornerName → List Row

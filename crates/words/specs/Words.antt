@@ -3,7 +3,7 @@ use Prim.Native.Nat.{ℕ, _-_, _%_, _^_}
 use mathlib.Core.List.{List}
 use Rattle.words.specs.Forms.{Form, aIn, pIn, qIn, degreeIn, digitIn, beyondIn, sideIn}
 -- what is the same in every form, and what the names below stand for
-unfoldable pub use Rattle.words.specs.Forms.{bits, side, path, digitsIn, wordIn}
+unfoldable pub use Rattle.words.specs.Forms.{bits, side, path, firstDigits, wordIn}
 
 -- "Fields, most significant first: a (3 bits), p (1), q (1), degree (5), twenty-four digits of 2 bits with the first
 -- digit first, four zero bits, corner number (2)."
@@ -26,7 +26,7 @@ abbrev pub digitOf : ℕ → ℕ → ℕ
 digitOf w i = digitIn large w i
 
 abbrev pub digits : ℕ → ℕ → List ℕ
-digits w n = digitsIn large w n
+digits w n = firstDigits large w n
 
 abbrev pub beyond : ℕ → ℕ → ℕ
 beyond w n = beyondIn large w n

@@ -3,7 +3,8 @@ use mathlib.Core.Path.{_∙_, ap}
 use Prim.Native.Nat.{ℕ, _+_, _*_, _%_, _^_}
 use native.Mathlib.Omega.{arith}
 use borrow.Author.Needs.{needs}
-use Rattle.words.proofs.Digits.{side-top}
+use Rattle.words.specs.Words.{large}
+use Rattle.words.proofs.WordLayout.{side-top}
 use Rattle.cells.proofs.OnePass.{start-word}
 use Rattle.cells.proofs.start_of.Statement.{statement}
 use Rattle.cells.proofs.start_of.Tie as tie
@@ -15,7 +16,7 @@ mul-result : tie.Need-mul-result
 mul-result c = search needs
 
 add-result : tie.Need-add-result
-add-result c = omega (arith, c .side-of .ensures, side-top (c .before .args .w))
+add-result c = omega (arith, c .side-of .ensures, side-top large (c .before .args .w))
 
 returns : tie.Need-returns
 returns c =

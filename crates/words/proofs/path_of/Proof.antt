@@ -1,6 +1,7 @@
 -- The path of n digits is the field that they fill (Digits). Assumes nothing.
 use mathlib.Core.Path.{_∙_, sym}
-use Rattle.words.proofs.Digits.{path-digits}
+use Rattle.words.specs.Words.{large}
+use Rattle.words.proofs.Digits.{path-in}
 use borrow.Author.Needs.{needs}
 use Rattle.words.proofs.path_of.Statement.{statement}
 use Rattle.words.proofs.path_of.Tie as tie
@@ -18,7 +19,7 @@ bits-of-requires : tie.Need-bits-of-requires
 bits-of-requires c κs = search needs
 
 returns : tie.Need-returns
-returns c = c .bits-of .ensures ∙ sym (path-digits _ _ (c .before .pre))
+returns c = c .bits-of .ensures ∙ sym (path-in large _ _ (c .before .pre))
 
 pub path-of-spec : {M : Type 1} → statement M
 path-of-spec = tie.close (tie.spec mul-bits-of sub-bits-of mul-bits-of-2 bits-of-requires returns)

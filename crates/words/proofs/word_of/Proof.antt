@@ -2,7 +2,7 @@
 use mathlib.Core.Path.{ap}
 use Prim.Native.Nat.{ℕ, _*_, _^_, _<_}
 use native.Mathlib.Omega.{arith}
-use Rattle.words.specs.Words.{wordIn}
+use Rattle.words.specs.Words.{large, wordIn}
 use Rattle.words.proofs.WordLayout.{below-degree}
 use borrow.Author.Needs.{needs}
 use Rattle.words.proofs.word_of.Statement.{statement}
@@ -27,7 +27,7 @@ power-requires : tie.Need-power-requires
 power-requires c κs = search needs
 
 below-54 : (c : tie.After-power) → c .before .args .v * c .power .result < 2 ^ 54
-below-54 c = let p = c .before .pre in rw (c .power .ensures) (below-degree 5 24 6 0 (c .before .args .n) _ (p .1) (omega arith) (p .2))
+below-54 c = let p = c .before .pre in rw (c .power .ensures) (below-degree large (c .before .args .n) _ (p .1) (p .2))
 
 mul-result-3 : tie.Need-mul-result-3
 mul-result-3 c = omega (arith, below-54 c)

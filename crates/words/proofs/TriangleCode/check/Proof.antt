@@ -7,11 +7,12 @@ use native.Mathlib.Omega.{arith}
 use lib.ListN.{take}
 use lib.Pow.{pow-pos}
 use borrow.Author.Tests.{eq-eqb, ne-eqb}
-use Rattle.words.specs.Words.{degreeOf, beyond}
+use Rattle.words.specs.Words.{large, degreeOf, beyond}
 use Rattle.words.specs.Refusals.{wordRows, checkCode}
 use Rattle.frame.proofs.Refusing.{here, next, nothing, refuse-before, refuse-after, so-unless}
 use Rattle.frame.specs.Refusals.{order}
-use Rattle.words.proofs.Codes.{side-degree, below-zero, low-zero}
+use Rattle.words.proofs.WordLayout.{below-zero}
+use Rattle.words.proofs.Codes.{side-degree, low-zero}
 use borrow.Author.Needs.{needs}
 use Rattle.words.proofs.TriangleCode.check.Statement.{statement}
 use Rattle.words.proofs.TriangleCode.check.Tie as tie
@@ -41,7 +42,7 @@ returns-2 c =
     let w = b .before .before .args .self .0 in
     let n = degreeOf w in
     let e : w % 2 ^ (54 - 2 * n) ≡ 0 = rw (c .before .unit-of .ensures) at (c .if2 .taken) in
-    let z = below-zero w n (small b) .0 e in
+    let z = below-zero large w n (small b) .0 e in
     refuse-after order order (take 2 (wordRows w)) _ tt tt (omega arith)
     (next (ap not (eq-eqb (beyond w n) 0 (z .0))) (next (low-zero w .1 (z .1)) nothing))
 
@@ -66,7 +67,7 @@ returns-4 c =
     let some : w % 2 ^ (54 - 2 * n) ≡ 0 → ⊥ = rw (s .before .unit-of .ensures) at (s .if2 .left) in
     refuse-after order order (take 2 (wordRows w)) _ tt tt (omega arith)
     (next (ap not (eq-eqb (beyond w n) 0 z))
-    (here (so-unless _ (λ e. some (below-zero w n (small b) .1 (z, low-zero w .0 e))))))
+    (here (so-unless _ (λ e. some (below-zero large w n (small b) .1 (z, low-zero w .0 e))))))
 
 pub check-spec : {M : Type 1} → statement M
 check-spec =

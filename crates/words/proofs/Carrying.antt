@@ -1,0 +1,70 @@
+-- A code carried from one form to another, where that has the degree: it keeps its side, its degree, its digits and its
+-- place in the order, and carried back it is itself. Assumes nothing.
+use mathlib.Core.Path.{_≡_, _∙_, refl, sym, ap}
+use mathlib.Core.Logic.{_↔_, _⊎_, inl, inr, ⊎-elim}
+use Prim.Native.Nat.{ℕ, _*_, _^_, _≤_, _<_}
+use native.Mathlib.Omega.{arith}
+use Rattle.words.specs.Forms.{Form, degreeIn, firstDigits, sideIn, path, wordIn, carried}
+use Rattle.words.proofs.WordLayout.{Roomy, side-is, degree-is}
+use Rattle.words.proofs.Digits.{digits-in, path-lt, path-made}
+use Rattle.words.proofs.FormCodes.{Fields, CodeIn, side-low, side-high, word-made, made-code, codes-order}
+
+carried-is : (f g : Form) (w : ℕ)
+    → carried f g w ≡ wordIn g (sideIn f w) (degreeIn f w) (path (firstDigits f w (degreeIn f w)))
+unfolding carried
+carried-is f g w = refl
+
+module _ (f g : Form) (room : Roomy g) {w : ℕ} (c : CodeIn f w) (h : degreeIn f w ≤ g .digitCount) where
+  abbrev n : ℕ
+  n = degreeIn f w
+
+  abbrev v : ℕ
+  v = path (firstDigits f w (degreeIn f w))
+
+  v< : path (firstDigits f w (degreeIn f w)) < 2 ^ (2 * degreeIn f w)
+  v< = path-lt (digits-in f w n)
+
+  pub carried-code : CodeIn g (carried f g w)
+  unfolding carried
+  carried-code = made-code g room (sideIn f w) n v (side-low f (c .0)) (side-high f (c .0)) h v<
+
+  pub carried-side : sideIn g (carried f g w) ≡ sideIn f w
+  unfolding carried
+  carried-side = side-is g room (sideIn f w) n v h v<
+
+  pub carried-degree : degreeIn g (carried f g w) ≡ degreeIn f w
+  unfolding carried
+  carried-degree = degree-is g room (sideIn f w) n v h v<
+
+  pub carried-path : path (firstDigits g (carried f g w) (degreeIn f w)) ≡ path (firstDigits f w (degreeIn f w))
+  unfolding carried
+  carried-path = path-made g room (sideIn f w) n v h v<
+
+  -- there and back
+  pub carried-back : carried g f (carried f g w) ≡ w
+  carried-back =
+      let u = carried f g w in
+      let p : path (firstDigits g u (degreeIn g u)) ≡ v =
+      ap (λ (k : ℕ). path (firstDigits g u k)) carried-degree ∙ carried-path in
+      carried-is g f u ∙ (λ i. wordIn f (carried-side i) (carried-degree i) (p i)) ∙ sym (word-made f c n refl)
+
+-- codes of one degree are in the same order in both forms
+pub carried-order : (f g : Form) → Roomy f → Roomy g → {w w′ : ℕ} → CodeIn f w → CodeIn f w′ → (n : ℕ)
+    → degreeIn f w ≡ n → degreeIn f w′ ≡ n → n ≤ g .digitCount → (w < w′) ↔ (carried f g w < carried f g w′)
+carried-order f g room-f room-g {w} {w′} c c′ n d d′ h =
+    let l : degreeIn f w ≤ g .digitCount = omega arith in
+    let l′ : degreeIn f w′ ≤ g .digitCount = omega arith in
+    let u = carried f g w in
+    let u′ = carried f g w′ in
+    let s = carried-side f g room-g c l in
+    let s′ = carried-side f g room-g c′ l′ in
+    let p : path (firstDigits g u n) ≡ path (firstDigits f w n) = rw d at (carried-path f g room-g c l) in
+    let p′ : path (firstDigits g u′ n) ≡ path (firstDigits f w′ n) = rw d′ at (carried-path f g room-g c′ l′) in
+    let a = codes-order f room-f c c′ n d d′ in
+    let b = codes-order g room-g (carried-code f g room-g c l) (carried-code f g room-g c′ l′) n
+    (carried-degree f g room-g c l ∙ d) (carried-degree f g room-g c′ l′ ∙ d′) in (
+      λ lt. b .1 (⊎-elim (λ x. inl (omega (arith, x, s, s′))) (λ x. inr (s ∙ x .0 ∙ sym s′, omega (arith, x .1, p, p′)))
+          (a .0 lt)),
+      λ lt. a .1 (⊎-elim (λ x. inl (omega (arith, x, s, s′))) (λ x. inr (sym s ∙ x .0 ∙ s′, omega (arith, x .1, p, p′)))
+          (b .0 lt)),
+    )

@@ -1,0 +1,4 @@
+-- The laws that the proofs of `harbour` cite, and the crates above.
+pub mod SmallWords
+pub mod LargeCalls
+pub mod Promises

@@ -23,7 +23,7 @@ use Rattle.harbour.specs.Small.{largeOf}
 use Rattle.harbour.specs.Refusals.{harbourOrder, depthRows, smallRows, checkSmall, refuseWrite}
 use Rattle.harbour.specs.Refusals.{refuseSmallCross, refuseSmallFile}
 use Rattle.harbour.specs.declared.SmallCode.{SmallCode}
-use Rattle.harbour.proofs.SmallWords.{not-deep, shallow, write-passes, low-degree, large-code}
+use Rattle.harbour.proofs.SmallWords.{shallow, depth-passes, write-passes, low-degree, large-code}
 
 -- ---- crossing
 
@@ -62,10 +62,8 @@ module _ (n : ℕ) (d : Direction) where
     file-same =
         let l = le-ltb 24 n (omega arith) in
         let a : firstOf order (degreeRows n) ≡ 0 = none-so order (degreeRows n) tt .1 (l, tt) in
-        let b : firstOf harbourOrder (depthRows n) ≡ 0 =
-        none-so harbourOrder (depthRows n) tt .1 (l, (not-deep n h, tt)) in
         refusal-append order order (degreeRows n) (directionRows d) tt tt
-        ∙ (λ i. (a ∙ sym b) i or inTurn (directionRows d))
+        ∙ (λ i. (a ∙ sym (depth-passes n .1 h)) i or inTurn (directionRows d))
         ∙ sym (refusal-append harbourOrder harbourOrder (depthRows n) (directionRows d) tt tt)
 
     pub file-number : (a : CodeAnswer) → FileAnswer n d a → a .refusal ≡ refuseSmallFile n d

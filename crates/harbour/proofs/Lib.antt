@@ -2,3 +2,4 @@
 pub mod SmallWords
 pub mod LargeCalls
 pub mod Promises
+pub mod Examples

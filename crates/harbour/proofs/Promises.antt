@@ -104,9 +104,9 @@ module _ (s : SmallCode) (k : ℕ) (r : SmallStepAnswer) (a : StepAnswer) (x : S
       ⊎-elim
       (λ z. formed-one (crossed-one s k z) (x .answered z) (record { answer = a; large = y .answered (e ∙ z); is = refl }))
       (λ n.
-          let zeros : smallOfStep (noStep f) ≡ noSmallStep f = λ i. smallStep f (zero-small i) 0 0 0 in
-          let b : a ≡ noStep f = y .refused (λ z. n (sym e ∙ z)) ∙ ap noStep e in
-          x .refused n ∙ sym zeros ∙ ap smallOfStep (sym b)) (answers-or-not f)
+      let zeros : smallOfStep (noStep f) ≡ noSmallStep f = λ i. smallStep f (zero-small i) 0 0 0 in
+      let b : a ≡ noStep f = y .refused (λ z. n (sym e ∙ z)) ∙ ap noStep e in
+      x .refused n ∙ sym zeros ∙ ap smallOfStep (sym b)) (answers-or-not f)
 
   crossed : refuseSmallCross s k ≡ 0 → ReadAnswer (r .code) (codeAnswer 0 (a .code))
   crossed z =
@@ -124,10 +124,10 @@ module _ (n : ℕ) (d : Direction) (r : SmallAnswer) (a : CodeAnswer) (x : Small
       ⊎-elim
       (λ z. formed-one (filed-one n d z) (x .answered z) (record { answer = a; large = y .answered (e ∙ z); is = refl }))
       (λ m.
-          let zeros : smallOfCode (codeAnswer f (codeOf 0)) ≡ noSmall f = λ i. smallAnswer f (zero-small i) in
-          let b : a ≡ codeAnswer f (codeOf 0) =
-          y .refused (λ z. m (sym e ∙ z)) ∙ ap (λ (g : ℕ). codeAnswer g (codeOf 0)) e in
-          x .refused m ∙ sym zeros ∙ ap smallOfCode (sym b)) (answers-or-not f)
+      let zeros : smallOfCode (codeAnswer f (codeOf 0)) ≡ noSmall f = λ i. smallAnswer f (zero-small i) in
+      let b : a ≡ codeAnswer f (codeOf 0) =
+      y .refused (λ z. m (sym e ∙ z)) ∙ ap (λ (g : ℕ). codeAnswer g (codeOf 0)) e in
+      x .refused m ∙ sym zeros ∙ ap smallOfCode (sym b)) (answers-or-not f)
 
   filed : refuseSmallFile n d ≡ 0 → ReadAnswer (r .code) (codeAnswer 0 (a .code))
   filed z =

@@ -42,6 +42,12 @@ module _ (n : ℕ) where
       go true q f = absurd (true≢false (rw q at f))
       go false q f = ltb-false 11 n q
 
+  pub depth-passes : (firstOf harbourOrder (depthRows n) ≡ 0) ↔ (n ≤ 11)
+  depth-passes = (
+    λ e. let r = none-so harbourOrder (depthRows n) tt .0 e in shallow (r .0) (r .1 .0),
+    λ h. none-so harbourOrder (depthRows n) tt .1 (le-ltb 24 n (omega (arith, h)), (not-deep h, tt)),
+  )
+
 -- ---- which words pass
 
 pub small-passes : (s : SmallCode) → (checkSmall s ≡ 0) ↔ CodeIn small (s .0)
@@ -89,9 +95,7 @@ write-same t h =
     let rest = fieldRows large (t .0) ++ codeLowRows t in
     let l = le-ltb 24 n (omega arith) in
     let a : firstOf order (degreeRows n) ≡ 0 = none-so order (degreeRows n) tt .1 (l, tt) in
-    let b : firstOf harbourOrder (depthRows n) ≡ 0 =
-    none-so harbourOrder (depthRows n) tt .1 (l, (not-deep n h, tt)) in
-    refusal-append order order (degreeRows n) rest tt tt ∙ (λ i. (a ∙ sym b) i or inTurn rest)
+    refusal-append order order (degreeRows n) rest tt tt ∙ (λ i. (a ∙ sym (depth-passes n .1 h)) i or inTurn rest)
     ∙ sym (refusal-append harbourOrder harbourOrder (depthRows n) rest tt tt)
 
 -- ---- from the small form to the large one, and back

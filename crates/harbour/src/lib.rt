@@ -4,10 +4,11 @@ use filing::Direction;
 use words::CodeAnswer;
 use words::TriangleCode;
 ghost use mathlib.Core.Path.{_≡_};
+ghost use Rattle.frame.specs.Refusals.{firstOf};
 ghost use Rattle.words.specs.Forms.{degreeIn};
 ghost use Rattle.words.specs.Family.{codeOf};
 ghost use Rattle.harbour.specs.Small.{small, smallCode, largeOf, smallOf};
-ghost use Rattle.harbour.specs.Refusals.{checkSmall, refuseWrite};
+ghost use Rattle.harbour.specs.Refusals.{harbourOrder, depthRows, checkSmall, refuseWrite};
 ghost use Rattle.harbour.specs.Answers.{noSmall, noSmallStep};
 ghost use Rattle.harbour.specs.Answers.{ReadAnswer, WriteAnswer, SmallCrossAnswer, SmallFileAnswer};
 
@@ -32,6 +33,19 @@ pub struct SmallStepAnswer {
 
 // ---- the words
 
+// 1 and 30, of a degree as field or argument; else 0.
+fn refuse_depth(n: u64) -> u64
+    ensures { λ r. ⌜ r ≡ firstOf harbourOrder (depthRows n) ⌝ }
+{
+    if 24 < n {
+        return 1;
+    }
+    if 11 < n {
+        return 30;
+    }
+    0
+}
+
 fn degree_in(w: u64) -> u64
     ensures { λ r. ⌜ r ≡ degreeIn small w ⌝ }
 {
@@ -43,10 +57,11 @@ fn check_word(w: u64) -> u64
     ensures { λ r. ⌜ r ≡ checkSmall (smallCode w) ⌝ }
 {
     let n = degree_in(w);
-    let a = w / 536870912;
-    if 11 < n {
-        return 30;
+    let f = refuse_depth(n);
+    if f != 0 {
+        return f;
     }
+    let a = w / 536870912;
     if a == 0 {
         return 2;
     }
@@ -56,10 +71,10 @@ fn check_word(w: u64) -> u64
     if w % words::power(23 - 2 * n) == 0 {
         return 0;
     }
-    if w / 2 % words::power(22 - 2 * n) != 0 {
-        return 3;
+    if w / 2 % words::power(22 - 2 * n) == 0 {
+        return 31;
     }
-    31
+    3
 }
 
 // The large word of a small code: the digits begin 31 bits higher.
@@ -84,12 +99,9 @@ fn small_word(w: u64) -> u32
 fn refuse_write(t: TriangleCode) -> u64
     ensures { λ r. ⌜ r ≡ refuseWrite t ⌝ }
 {
-    let n = words::degree_of(t.0);
-    if 24 < n {
-        return 1;
-    }
-    if 11 < n {
-        return 30;
+    let f = refuse_depth(words::degree_of(t.0));
+    if f != 0 {
+        return f;
     }
     t.check()
 }
@@ -152,16 +164,16 @@ impl SmallCode {
         if f != 0 {
             return refused_step(f);
         }
-        let a = corners::cross(TriangleCode(large_word(w)), edge);
-        if a.refusal != 0 {
-            return refused_step(a.refusal);
+        let step = corners::cross(TriangleCode(large_word(w)), edge);
+        if step.refusal != 0 {
+            return refused_step(step.refusal);
         }
         SmallStepAnswer {
             refusal: 0,
-            code: SmallCode(small_word(a.code.0)),
-            edge: a.edge,
-            first: a.first,
-            second: a.second,
+            code: SmallCode(small_word(step.code.0)),
+            edge: step.edge,
+            first: step.first,
+            second: step.second,
         }
     }
 }
@@ -184,18 +196,16 @@ pub fn write(t: TriangleCode) -> SmallAnswer
 pub fn file(degree: u64, d: Direction) -> SmallAnswer
     ensures { λ r. ⌜ SmallFileAnswer degree d r ⌝ }
 {
-    if 24 < degree {
-        return refused(1);
+    let f = refuse_depth(degree);
+    if f != 0 {
+        return refused(f);
     }
-    if 11 < degree {
-        return refused(30);
-    }
-    let a = directions::file(degree, d);
-    if a.refusal != 0 {
-        return refused(a.refusal);
+    let filed = directions::file(degree, d);
+    if filed.refusal != 0 {
+        return refused(filed.refusal);
     }
     SmallAnswer {
         refusal: 0,
-        code: SmallCode(small_word(a.code.0)),
+        code: SmallCode(small_word(filed.code.0)),
     }
 }

@@ -63,8 +63,7 @@ module _ (f : Form) where
   made-code room s n v s≥ s< h k =
       let w = wordIn f s n v in
       let d : degreeIn f w ≡ n = degree-is f room s n v h k in
-      let q : sideIn f w ≡ s = side-is f room s n v h k in
-      (
+      let q : sideIn f w ≡ s = side-is f room s n v h k in (
         record {
           degree = omega arith;
           aLow = omega arith;

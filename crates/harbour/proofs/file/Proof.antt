@@ -1,29 +1,21 @@
--- 1, 30, and then what the large call refuses; or the small form of what it answers. Assumes nothing.
+-- What the degree refuses, then what the large call does; or the small form of what it answers. Assumes nothing.
 use mathlib.Core.Path.{_≡_, _∙_, sym, subst}
-use mathlib.Core.List.{_++_}
-use Prim.Native.Nat.{ℕ, _≤_}
-use native.Mathlib.Omega.{arith}
-use borrow.Author.Tests.{le-ltb, lt-ltb}
-use Rattle.frame.proofs.Refusing.{here, next, refuse-first}
+use Prim.Native.Nat.{_≤_}
+use Rattle.frame.proofs.Refusing.{refuse-before}
 use Rattle.frame.proofs.Answering.{answering, refusing}
-use Rattle.words.specs.declared.CodeAnswer.{CodeAnswer}
 use Rattle.filing.specs.Refusals.{directionRows}
-use Rattle.filing.specs.declared.Direction.{Direction}
 use Rattle.directions.specs.Answers.{Filed}
 use Rattle.harbour.specs.Small.{smallCode}
 use Rattle.harbour.specs.Refusals.{harbourOrder, depthRows, refuseSmallFile}
-use Rattle.harbour.specs.Answers.{smallAnswer, noSmall, SmallFileAnswer}
-use Rattle.harbour.specs.declared.SmallAnswer.{SmallAnswer}
-use Rattle.harbour.proofs.SmallWords.{deep}
+use Rattle.harbour.specs.Answers.{smallAnswer, SmallFileAnswer}
+use Rattle.harbour.proofs.SmallWords.{depth-passes}
 use Rattle.harbour.proofs.LargeCalls.{file-number, file-same, filed-small}
 use borrow.Author.Needs.{needs}
 use Rattle.harbour.proofs.file.Statement.{statement}
 use Rattle.harbour.proofs.file.Tie as tie
 
--- refusal k was found, and it is not 0
-refuse : (n : ℕ) (d : Direction) {k : ℕ} {r : SmallAnswer} → r ≡ noSmall k → k ≡ refuseSmallFile n d → (k ≡ 0 → ⊥)
-    → SmallFileAnswer n d r
-refuse n d e g some = subst (SmallFileAnswer n d) (sym e) (refusing g some)
+refuse-depth-requires : tie.Need-refuse-depth-requires
+refuse-depth-requires c κs = search needs
 
 refused-requires : tie.Need-refused-requires
 refused-requires c κs = search needs
@@ -31,67 +23,55 @@ refused-requires c κs = search needs
 returns : tie.Need-returns
 unfolding refuseSmallFile
 returns c =
-    let a = c .before .before .args in
-    refuse (a .degree) (a .d) (c .refused .ensures)
-    (refuse-first harbourOrder (depthRows (a .degree) ++ directionRows (a .d)) tt
-    (here (lt-ltb 24 (a .degree) (c .before .if1 .taken)))) (λ e. omega arith)
+    let t = c .before in
+    let a = t .before .before .args in
+    subst (SmallFileAnswer (a .degree) (a .d)) (sym (c .refused .ensures))
+    (refusing (refuse-before harbourOrder harbourOrder (depthRows (a .degree)) (directionRows (a .d)) tt tt
+    (t .before .refuse-depth .ensures) (t .if1 .taken)) (t .if1 .taken))
+
+file-requires : tie.Need-file-requires
+file-requires c κs = search needs
+
+-- the degree has passed
+low : (c : tie.Else1) → c .before .before .args .degree ≤ 11
+low c = depth-passes (c .before .before .args .degree) .0 (sym (c .before .refuse-depth .ensures) ∙ c .if1 .left)
+
+-- the number of the large call's answer
+number : (c : tie.After-file) → let a = c .before .before .before .args in
+    c .file .result .refusal ≡ refuseSmallFile (a .degree) (a .d)
+number c =
+    let a = c .before .before .before .args in
+    file-number (a .degree) (a .d) (low (c .before)) (c .file .result) (c .file .ensures)
 
 refused-requires-2 : tie.Need-refused-requires-2
 refused-requires-2 c κs = search needs
 
 returns-2 : tie.Need-returns-2
-unfolding refuseSmallFile
 returns-2 c =
-    let e = c .before .before in
-    let a = e .before .args in
-    let n = a .degree in
-    refuse n (a .d) (c .refused2 .ensures)
-    (refuse-first harbourOrder (depthRows n ++ directionRows (a .d)) tt
-    (next (le-ltb 24 n (e .if1 .left)) (here (deep n (c .before .if2 .taken) (e .if1 .left))))) (λ e. omega arith)
+    let t = c .before in
+    let f = t .before .before in
+    let a = f .before .before .before .args in
+    subst (SmallFileAnswer (a .degree) (a .d)) (sym (c .refused2 .ensures)) (refusing (number f) (t .if2 .taken))
 
-file-requires : tie.Need-file-requires
-file-requires c κs = search needs
+is-filed : (c : tie.Else2) → let f = c .before .before in let a = f .before .before .before .args in
+    Filed (a .degree) (a .d) (f .file .result)
+is-filed c =
+    let f = c .before .before in
+    let a = f .before .before .before .args in
+    f .file .ensures .answered (file-same (a .degree) (a .d) (low (f .before)) ∙ sym (number f) ∙ c .if2 .left)
 
-refused-requires-3 : tie.Need-refused-requires-3
-refused-requires-3 c κs = search needs
+small-word-requires : tie.Need-small-word-requires
+small-word-requires c κs =
+    let f = c .before .before in
+    let a = f .before .before .before .args in
+    filed-small (a .degree) (a .d) (low (f .before)) (f .file .result) (is-filed c)
 
 returns-3 : tie.Need-returns-3
 returns-3 c =
     let t = c .before in
     let f = t .before .before in
-    let e = f .before in
-    let a = e .before .before .args in
-    refuse (a .degree) (a .d) (c .refused3 .ensures)
-    (file-number (a .degree) (a .d) (e .if2 .left) (f .file .result) (f .file .ensures)) (t .if3 .taken)
-
--- what the large call answers
-is-filed : (c : tie.Else3) → let f = c .before .before in let a = f .before .before .before .args in
-    Filed (a .degree) (a .d) (f .file .result)
-is-filed c =
-    let f = c .before .before in
-    let e = f .before in
-    let a = e .before .before .args in
-    let h = e .if2 .left in
-    f .file .ensures .answered (file-same (a .degree) (a .d) h
-    ∙ sym (file-number (a .degree) (a .d) h (f .file .result) (f .file .ensures)) ∙ c .if3 .left)
-
-small-word-requires : tie.Need-small-word-requires
-small-word-requires c κs =
-    let f = c .before .before in
-    let e = f .before in
-    let a = e .before .before .args in
-    filed-small (a .degree) (a .d) (e .if2 .left) (f .file .result) (is-filed c)
-
-returns-4 : tie.Need-returns-4
-returns-4 c =
-    let t = c .before in
-    let f = t .before .before in
-    let e = f .before in
-    let a = e .before .before .args in
     let g = is-filed t in
-    answering
-    (sym (file-number (a .degree) (a .d) (e .if2 .left) (f .file .result) (f .file .ensures)) ∙ t .if3 .left)
-    (record {
+    answering (sym (number f) ∙ t .if2 .left) (record {
       answer = f .file .result;
       large = g;
       is = λ i. smallAnswer (sym (g .number) i) (smallCode (c .small-word .ensures i));
@@ -101,12 +81,11 @@ pub file-spec : {M : Type 1} → statement M
 file-spec =
     tie.close
     (tie.spec
+    refuse-depth-requires
     refused-requires
     returns
+    file-requires
     refused-requires-2
     returns-2
-    file-requires
-    refused-requires-3
-    returns-3
     small-word-requires
-    returns-4)
+    returns-3)

@@ -1,14 +1,11 @@
--- 1, 30, and then what checking the code refuses. Assumes nothing.
-use mathlib.Core.Path.{_≡_, _∙_}
-use mathlib.Core.List.{_++_}
-use native.Mathlib.Omega.{arith}
-use borrow.Author.Tests.{le-ltb, lt-ltb}
-use Rattle.frame.specs.Refusals.{order}
-use Rattle.frame.proofs.Refusing.{here, next, refuse-first}
-use Rattle.words.specs.Words.{large, degreeOf}
-use Rattle.words.specs.Refusals.{fieldRows, codeLowRows}
+-- What the degree refuses, and then what checking the code does. Assumes nothing.
+use mathlib.Core.Path.{_≡_, _∙_, sym, ap}
+use Prim.Native.Nat.{ℕ}
+use Rattle.frame.specs.Refusals.{firstOf}
+use Rattle.frame.proofs.Refusing.{refuse-before}
+use Rattle.words.specs.Words.{degreeOf}
 use Rattle.harbour.specs.Refusals.{harbourOrder, depthRows, refuseWrite}
-use Rattle.harbour.proofs.SmallWords.{deep, write-same}
+use Rattle.harbour.proofs.SmallWords.{depth-passes, write-same}
 use borrow.Author.Needs.{needs}
 use Rattle.harbour.proofs.refuse_write.Statement.{statement}
 use Rattle.harbour.proofs.refuse_write.Tie as tie
@@ -16,34 +13,30 @@ use Rattle.harbour.proofs.refuse_write.Tie as tie
 degree-of-requires : tie.Need-degree-of-requires
 degree-of-requires c κs = search needs
 
+refuse-depth-requires : tie.Need-refuse-depth-requires
+refuse-depth-requires c κs = search needs
+
+depth : (c : tie.After-refuse-depth)
+    → c .refuse-depth .result ≡ firstOf harbourOrder (depthRows (degreeOf (c .before .before .args .t .0)))
+depth c =
+    c .refuse-depth .ensures ∙ ap (λ (n : ℕ). firstOf harbourOrder (depthRows n)) (c .before .degree-of .ensures)
+
 returns : tie.Need-returns
 unfolding refuseWrite
 returns c =
-    let t = c .before .before .args .t in
-    let n = degreeOf (t .0) in
-    refuse-first harbourOrder (depthRows n ++ fieldRows large (t .0) ++ codeLowRows t) tt
-    (here (lt-ltb 24 n (omega (arith, c .if1 .taken, c .before .degree-of .ensures))))
-
-returns-2 : tie.Need-returns-2
-unfolding refuseWrite
-returns-2 c =
-    let e = c .before in
-    let t = e .before .before .args .t in
-    let n = degreeOf (t .0) in
-    let d = e .before .degree-of .ensures in
-    refuse-first harbourOrder (depthRows n ++ fieldRows large (t .0) ++ codeLowRows t) tt
-    (next (le-ltb 24 n (omega (arith, e .if1 .left, d)))
-    (here (deep n (omega (arith, c .if2 .taken, d)) (omega (arith, e .if1 .left, d)))))
+    let t = c .before .before .before .args .t in
+    refuse-before harbourOrder harbourOrder (depthRows (degreeOf (t .0))) _ tt tt (depth (c .before)) (c .if1 .taken)
 
 check-requires : tie.Need-check-requires
 check-requires c κs = search needs
 
-returns-3 : tie.Need-returns-3
-returns-3 c =
+returns-2 : tie.Need-returns-2
+returns-2 c =
     let e = c .before in
-    let s = e .before .before in
-    c .check .ensures ∙ write-same (s .before .args .t) (omega (arith, e .if2 .left, s .degree-of .ensures))
+    let t = e .before .before .before .args .t in
+    c .check .ensures
+    ∙ write-same t (depth-passes (degreeOf (t .0)) .0 (sym (depth (e .before)) ∙ e .if1 .left))
 
 pub refuse-write-spec : {M : Type 1} → statement M
 refuse-write-spec =
-    tie.close (tie.spec degree-of-requires returns returns-2 check-requires returns-3)
+    tie.close (tie.spec degree-of-requires refuse-depth-requires returns check-requires returns-2)

@@ -8,7 +8,7 @@ ghost use Rattle.net.specs.Corners.{nameOf};
 ghost use Rattle.net.specs.Refusals.{checkName};
 ghost use Rattle.grid.specs.Writing.{towards};
 ghost use Rattle.mending.specs.Answers.{lists};
-ghost use Rattle.host_grid.specs.Answers.{CrossBytes, FileBytes, ListBytes};
+ghost use Rattle.exports.specs.Answers.{CrossBytes, FileBytes, ListBytes};
 ghost use Rattle.host_sweeps.specs.Answers.{SweepBytes};
 ghost use Rattle.host_cells.specs.Answers.{CheckBytes, MendBytes};
 

@@ -12,8 +12,8 @@ use Rattle.directions.specs.Answers.{ListAnswer}
 use Rattle.grid.specs.Writing.{towards}
 use Rattle.octets.proofs.Laying.{laid-next}
 use Rattle.exports.proofs.Calls.{list-returns, count-most}
-use Rattle.host_grid.proofs.grid_list.Statement.{statement}
-use Rattle.host_grid.proofs.grid_list.Tie as tie
+use Rattle.host_filing.proofs.grid_list.Statement.{statement}
+use Rattle.host_filing.proofs.grid_list.Tie as tie
 
 slice-aggregate-list : tie.Need-slice-aggregate-list
 slice-aggregate-list c = search needs

@@ -40,7 +40,7 @@ DOCS = (README, PROMISES, DECISIONS, ARCHITECTURE, "docs/FILING.md", "docs/CONSO
 DOCS += ("docs/PERFORMANCE.md",)
 DEMANDS, MISTAKES = "grid/specs/Demands.antt", "grid/specs/Mistakes.antt"
 CONTRACTS, HOST_CONTRACTS = "crates/grid/specs/Contracts.antt", "crates/contracts/specs/Host.antt"
-HOST_PROMISES = ("host_grid/specs/Promises.antt", "host_sweeps/specs/Promises.antt", "host_cells/specs/Promises.antt")
+HOST_PROMISES = ("exports/specs/Promises.antt", "host_sweeps/specs/Promises.antt", "host_cells/specs/Promises.antt")
 TABLE_CONTRACTS = "crates/contracts/specs/Soundings.antt"
 TABLE_PROMISES = ("tables/specs/Promises.antt", "coarse/specs/Promises.antt")
 SWEEP_CONTRACTS, SWEEP_PROMISES = "crates/contracts/specs/Sweeps.antt", "sweeps/specs/Promises.antt"
@@ -496,7 +496,7 @@ ROWS = (
     ("a field after another record", "Document 01", "`grid/specs/Examples.antt: Bounds.word-0, five`", "no five"),
     ("a record that there is not", "Document 01", "`grid/specs/Examples.antt: Limits.word-0`", "no record or type"),
     ("a name local to a `where`", "Document 01", "`frame/proofs/Refusing.antt: go`", "no go"),
-    ("a name of a module, not pub", "Document 01", "`corners/proofs/name_back/Proof.antt: low`", "no low"),
+    ("a name of a module, not pub", "Document 01", "`twelves/proofs/name_back/Proof.antt: low`", "no low"),
     ("a bound variable", "Document 01", "`frame/specs/Answers.antt: zeros`", "no zeros"),
     ("a word of a comment", "Document 01", "`frame/specs/Refusals.antt: several`", "no several"),
     ("an imported name", "Document 01", "`grid/specs/Demands.antt: Keeps`", "no Keeps"),

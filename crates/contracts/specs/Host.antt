@@ -15,7 +15,7 @@ use Rattle.grid.specs.Writing.{towards}
 use Rattle.mending.specs.Answers.{lists}
 use Rattle.host_sweeps.specs.Answers.{SweepBytes}
 use Rattle.host_cells.specs.Answers.{CheckBytes, MendBytes}
-use Rattle.host_grid.specs.Answers.{CrossBytes, FileBytes, ListBytes}
+use Rattle.exports.specs.Answers.{CrossBytes, FileBytes, ListBytes}
 use Rattle.host.proofs.grid_check_triangle.Reads as grid_check_triangle
 use Rattle.host.proofs.grid_check_name.Reads as grid_check_name
 use Rattle.host.proofs.grid_cross.Reads as grid_cross
@@ -25,7 +25,7 @@ use Rattle.host.proofs.grid_sweep.Reads as grid_sweep
 use Rattle.host.proofs.grid_check_cells.Reads as grid_check_cells
 use Rattle.host.proofs.grid_mend_cells.Reads as grid_mend_cells
 
--- The calls in the order of `OneAnswer`, of the crate host_grid and then of host_sweeps and of host_cells: for any
+-- The calls in the order of `OneAnswer`, of the crate exports and then of host_sweeps and of host_cells: for any
 -- plain numbers, any result, and bytes left with any contents.
 pub record Contracts : Type 0 where
   pub checkTriangle : (κs : Lfts 0) (word : ℕ) (r : ℕ)

@@ -1,4 +1,5 @@
-// The calls of document 01 on corners and edges: checking a name, crossing, weights, naming, the way back, the ring.
+// The calls of document 01 on corners and edges: what each refuses and answers (specs/), with the laws of it (proofs/).
+// In code checking a name, crossing, naming and the ring; those on twelve weights are in the crate twelves.
 use knots::rings;
 use net::Edge;
 use net::seams;
@@ -7,8 +8,7 @@ use words::TriangleCode;
 ghost use mathlib.Core.Path.{_≡_};
 ghost use Rattle.net.specs.Refusals.{checkName};
 ghost use Rattle.corners.specs.Refusals.{refuseNumbered};
-ghost use Rattle.corners.specs.Answers.{CrossAnswer, WeightsAnswer, NameWeightsAnswer, NamingAnswer};
-ghost use Rattle.corners.specs.Answers.{BackAnswer, RingAnswer};
+ghost use Rattle.corners.specs.Answers.{CrossAnswer, NamingAnswer, RingAnswer};
 
 // A neighbour's code, the number of the shared edge there, and the numbers there of the edge's two corners: first of
 // the one whose number is lower here, then of the one whose number is higher. Or a refusal's number with zeros.
@@ -32,9 +32,7 @@ pub struct CountAnswer {
     pub count: u64,
 }
 
-// The places that a lent list must have.
-const WEIGHTS: usize = 12;
-
+// The places that the list of a ring must have.
 const TRIANGLES: usize = 6;
 
 // ---- a code with an edge or corner number
@@ -109,39 +107,6 @@ pub fn cross(t: TriangleCode, edge: u64) -> StepAnswer
     }
 }
 
-// ---- weights
-
-// The twelve weights of a corner of a triangle, into a list of at least twelve places.
-pub fn weights_of(t: TriangleCode, corner: u64, out: &mut [u64]) -> u64
-    ensures { λ r. ⌜ WeightsAnswer t corner (now (out .entry)) r (now (out .exit)) ⌝ }
-{
-    let f = refuse_numbered(t, corner);
-    if f != 0 {
-        return f;
-    }
-    if out.len() < WEIGHTS {
-        return 9;
-    }
-    knots::write_corner(t, corner, out);
-    0
-}
-
-// The same for the corner that a name names.
-pub fn weights_of_name(r: CornerName, out: &mut [u64]) -> u64
-    ensures { λ f. ⌜ NameWeightsAnswer r (now (out .entry)) f (now (out .exit)) ⌝ }
-{
-    let w = r.0;
-    let f = check_name(r);
-    if f != 0 {
-        return f;
-    }
-    if out.len() < WEIGHTS {
-        return 9;
-    }
-    knots::write_corner(knots::code_inside(r), w % 4, out);
-    0
-}
-
 // ---- names
 
 // The canonical name of a corner of a triangle.
@@ -158,45 +123,6 @@ pub fn name_of(t: TriangleCode, corner: u64) -> NameAnswer
     NameAnswer {
         refusal: 0,
         name: rings::least_name(CornerName(t.0 + corner)),
-    }
-}
-
-// The way back: the name of the corner of this degree that has the twelve weights.
-pub fn name_back(degree: u64, weights: &[u64]) -> NameAnswer
-    ensures { λ r. ⌜ BackAnswer degree (now (weights .entry)) r ⌝ }
-{
-    let none = CornerName(0);
-    if 24 < degree {
-        return NameAnswer {
-            refusal: 1,
-            name: none,
-        };
-    }
-    if weights.len() < WEIGHTS {
-        return NameAnswer {
-            refusal: 9,
-            name: none,
-        };
-    }
-    let total = words::power(degree);
-    if !knots::back::adds_to(weights, total) {
-        return NameAnswer {
-            refusal: 11,
-            name: none,
-        };
-    }
-    let s = knots::back::side_of(weights, total);
-    if s == 24 {
-        return NameAnswer {
-            refusal: 11,
-            name: none,
-        };
-    }
-    let c = knots::back::corner_at(s, degree, knots::back::point_on(weights, s));
-    let here = CornerName(words::word_of(s, degree, c.path) + c.number);
-    NameAnswer {
-        refusal: 0,
-        name: rings::least_name(here),
     }
 }
 

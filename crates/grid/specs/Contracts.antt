@@ -24,10 +24,10 @@ use Rattle.corners.specs.declared.NameAnswer.{NameAnswer}
 use Rattle.corners.specs.declared.CountAnswer.{CountAnswer}
 use Rattle.corners.proofs.check_name.Reads as check_name
 use Rattle.corners.proofs.cross.Reads as cross
-use Rattle.corners.proofs.weights_of.Reads as weights_of
-use Rattle.corners.proofs.weights_of_name.Reads as weights_of_name
+use Rattle.twelves.proofs.weights_of.Reads as weights_of
+use Rattle.twelves.proofs.weights_of_name.Reads as weights_of_name
 use Rattle.corners.proofs.name_of.Reads as name_of
-use Rattle.corners.proofs.name_back.Reads as name_back
+use Rattle.twelves.proofs.name_back.Reads as name_back
 use Rattle.corners.proofs.ring.Reads as ring
 use Rattle.points.specs.Answers.{PlaceAnswer, NamePlaceAnswer, TickAnswer, NameTickAnswer, DrawAnswer, NameDrawAnswer}
 use Rattle.points.specs.declared.CoordinatesAnswer.{CoordinatesAnswer}

@@ -23,8 +23,8 @@ pub use corners::check_name;
 // Crossing an edge: the triangle there, and how the edge and its corners are numbered in it.
 pub use corners::cross;
 // The twelve weights of a corner, of a code with a corner number or of a name.
-pub use corners::weights_of;
-pub use corners::weights_of_name;
+pub use twelves::weights_of;
+pub use twelves::weights_of_name;
 // Its exact coordinates, its t on each axis, its drawn coordinates.
 pub use points::coordinates_of;
 pub use points::coordinates_of_name;
@@ -33,8 +33,8 @@ pub use points::drawn_of_name;
 pub use points::ticks_of;
 pub use points::ticks_of_name;
 // Naming a corner, and the way back from twelve weights.
-pub use corners::name_back;
 pub use corners::name_of;
+pub use twelves::name_back;
 // The ring round a corner.
 pub use corners::ring;
 // Filing a direction, and listing all triangles that hold it.

@@ -1,6 +1,7 @@
 // What is exported to a C host (document 02, 2026-01): plain numbers and lent bytes in, a refusal number out. Document
-// 01's calls are in the crate host_grid, the sweep of 2026-04 in host_sweeps, those on a cell list of 2026-09 and
-// 2026-10 in host_cells. A library for C has the functions of one crate, and so they stand here once more, a line each.
+// 01's calls are in the crates host_grid and host_filing, the sweep of 2026-04 in host_sweeps, those on a cell list
+// of 2026-09 and 2026-10 in host_cells. A library for C has the functions of one crate, and so they stand here once
+// more, a line each.
 ghost use mathlib.Core.Path.{_≡_};
 ghost use Rattle.words.specs.Family.{codeOf};
 ghost use Rattle.words.specs.Refusals.{checkCode};
@@ -8,7 +9,7 @@ ghost use Rattle.net.specs.Corners.{nameOf};
 ghost use Rattle.net.specs.Refusals.{checkName};
 ghost use Rattle.grid.specs.Writing.{towards};
 ghost use Rattle.mending.specs.Answers.{lists};
-ghost use Rattle.host_grid.specs.Answers.{CrossBytes, FileBytes, ListBytes};
+ghost use Rattle.exports.specs.Answers.{CrossBytes, FileBytes, ListBytes};
 ghost use Rattle.host_sweeps.specs.Answers.{SweepBytes};
 ghost use Rattle.host_cells.specs.Answers.{CheckBytes, MendBytes};
 
@@ -41,7 +42,7 @@ pub extern "C" fn grid_cross(code: u64, edge: u64, out: &mut [u8]) -> u64
 pub extern "C" fn grid_file(degree: u64, x: i32, y: i32, z: i32, out: &mut [u8]) -> u64
     ensures { λ r. ⌜ FileBytes degree (towards x y z) (now (out .entry)) r (now (out .exit)) ⌝ }
 {
-    host_grid::grid_file(degree, x, y, z, out)
+    host_filing::grid_file(degree, x, y, z, out)
 }
 
 // Listing: the count and then the codes, in at most fifty-six bytes.
@@ -49,7 +50,7 @@ pub extern "C" fn grid_file(degree: u64, x: i32, y: i32, z: i32, out: &mut [u8])
 pub extern "C" fn grid_list(degree: u64, x: i32, y: i32, z: i32, out: &mut [u8]) -> u64
     ensures { λ r. ⌜ ListBytes degree (towards x y z) (now (out .entry)) r (now (out .exit)) ⌝ }
 {
-    host_grid::grid_list(degree, x, y, z, out)
+    host_filing::grid_list(degree, x, y, z, out)
 }
 
 // A sweep: twelve bytes a direction, eight a code, and in twenty-four bytes how many directions are refused, the first

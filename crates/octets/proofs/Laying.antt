@@ -105,11 +105,6 @@ as-long k ws out l = over-long (bytes k ws) out (omega (arith, bytes-long k ws, 
 
 -- ---- numbers written one after the other
 
-pub no-bytes : (k : ℕ) (ws : List ℕ) → length ws ≡ 0 → bytes k ws ≡ []
-unfolding bytes
-no-bytes k [] e = refl
-no-bytes k (w ∷ ws) e = absurd (omega arith)
-
 -- one number
 pub laid-one : (k w : ℕ) (out : List ℕ) → over (bytesOf k w) out ≡ over (bytes k (w ∷ [])) out
 unfolding bytes

@@ -33,7 +33,7 @@ pub fn coordinates_of(t: TriangleCode, corner: u64) -> CoordinatesAnswer
     ensures { λ r. ⌜ PlaceAnswer t corner r ⌝ }
 {
     let mut ws = [0u64; 12];
-    let f = corners::weights_of(t, corner, &mut ws);
+    let f = twelves::weights_of(t, corner, &mut ws);
     answers::place_answer(f, &ws)
 }
 
@@ -42,7 +42,7 @@ pub fn coordinates_of_name(q: CornerName) -> CoordinatesAnswer
     ensures { λ r. ⌜ NamePlaceAnswer q r ⌝ }
 {
     let mut ws = [0u64; 12];
-    let f = corners::weights_of_name(q, &mut ws);
+    let f = twelves::weights_of_name(q, &mut ws);
     answers::place_answer(f, &ws)
 }
 

@@ -4,7 +4,7 @@ use mathlib.Core.Path.{_∙_}
 use mathlib.Core.List.{[], _∷_}
 use native.Mathlib.Omega.{arith}
 use Rattle.octets.proofs.Laying.{laid-one, laid-next}
-use Rattle.host_grid.proofs.Calls.{cross-returns}
+use Rattle.exports.proofs.Calls.{cross-returns}
 use Rattle.host_grid.proofs.grid_cross.Statement.{statement}
 use Rattle.host_grid.proofs.grid_cross.Tie as tie
 

@@ -3,10 +3,10 @@ use borrow.Author.Needs.{needs}
 use mathlib.Core.Path.{_≡_, refl, sym, _∙_}
 use native.Mathlib.Omega.{arith}
 use Rattle.frame.proofs.Answering.{refusing, answering}
 use Rattle.corners.specs.Refusals.{refuseNumbered}
 use Rattle.corners.proofs.Refused.{numbered-passes, weights-then}
-use Rattle.corners.proofs.weights_of.Statement.{statement}
-use Rattle.corners.proofs.weights_of.Tie as tie
+use Rattle.twelves.proofs.weights_of.Statement.{statement}
+use Rattle.twelves.proofs.weights_of.Tie as tie
 
 refuse-numbered-requires : tie.Need-refuse-numbered-requires
 refuse-numbered-requires c κs = search needs

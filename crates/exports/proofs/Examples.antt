@@ -32,13 +32,13 @@ use Rattle.grid.specs.Writing.{up}
 use Rattle.grid.proofs.Bounds as grid-bounds
 use Rattle.grid.proofs.Examples as grid
 use Rattle.grid.proofs.Showing.{lists}
-use Rattle.host_grid.specs.Refusals.{refuseCross, refuseFile, refuseList}
-use Rattle.host_grid.specs.Answers.{CodeAndEdge, FiledCode, CountAndCodes, CrossBytes, FileBytes, ListBytes}
-use Rattle.host_grid.specs.Examples.{Examples, Bounds, Mistakes}
-use Rattle.host_grid.proofs.Calls.{cross-nine, file-nine, list-nine, cross-number, file-number, list-number}
-use Rattle.host_grid.proofs.Calls.{cross-returns, file-returns, list-returns}
-use Rattle.host_grid.proofs.Exporting.{exported-one}
-use Rattle.host_grid.proofs.Promises.{cross-same, file-same, list-same}
+use Rattle.exports.specs.Refusals.{refuseCross, refuseFile, refuseList}
+use Rattle.exports.specs.Answers.{CodeAndEdge, FiledCode, CountAndCodes, CrossBytes, FileBytes, ListBytes}
+use Rattle.exports.specs.Examples.{Examples, Bounds, Mistakes}
+use Rattle.exports.proofs.Calls.{cross-nine, file-nine, list-nine, cross-number, file-number, list-number}
+use Rattle.exports.proofs.Calls.{cross-returns, file-returns, list-returns}
+use Rattle.exports.proofs.Exporting.{exported-one}
+use Rattle.exports.proofs.Promises.{cross-same, file-same, list-same}
 
 -- ---- what document 01's call answers, as bytes
 

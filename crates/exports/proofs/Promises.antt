@@ -26,11 +26,11 @@ use Rattle.corners.proofs.Refused.{numbered}
 use Rattle.directions.specs.Refusals as directions
 use Rattle.directions.specs.Answers.{FileAnswer, ListAnswer}
 use Rattle.directions.proofs.OneFiling.{file-some, list-some, how-many}
-use Rattle.host_grid.specs.Answers.{CodeAndEdge, FiledCode, CountAndCodes, CrossBytes, FileBytes, ListBytes}
-use Rattle.host_grid.specs.Promises.{OneAnswer, EightBytes, Hosted, AsTheGrid}
-use Rattle.host_grid.proofs.Calls.{cross-nine, file-nine, list-nine, cross-number, file-number, list-number}
-use Rattle.host_grid.proofs.Calls.{cross-numbers, file-numbers, list-numbers}
-use Rattle.host_grid.proofs.Exporting.{Fitting, exported-keeps, hosted}
+use Rattle.exports.specs.Answers.{CodeAndEdge, FiledCode, CountAndCodes, CrossBytes, FileBytes, ListBytes}
+use Rattle.exports.specs.Promises.{OneAnswer, EightBytes, Hosted, AsTheGrid}
+use Rattle.exports.proofs.Calls.{cross-nine, file-nine, list-nine, cross-number, file-number, list-number}
+use Rattle.exports.proofs.Calls.{cross-numbers, file-numbers, list-numbers}
+use Rattle.exports.proofs.Exporting.{Fitting, exported-keeps, hosted}
 
 pub eight-bytes : EightBytes
 eight-bytes = record { eight = bytes-of-long 8; areBytes = each-byte 8; back = number-back 8 }

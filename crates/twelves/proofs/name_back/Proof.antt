@@ -19,10 +19,10 @@ use Rattle.net.specs.Corners.{nameOf}
 use Rattle.net.specs.Refusals.{onSide}
 use Rattle.net.specs.Means.Walks.{leastName, placeAt}
 use Rattle.net.proofs.WordSteps.{made-fields, made-fits}
 use Rattle.corners.proofs.Calls.{back-one-refused, back-nine, back-sum, back-side, back-answers}
 use Rattle.corners.proofs.Calls.{back-total}
-use Rattle.corners.proofs.name_back.Statement.{statement}
-use Rattle.corners.proofs.name_back.Tie as tie
+use Rattle.twelves.proofs.name_back.Statement.{statement}
+use Rattle.twelves.proofs.name_back.Tie as tie
 
 returns : tie.Need-returns
 returns c = refusing (back-one-refused _ _ (omega arith)) (λ e. omega arith)

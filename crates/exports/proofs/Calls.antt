@@ -23,9 +23,9 @@ use Rattle.directions.specs.Refusals as directions
 use Rattle.directions.specs.Answers.{FileAnswer, ListAnswer}
 use Rattle.directions.proofs.Refused.{list-then}
 use Rattle.grid.proofs.Demands.{demand-1}
-use Rattle.host_grid.specs.Refusals.{refuseCross, refuseFile, refuseList}
-use Rattle.host_grid.specs.Answers.{CodeAndEdge, FiledCode, CountAndCodes}
-use Rattle.host_grid.proofs.Exporting.{Returns, returned}
+use Rattle.exports.specs.Refusals.{refuseCross, refuseFile, refuseList}
+use Rattle.exports.specs.Answers.{CodeAndEdge, FiledCode, CountAndCodes}
+use Rattle.exports.proofs.Exporting.{Returns, returned}
 
 -- ---- refusals: those of document 01's call, and then 9
 

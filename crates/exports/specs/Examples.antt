@@ -12,8 +12,8 @@ use Rattle.net.specs.Corners.{nameOf}
 use Rattle.net.specs.Refusals.{checkName}
 use Rattle.words.specs.Writing.{written, wordsFor}
 use Rattle.grid.specs.Writing.{cornerIn, minus, towards, up}
-use Rattle.host_grid.specs.Refusals.{refuseCross, refuseFile, refuseList}
-use Rattle.host_grid.specs.Answers.{CrossBytes, FileBytes, ListBytes}
+use Rattle.exports.specs.Refusals.{refuseCross, refuseFile, refuseList}
+use Rattle.exports.specs.Answers.{CrossBytes, FileBytes, ListBytes}
 
 pub record Examples : Type 0 where
   -- "most significant first"

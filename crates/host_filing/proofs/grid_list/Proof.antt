@@ -1,20 +1,19 @@
 -- The grid's refusal, then 9, then the bytes of the count and of the codes (Calls). Assumes nothing.
 use borrow.Author.Needs.{needs}
-use mathlib.Core.Path.{_≡_, sym}
+use mathlib.Core.Path.{_≡_}
 use mathlib.Core.List.{[]}
 use native.Mathlib.Omega.{arith}
 use Prim.Native.Nat.{_≤_, _-_}
 use lib.ListN.{length, take, drop, replicate, length-take, length-drop}
-use lib.Seq.{length-take-le}
 use mir.Syntax.{w32}
 use mir.ValLaws.{toZ-ofZ}
 use denote.Ref.{now}
 use Rattle.directions.specs.Answers.{ListAnswer}
 use Rattle.grid.specs.Writing.{towards}
 use Rattle.octets.proofs.Laying.{laid-next}
-use Rattle.host_grid.proofs.Calls.{list-returns, count-most}
-use Rattle.host_grid.proofs.grid_list.Statement.{statement}
-use Rattle.host_grid.proofs.grid_list.Tie as tie
+use Rattle.exports.proofs.Calls.{list-returns, count-most}
+use Rattle.host_filing.proofs.grid_list.Statement.{statement}
+use Rattle.host_filing.proofs.grid_list.Tie as tie
 
 slice-aggregate-list : tie.Need-slice-aggregate-list
 slice-aggregate-list c = search needs
@@ -49,33 +48,28 @@ returns-2 c =
 put8-requires : tie.Need-put8-requires
 put8-requires c κs = search needs
 
-array-share-prefix-codes : tie.Need-array-share-prefix-codes
-array-share-prefix-codes c = six (c .before .before .before .before .before) .0
+slice-aggregate-write-words : tie.Need-slice-aggregate-write-words
+slice-aggregate-write-words c = search needs
 
-slice-aggregate-put-all : tie.Need-slice-aggregate-put-all
-slice-aggregate-put-all c =
-    sym (length-take-le _ _ (six (c .before .before .before .before .before .before) .0))
+sub-write-words : tie.Need-sub-write-words
+sub-write-words c = search needs
 
-sub-put-all : tie.Need-sub-put-all
-sub-put-all c = search needs
+part-write-words-start : tie.Need-part-write-words-start
+part-write-words-start c = search needs
 
-part-put-all-start : tie.Need-part-put-all-start
-part-put-all-start c = search needs
+part-write-words-end : tie.Need-part-write-words-end
+part-write-words-end c = search needs
 
-part-put-all-end : tie.Need-part-put-all-end
-part-put-all-end c = search needs
-
-put-all-requires : tie.Need-put-all-requires
-put-all-requires c κs =
+write-words-requires : tie.Need-write-words-requires
+write-words-requires c κs =
     let p = c .before .before .before .before in
     let e = p .before .before .before in
     let l = e .before .before .before in
     let L = p .put8 .last .1 .0 in
     let k = six e in
     let o : length L ≡ length (now (l .before .before .before .args .out)) = p .put8 .kept .1 .0 in
-    let l1 = length-take-le (l .list .result .count) (l .list .last .1 .1 .0) (k .0) in
     let l2 : length (take (length L - 8) (drop 8 L)) ≡ length L - 8 = simp (length-take, length-drop) (omega arith) in
-    omega (arith, k .0, k .1)
+    (k .0, omega (arith, k .0, k .1))
 
 same-length : tie.Need-same-length
 same-length c = search needs
@@ -87,7 +81,8 @@ returns-3 c =
     let e = p .before .before .before in
     list-returns _ _ _ (replicate 6 0) _ (omega arith) (listed (e .before .before .before)) .sent (e .if1 .left)
     (omega arith)
-    (laid-next 8 _ _ _ (p .put8 .last .1 .0) (q .put-all .last .1 .0) (p .put8 .ensures) (q .put-all .ensures))
+    (laid-next 8 _ _ _ (p .put8 .last .1 .0) (q .write-words .last .1 .1 .0) (p .put8 .ensures)
+    (q .write-words .ensures))
 
 pub grid-list-spec : {M : Type 1} → statement M
 grid-list-spec =
@@ -98,11 +93,10 @@ grid-list-spec =
     returns
     returns-2
     put8-requires
-    array-share-prefix-codes
-    slice-aggregate-put-all
-    sub-put-all
-    part-put-all-start
-    part-put-all-end
-    put-all-requires
+    slice-aggregate-write-words
+    sub-write-words
+    part-write-words-start
+    part-write-words-end
+    write-words-requires
     same-length
     returns-3)

@@ -12,9 +12,9 @@ use Rattle.words.proofs.Codes.{name-code, name-passes}
 use Rattle.net.specs.Corners.{corner}
 use Rattle.net.specs.Refusals.{checkName}
 use Rattle.net.proofs.Canonical.{name-means}
 use Rattle.corners.proofs.Refused.{name-weights-then}
-use Rattle.corners.proofs.weights_of_name.Statement.{statement}
-use Rattle.corners.proofs.weights_of_name.Tie as tie
+use Rattle.twelves.proofs.weights_of_name.Statement.{statement}
+use Rattle.twelves.proofs.weights_of_name.Tie as tie
 
 check-name-requires : tie.Need-check-name-requires
 check-name-requires c κs = search needs

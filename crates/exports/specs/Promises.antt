@@ -15,8 +15,8 @@ use Rattle.corners.specs.Answers.{CrossAnswer}
 use Rattle.corners.specs.declared.StepAnswer.{StepAnswer}
 use Rattle.corners.specs.declared.CountAnswer.{CountAnswer}
 use Rattle.directions.specs.Answers.{FileAnswer, ListAnswer}
-use Rattle.host_grid.specs.Refusals.{refuseCross, refuseFile, refuseList}
-use Rattle.host_grid.specs.Answers.{CrossBytes, FileBytes, ListBytes}
+use Rattle.exports.specs.Refusals.{refuseCross, refuseFile, refuseList}
+use Rattle.exports.specs.Answers.{CrossBytes, FileBytes, ListBytes}
 
 -- Demand 1, of the exported calls: exactly one answer for every input. "Each call returns its refusal number."
 pub record OneAnswer : Type 0 where

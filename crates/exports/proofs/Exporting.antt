@@ -2,19 +2,18 @@
 -- call refuses f; the exported call refuses f and then a slice of less than `least` bytes, g in all. Assumes nothing.
 use mathlib.Core.Path.{_≡_, _∙_, refl, sym, ap}
 use mathlib.Core.Logic.{⊎-elim}
-use mathlib.Core.List.{List, [], _∷_}
-use Prim.Native.Nat.{ℕ, _-_, _*_, _^_, _≤_, _<_}
+use mathlib.Core.List.{List}
+use Prim.Native.Nat.{ℕ, _*_, _^_, _≤_, _<_}
 use native.Mathlib.Omega.{arith}
-use lib.ListN.{length, getD, take, drop}
-use lib.Seq.{take-all}
+use lib.ListN.{length, getD, drop}
 use Rattle.frame.specs.Answers.{over}
 use Rattle.frame.specs.Promises.{KeepsLent, together}
 use Rattle.frame.proofs.Answering.{answers-or-not, refusing, answering, answer-one, answer-some, keeps, number-is}
 use Rattle.frame.proofs.Lengths.{ThenNine}
 use Rattle.octets.specs.Bytes.{bytes, numberAt}
 use Rattle.octets.proofs.Laying.{number-at, after-bytes, as-long}
-use Rattle.host_grid.specs.Answers.{Sent, Exported}
-use Rattle.host_grid.specs.Promises.{Hosted}
+use Rattle.exports.specs.Answers.{Sent, Exported}
+use Rattle.exports.specs.Promises.{Hosted}
 
 -- What the program returns over a call of document 01 that refuses k, and answers the numbers ms where k is 0.
 pub record Returns (k g least : ℕ) (Good : List ℕ → Type 0) (ms out : List ℕ) : Type 0 where
@@ -98,9 +97,3 @@ module _ {f g least : ℕ} (Good : List ℕ → Type 0) (out : List ℕ) (nine :
             let s = p .answered z in
             s .put ∙ ap (λ (ns : List ℕ). over (bytes 8 ns) out)
             (one (none z) (s .numbers) ms (s .good) (good (none z)))
-
--- a list as the code takes it: the first number, and the rest
-pub first-and-rest : (ws : List ℕ) → (length ws ≡ 0 → ⊥)
-    → getD ws 0 0 ∷ take (length ws - 1) (drop 1 ws) ≡ ws
-first-and-rest [] e = absurd (e refl)
-first-and-rest (w ∷ ws) e = ap (λ (l : List ℕ). w ∷ l) (take-all (length (w ∷ ws) - 1) ws (omega arith))

@@ -13,7 +13,7 @@ use Rattle.words.specs.declared.TriangleCode.{TriangleCode}
 use Rattle.net.specs.Steps.{Across}
 use Rattle.filing.specs.Filing.{IsFiled, AreHolders}
 use Rattle.filing.specs.declared.Direction.{Direction}
-use Rattle.host_grid.specs.Refusals.{refuseCross, refuseFile, refuseList}
+use Rattle.exports.specs.Refusals.{refuseCross, refuseFile, refuseList}
 
 -- "Answers go to lent bytes, eight for each number, most significant first": over the first bytes, and the later ones
 -- stay

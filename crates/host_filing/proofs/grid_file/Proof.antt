@@ -7,9 +7,9 @@ use mir.ValLaws.{toZ-ofZ}
 use Rattle.directions.specs.Answers.{FileAnswer}
 use Rattle.grid.specs.Writing.{towards}
 use Rattle.octets.proofs.Laying.{laid-one}
-use Rattle.host_grid.proofs.Calls.{file-returns}
-use Rattle.host_grid.proofs.grid_file.Statement.{statement}
-use Rattle.host_grid.proofs.grid_file.Tie as tie
+use Rattle.exports.proofs.Calls.{file-returns}
+use Rattle.host_filing.proofs.grid_file.Statement.{statement}
+use Rattle.host_filing.proofs.grid_file.Tie as tie
 
 file-requires : tie.Need-file-requires
 file-requires c κs = search needs

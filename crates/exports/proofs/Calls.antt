@@ -8,6 +8,7 @@ use lib.Seq.{take-at}
 use Rattle.frame.specs.Refusals.{order}
 use Rattle.frame.specs.Answers.{Listed}
 use Rattle.frame.proofs.Lengths.{ThenNine, then-nine, never-nine}
+use Rattle.octets.specs.Bytes.{bytes}
 use Rattle.words.specs.Refusals.{degreeRows, codeRows}
 use Rattle.words.specs.declared.CodeAnswer.{CodeAnswer}
 use Rattle.words.specs.declared.TriangleCode.{TriangleCode}
@@ -53,9 +54,9 @@ module _ (t : TriangleCode) (k : ℕ) (out : List ℕ) {a : StepAnswer} (p : Cro
   pub cross-numbers : refuseNumbered t k ≡ 0 → CodeAndEdge t k (a .code .0 ∷ a .edge ∷ [])
   cross-numbers z = record { code = a .code .0; edge = a .edge; are = refl; across = p .answered z .across }
 
-  pub cross-returns : Returns (a .refusal) (refuseCross t k out) 16 (CodeAndEdge t k)
+  pub cross-returns : Returns (bytes 8) (a .refusal) (refuseCross t k out) 16 (CodeAndEdge t k)
       (a .code .0 ∷ a .edge ∷ []) out
-  cross-returns = returned (CodeAndEdge t k) out (cross-nine t k out) _ cross-number cross-numbers
+  cross-returns = returned (bytes 8) (CodeAndEdge t k) out (cross-nine t k out) _ cross-number cross-numbers
 
 module _ (n : ℕ) (d : Direction) (out : List ℕ) {a : CodeAnswer} (p : FileAnswer n d a) where
   pub file-number : a .refusal ≡ directions.refuseFile n d
@@ -64,8 +65,8 @@ module _ (n : ℕ) (d : Direction) (out : List ℕ) {a : CodeAnswer} (p : FileAn
   pub file-numbers : directions.refuseFile n d ≡ 0 → FiledCode n d (a .code .0 ∷ [])
   file-numbers z = record { code = a .code .0; are = refl; filed = p .answered z .is }
 
-  pub file-returns : Returns (a .refusal) (refuseFile n d out) 8 (FiledCode n d) (a .code .0 ∷ []) out
-  file-returns = returned (FiledCode n d) out (file-nine n d out) _ file-number file-numbers
+  pub file-returns : Returns (bytes 8) (a .refusal) (refuseFile n d out) 8 (FiledCode n d) (a .code .0 ∷ []) out
+  file-returns = returned (bytes 8) (FiledCode n d) out (file-nine n d out) _ file-number file-numbers
 
 -- listing, into at least six places, which come as `places` and are left as `left`
 module _ (n : ℕ) (d : Direction) (out places left : List ℕ) {a : CountAnswer} (six : 6 ≤ length places)
@@ -97,6 +98,6 @@ module _ (n : ℕ) (d : Direction) (out places left : List ℕ) {a : CountAnswer
       let l = listed z in
       omega (arith, count z, ap length (l .put), length-append (l .list) (drop (length (l .list)) places))
 
-  pub list-returns : Returns (a .refusal) (refuseList n d out) 56 (CountAndCodes n d)
+  pub list-returns : Returns (bytes 8) (a .refusal) (refuseList n d out) 56 (CountAndCodes n d)
       (a .count ∷ take (a .count) left) out
-  list-returns = returned (CountAndCodes n d) out (list-nine n d out) _ list-number list-numbers
+  list-returns = returned (bytes 8) (CountAndCodes n d) out (list-nine n d out) _ list-number list-numbers

@@ -46,14 +46,14 @@ cross-shows : (t : TriangleCode) (k : ℕ) (out : List ℕ) (a : StepAnswer) →
     → refuseCross t k out ≡ 0 → CrossBytes t k out leaves (0, over (bytes 8 (a .code .0 ∷ a .edge ∷ [])) out)
 cross-shows t k out a p e =
     let z = cross-nine t k out .passes .0 e in
-    gives-one (exported-one (CodeAndEdge t k) out (cross-nine t k out) (cross-same t k))
+    gives-one (exported-one (bytes 8) (CodeAndEdge t k) out (cross-nine t k out) (cross-same t k))
     (cross-returns t k out p .sent (cross-number t k out p ∙ z .0) (z .1) refl)
 
 file-shows : (n : ℕ) (d : Direction) (out : List ℕ) (a : CodeAnswer) → FileAnswer n d a
     → refuseFile n d out ≡ 0 → FileBytes n d out leaves (0, over (bytes 8 (a .code .0 ∷ [])) out)
 file-shows n d out a p e =
     let z = file-nine n d out .passes .0 e in
-    gives-one (exported-one (FiledCode n d) out (file-nine n d out) (λ z. file-same n d))
+    gives-one (exported-one (bytes 8) (FiledCode n d) out (file-nine n d out) (λ z. file-same n d))
     (file-returns n d out p .sent (file-number n d out p ∙ z .0) (z .1) refl)
 
 list-shows : (n : ℕ) (d : Direction) (out places left : List ℕ) (a : CountAnswer) → 6 ≤ length places
@@ -61,7 +61,7 @@ list-shows : (n : ℕ) (d : Direction) (out places left : List ℕ) (a : CountAn
     → ListBytes n d out leaves (0, over (bytes 8 (a .count ∷ take (a .count) left)) out)
 list-shows n d out places left a six p e =
     let z = list-nine n d out .passes .0 e in
-    gives-one (exported-one (CountAndCodes n d) out (list-nine n d out) (λ z. list-same n d))
+    gives-one (exported-one (bytes 8) (CountAndCodes n d) out (list-nine n d out) (λ z. list-same n d))
     (list-returns n d out places left six p .sent (list-number n d out places left six p ∙ z .0) (z .1) refl)
 
 -- E8, E3, and all holders of (0,0,1) at degree 0
@@ -95,7 +95,7 @@ refused : (t : TriangleCode) (k f : ℕ) (out : List ℕ) → suc f ≡ refuseCr
     → CrossBytes t k out leaves (suc f, out)
 refused t k f out e =
     let is : CrossBytes t k out (suc f) out = refusing e (λ z. omega arith) in
-    gives-one (exported-one (CodeAndEdge t k) out (cross-nine t k out) (cross-same t k)) is
+    gives-one (exported-one (bytes 8) (CodeAndEdge t k) out (cross-nine t k out) (cross-same t k)) is
 
 pub examples : Examples
 unfolding bytes refuseCross refuseFile refuseList checkCode firstOf decimals written firstDigits path wordIn

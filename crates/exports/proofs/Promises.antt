@@ -6,6 +6,7 @@ use Prim.Native.Nat.{ℕ, zero, suc, _^_, _≤_, _<_}
 use native.Mathlib.Omega.{arith}
 use lib.ListN.{length, getD, take, replicate}
 use Rattle.frame.proofs.Answering.{keeps-is}
+use Rattle.octets.specs.Bytes.{bytes}
 use Rattle.octets.proofs.Laying.{bytes-of-long, each-byte, number-back}
 use Rattle.words.specs.Family.{codeOf}
 use Rattle.words.specs.Refusals.{checkCode}
@@ -30,7 +31,7 @@ use Rattle.exports.specs.Answers.{CodeAndEdge, FiledCode, CountAndCodes,
 use Rattle.exports.specs.Promises.{OneAnswer, EightBytes, Hosted, AsTheGrid}
 use Rattle.exports.proofs.Calls.{cross-nine, file-nine, list-nine, cross-number, file-number, list-number}
 use Rattle.exports.proofs.Calls.{cross-numbers, file-numbers, list-numbers}
-use Rattle.exports.proofs.Exporting.{Fitting, exported-keeps, hosted}
+use Rattle.exports.proofs.Exporting.{Fitting, exported-keeps, delivered, hosted}
 
 pub eight-bytes : EightBytes
 eight-bytes = record { eight = bytes-of-long 8; areBytes = each-byte 8; back = number-back 8 }
@@ -86,13 +87,13 @@ one-answer = record {
   checkTriangle = λ t. keeps-is (checkCode t) refl (λ some. refl);
   checkNames = λ q. keeps-is (checkName q) refl (λ some. refl);
   cross = λ t k out.
-      exported-keeps (CodeAndEdge t k) out (cross-nine t k out) (cross-same t k)
+      exported-keeps (bytes 8) (CodeAndEdge t k) out (cross-nine t k out) (cross-same t k)
       (λ z. (_, cross-numbers t k out (cross-some t k .1) z));
   file = λ n d out.
-      exported-keeps (FiledCode n d) out (file-nine n d out) (λ z. file-same n d)
+      exported-keeps (bytes 8) (FiledCode n d) out (file-nine n d out) (λ z. file-same n d)
       (λ z. (_, file-numbers n d out (file-some n d .1) z));
   list = λ n d out.
-      exported-keeps (CountAndCodes n d) out (list-nine n d out) (λ z. list-same n d)
+      exported-keeps (bytes 8) (CountAndCodes n d) out (list-nine n d out) (λ z. list-same n d)
       (λ z.
       let places : List ℕ = replicate 6 0 in
       let x = list-some n d places in
@@ -106,15 +107,15 @@ crossed : (t : TriangleCode) (k : ℕ) (a : StepAnswer) (out : List ℕ) (r : �
     → Hosted (a .refusal) (a .code .0 ∷ a .edge ∷ []) 16 out r new
 crossed t k a out r new p q =
     subst (λ (f : ℕ). Hosted f (a .code .0 ∷ a .edge ∷ []) 16 out r new) (sym (cross-number t k out p))
-    (hosted (CodeAndEdge t k) out (cross-nine t k out) (cross-same t k) _ (cross-numbers t k out p)
-    (λ z. cross-fits t k z) q)
+    (hosted (delivered (bytes 8) (CodeAndEdge t k) out (cross-nine t k out) (cross-same t k) _ (cross-numbers t k out p) q)
+    (λ z. cross-fits t k z (cross-numbers t k out p z)))
 
 filed : (n : ℕ) (d : Direction) (a : CodeAnswer) (out : List ℕ) (r : ℕ) (new : List ℕ) → FileAnswer n d a
     → FileBytes n d out r new → Hosted (a .refusal) (a .code .0 ∷ []) 8 out r new
 filed n d a out r new p q =
     subst (λ (f : ℕ). Hosted f (a .code .0 ∷ []) 8 out r new) (sym (file-number n d out p))
-    (hosted (FiledCode n d) out (file-nine n d out) (λ z. file-same n d) _ (file-numbers n d out p)
-    (λ z. file-fits n d) q)
+    (hosted (delivered (bytes 8) (FiledCode n d) out (file-nine n d out) (λ z. file-same n d) _ (file-numbers n d out p) q)
+    (λ z. file-fits n d (file-numbers n d out p z)))
 
 listed : (n : ℕ) (d : Direction) (places left : List ℕ) (a : CountAnswer) (out : List ℕ) (r : ℕ)
     (new : List ℕ) → 6 ≤ length places → ListAnswer n d places a left → ListBytes n d out r new
@@ -122,8 +123,8 @@ listed : (n : ℕ) (d : Direction) (places left : List ℕ) (a : CountAnswer) (o
 listed n d places left a out r new six p q =
     subst (λ (f : ℕ). Hosted f (a .count ∷ take (a .count) left) 56 out r new)
     (sym (list-number n d out places left six p))
-    (hosted (CountAndCodes n d) out (list-nine n d out) (λ z. list-same n d) _
-    (list-numbers n d out places left six p) (λ z. list-fits n d z) q)
+    (hosted (delivered (bytes 8) (CountAndCodes n d) out (list-nine n d out) (λ z. list-same n d) _
+    (list-numbers n d out places left six p) q) (λ z. list-fits n d z (list-numbers n d out places left six p z)))
 
 pub as-the-grid : AsTheGrid
 as-the-grid = record { cross = crossed; file = filed; list = listed }

@@ -15,17 +15,21 @@ use Rattle.filing.specs.Filing.{IsFiled, AreHolders}
 use Rattle.filing.specs.declared.Direction.{Direction}
 use Rattle.exports.specs.Refusals.{refuseCross, refuseFile, refuseList}
 
--- "Answers go to lent bytes, eight for each number, most significant first": over the first bytes, and the later ones
--- stay
-pub record Sent (Good : List ℕ → Type 0) (out : List ℕ) (r : ℕ) (new : List ℕ) : Type 0 where
+-- "Answers go to lent bytes": numbers, laid over the first bytes, and the later ones stay
+pub record Sent (laid : List ℕ → List ℕ) (Good : List ℕ → Type 0) (out : List ℕ) (r : ℕ) (new : List ℕ) : Type 0 where
   pub numbers : List ℕ
   pub good : Good numbers
   pub answered : r ≡ 0
-  pub put : new ≡ over (bytes 8 numbers) out
+  pub put : new ≡ over (laid numbers) out
 
 -- "Each call returns its refusal number."
+abbrev pub ExportedAs : (laid : List ℕ → List ℕ) (f : ℕ) (Good : List ℕ → Type 0) (out : List ℕ) (r : ℕ) (new : List ℕ)
+    → Type 0
+ExportedAs laid f Good out r new = Lent f (Sent laid Good out) (λ k. k) out r new
+
+-- "eight for each number, most significant first"
 abbrev pub Exported : (f : ℕ) (Good : List ℕ → Type 0) (out : List ℕ) (r : ℕ) (new : List ℕ) → Type 0
-Exported f Good out r new = Lent f (Sent Good out) (λ k. k) out r new
+Exported f Good out r new = ExportedAs (bytes 8) f Good out r new
 
 -- "cross writes code and edge number" (2026-06: "the exported call drops" how the corners turned)
 pub record CodeAndEdge (t : TriangleCode) (k : ℕ) (numbers : List ℕ) : Type 0 where

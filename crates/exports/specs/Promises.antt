@@ -3,6 +3,7 @@ use mathlib.Core.Path.{_≡_}
 use mathlib.Core.List.{List, [], _∷_}
 use Prim.Native.Nat.{ℕ, _*_, _^_, _≤_, _<_}
 use lib.ListN.{length, getD, take, drop}
+use Rattle.frame.specs.Answers.{over}
 use Rattle.frame.specs.Promises.{Keeps, KeepsLent}
 use Rattle.octets.specs.Bytes.{bytesOf, numberOf, numberAt}
 use Rattle.words.specs.Refusals.{checkCode}
@@ -34,6 +35,15 @@ pub record EightBytes : Type 0 where
   pub eight : (w : ℕ) → length (bytesOf 8 w) ≡ 8
   pub areBytes : (w i : ℕ) → getD (bytesOf 8 w) i 0 < 256
   pub back : (w : ℕ) → w < 2 ^ 64 → numberOf (bytesOf 8 w) ≡ w
+
+-- What a host has of a call that refuses f, answers these bytes, and asks for `least` of them.
+pub record Delivered (f : ℕ) (bytes : List ℕ) (least : ℕ) (out : List ℕ) (r : ℕ) (new : List ℕ) : Type 0 where
+  pub refused : (f ≡ 0 → ⊥) → r ≡ f
+  pub short : f ≡ 0 → length out < least → r ≡ 9
+  pub answered : f ≡ 0 → least ≤ length out → r ≡ 0
+  -- the bytes stand first, and every later one is as it was; a refusal leaves all as they were
+  pub written : r ≡ 0 → new ≡ over bytes out
+  pub kept : (r ≡ 0 → ⊥) → new ≡ out
 
 -- What a host has of a call that refuses f in document 01, answers these numbers, and asks for `least` bytes.
 pub record Hosted (f : ℕ) (numbers : List ℕ) (least : ℕ) (out : List ℕ) (r : ℕ) (new : List ℕ)

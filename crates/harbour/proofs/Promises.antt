@@ -43,18 +43,18 @@ use Rattle.harbour.proofs.LargeCalls.{filed-small}
 -- ---- one answer
 
 -- where the large call answers one thing, its small form is one
-formed-one : {A B : Type 0} {Large : A → Type 0} {formed : A → B} {r r′ : B} → ((a b : A) → Large a → Large b → a ≡ b)
+pub formed-one : {A B : Type 0} {Large : A → Type 0} {formed : A → B} {r r′ : B} → ((a b : A) → Large a → Large b → a ≡ b)
     → SmallFormOf Large formed r → SmallFormOf Large formed r′ → r ≡ r′
 formed-one {formed = formed} one x y =
     x .is ∙ ap formed (one (x .answer) (y .answer) (x .large) (y .large)) ∙ sym (y .is)
 
-crossed-one : (s : SmallCode) (k : ℕ) → refuseSmallCross s k ≡ 0 → (a b : StepAnswer) → Crossed (largeOf s) k a
+pub crossed-one : (s : SmallCode) (k : ℕ) → refuseSmallCross s k ≡ 0 → (a b : StepAnswer) → Crossed (largeOf s) k a
     → Crossed (largeOf s) k b → a ≡ b
 crossed-one s k z a b x y =
     let e = cross-same s k (cross-code s k z) ∙ z in
     cross-one (largeOf s) k a b (answering e x) (answering e y)
 
-filed-one : (n : ℕ) (d : Direction) → refuseSmallFile n d ≡ 0 → (a b : CodeAnswer) → Filed n d a → Filed n d b → a ≡ b
+pub filed-one : (n : ℕ) (d : Direction) → refuseSmallFile n d ≡ 0 → (a b : CodeAnswer) → Filed n d a → Filed n d b → a ≡ b
 filed-one n d z a b x y =
     let e = file-same n d (file-degree n d z) ∙ z in file-one n d a b (answering e x) (answering e y)
 

@@ -53,9 +53,14 @@ pub record SmallFormOf {A B : Type 0} (Large : A → Type 0) (formed : A → B) 
   pub large : Large answer
   pub is : r ≡ formed answer
 
+abbrev pub SmallCrossed : SmallCode → ℕ → SmallStepAnswer → Type 0
+SmallCrossed s k r = SmallFormOf (Crossed (largeOf s) k) smallOfStep r
+
 abbrev pub SmallCrossAnswer : SmallCode → ℕ → SmallStepAnswer → Type 0
-SmallCrossAnswer s k r =
-    Answer (refuseSmallCross s k) (SmallFormOf (Crossed (largeOf s) k) smallOfStep) noSmallStep r
+SmallCrossAnswer s k r = Answer (refuseSmallCross s k) (SmallCrossed s k) noSmallStep r
+
+abbrev pub SmallFiled : ℕ → Direction → SmallAnswer → Type 0
+SmallFiled n d r = SmallFormOf (Filed n d) smallOfCode r
 
 abbrev pub SmallFileAnswer : ℕ → Direction → SmallAnswer → Type 0
-SmallFileAnswer n d r = Answer (refuseSmallFile n d) (SmallFormOf (Filed n d) smallOfCode) noSmall r
+SmallFileAnswer n d r = Answer (refuseSmallFile n d) (SmallFiled n d) noSmall r

@@ -33,8 +33,11 @@ unfoldable pub checkSmall : SmallCode → ℕ
 checkSmall s = firstOf harbourOrder (smallRows s)
 
 -- writing the small word of a code
+abbrev pub writeRows : TriangleCode → List Row
+writeRows t = depthRows (degreeOf (t .0)) ++ fieldRows large (t .0) ++ codeLowRows t
+
 unfoldable pub refuseWrite : TriangleCode → ℕ
-refuseWrite t = firstOf harbourOrder (depthRows (degreeOf (t .0)) ++ fieldRows large (t .0) ++ codeLowRows t)
+refuseWrite t = firstOf harbourOrder (writeRows t)
 
 unfoldable pub refuseSmallCross : SmallCode → ℕ → ℕ
 refuseSmallCross s k = firstOf harbourOrder (smallRows s ++ oneToThreeRows k)

@@ -21,6 +21,17 @@ pub fn put8(w: u64, out: &mut [u8])
     out[7] = (w % 256) as u8;
 }
 
+// The four bytes of w over the front of out.
+pub fn put4(w: u32, out: &mut [u8])
+    requires { ⌜ 4 ≤ length (now out) ⌝ }
+    ensures { λ _. ⌜ now (out .exit) ≡ over (bytesOf 4 w) (now (out .entry)) ⌝ }
+{
+    out[0] = (w / 0x100_0000 % 256) as u8;
+    out[1] = (w / 0x1_0000 % 256) as u8;
+    out[2] = (w / 0x100 % 256) as u8;
+    out[3] = (w % 256) as u8;
+}
+
 // The number of the first four bytes.
 fn get4(bytes: &[u8]) -> u32
     requires { ⌜ 4 ≤ length (now bytes) ⌝ }

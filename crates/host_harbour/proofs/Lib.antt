@@ -1,0 +1,3 @@
+-- The laws of the exported calls, and the theorems of specs/Promises.antt.
+pub mod HarbourCalls
+pub mod Promises

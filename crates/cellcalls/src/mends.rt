@@ -10,7 +10,7 @@ ghost use lib.ListN.{length};
 
 // How many codes the mended list has, and how many changes were made.
 fn put_answer(r: MendAnswer, out: &mut [u8]) -> usize
-    requires { ⌜ 8192 ≤ length (now out) ⌝ }
+    requires { ⌜ 16384 ≤ length (now out) ⌝ }
     ensures { λ n. ⌜ n ≤ 200 ⌝ }
 {
     if r.refusal != 0 {
@@ -44,9 +44,9 @@ fn in_lists(
 ) -> usize
     requires { ⌜
         (length (now mended) ≤ 64) × (length (now words) ≤ 64) × (length (now reasons) ≤ 64)
-        × (8192 ≤ length (now out))
+        × (16384 ≤ length (now out))
         ⌝ }
-    ensures { λ r. ⌜ r ≤ 8000 ⌝ }
+    ensures { λ r. ⌜ r ≤ 16000 ⌝ }
 {
     places::number(mended);
     places::number(words);
@@ -67,9 +67,9 @@ fn in_first(
 ) -> usize
     requires { ⌜
         (l .mended ≤ length (now mended)) × (l .words ≤ length (now words)) × (l .reasons ≤ length (now reasons))
-        × (l .mended ≤ 64) × (l .words ≤ 64) × (l .reasons ≤ 64) × (8192 ≤ length (now out))
+        × (l .mended ≤ 64) × (l .words ≤ 64) × (l .reasons ≤ 64) × (16384 ≤ length (now out))
         ⌝ }
-    ensures { λ r. ⌜ r ≤ 8000 ⌝ }
+    ensures { λ r. ⌜ r ≤ 16000 ⌝ }
 {
     let m = l.mended;
     let w = l.words;
@@ -86,9 +86,9 @@ fn in_first(
 // Of the first n words; 0 where the list has fewer, since they could not be read then.
 fn of_first(list: &[u64], n: usize, l: Lengths, out: &mut [u8]) -> usize
     requires { ⌜
-        (l .mended ≤ 64) × (l .words ≤ 64) × (l .reasons ≤ 64) × (8192 ≤ length (now out))
+        (l .mended ≤ 64) × (l .words ≤ 64) × (l .reasons ≤ 64) × (16384 ≤ length (now out))
         ⌝ }
-    ensures { λ r. ⌜ r ≤ 8000 ⌝ }
+    ensures { λ r. ⌜ r ≤ 16000 ⌝ }
 {
     if list.len() < n {
         return 0;
@@ -101,8 +101,8 @@ fn of_first(list: &[u64], n: usize, l: Lengths, out: &mut [u8]) -> usize
 
 // 0 where the arguments cannot be read. A line has no room for more than 500 codes.
 pub fn answer(line: &[u8], at: usize, out: &mut [u8]) -> usize
-    requires { ⌜ (at ≤ length (now line)) × (8192 ≤ length (now out)) ⌝ }
-    ensures { λ r. ⌜ r ≤ 8000 ⌝ }
+    requires { ⌜ (at ≤ length (now line)) × (16384 ≤ length (now out)) ⌝ }
+    ensures { λ r. ⌜ r ≤ 16000 ⌝ }
 {
     let l = arguments::three_lengths(line, at);
     if !l.read {

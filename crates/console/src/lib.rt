@@ -35,8 +35,8 @@ pub fn none_held() -> Held {
 
 // A line that is too long is skipped whole.
 pub fn too_long(held: Held, out: &mut [u8]) -> Reply
-    requires { ⌜ 8192 ≤ length (now out) ⌝ }
-    ensures { λ r. ⌜ r .size ≤ 8000 ⌝ }
+    requires { ⌜ 16384 ≤ length (now out) ⌝ }
+    ensures { λ r. ⌜ r .size ≤ 16000 ⌝ }
 {
     held::whole(
         lines::put_bytes(b"error: a line has at most 1000 bytes", out, 0),
@@ -46,14 +46,14 @@ pub fn too_long(held: Held, out: &mut [u8]) -> Reply
 
 // No answer.
 pub fn nothing(held: Held) -> Reply
-    ensures { λ r. ⌜ r .size ≤ 8000 ⌝ }
+    ensures { λ r. ⌜ r .size ≤ 16000 ⌝ }
 {
     held::whole(0, held)
 }
 
 fn unknown(out: &mut [u8]) -> usize
-    requires { ⌜ 8192 ≤ length (now out) ⌝ }
-    ensures { λ r. ⌜ r ≤ 8000 ⌝ }
+    requires { ⌜ 16384 ≤ length (now out) ⌝ }
+    ensures { λ r. ⌜ r ≤ 16000 ⌝ }
 {
     lines::put_bytes(b"error: no such call; help shows them", out, 0)
 }
@@ -61,8 +61,8 @@ fn unknown(out: &mut [u8]) -> usize
 // The answer of a call, by its row of CALLS, whose arguments stand from a place of a line on; 0 where they cannot
 // be read.
 fn call_answer(call: u64, line: &[u8], at: usize, out: &mut [u8]) -> usize
-    requires { ⌜ (at ≤ length (now line)) × (8192 ≤ length (now out)) ⌝ }
-    ensures { λ r. ⌜ r ≤ 8000 ⌝ }
+    requires { ⌜ (at ≤ length (now line)) × (16384 ≤ length (now out)) ⌝ }
+    ensures { λ r. ⌜ r ≤ 16000 ⌝ }
 {
     match call {
         // help
@@ -81,14 +81,15 @@ fn call_answer(call: u64, line: &[u8], at: usize, out: &mut [u8]) -> usize
         34 => checking::answer(line, at, out),
         // mend-cells
         35 => mends::answer(line, at, out),
+        36..=40 => smallcalls::answer(call, line, at, out),
         _ => unknown(out),
     }
 }
 
 // The answer of a call that needs no table.
 fn plain_answer(call: u64, line: &[u8], at: usize, out: &mut [u8]) -> usize
-    requires { ⌜ (at ≤ length (now line)) × (8192 ≤ length (now out)) ⌝ }
-    ensures { λ r. ⌜ r ≤ 8000 ⌝ }
+    requires { ⌜ (at ≤ length (now line)) × (16384 ≤ length (now out)) ⌝ }
+    ensures { λ r. ⌜ r ≤ 16000 ⌝ }
 {
     let n = call_answer(call, line, at, out);
     if n == 0 {
@@ -108,8 +109,8 @@ pub fn answer(
     sums: &mut [u64],
     out: &mut [u8],
 ) -> Reply
-    requires { ⌜ 8192 ≤ length (now out) ⌝ }
-    ensures { λ r. ⌜ r .size ≤ 8000 ⌝ }
+    requires { ⌜ 16384 ≤ length (now out) ⌝ }
+    ensures { λ r. ⌜ r .size ≤ 16000 ⌝ }
 {
     let w = lines::next_word(line, 0);
     let from = w.from;

@@ -13,4 +13,9 @@ contracts = record {
   sweep = λ κs degree dirs dirs′ codes new out told r. says-itself;
   checkCells = λ κs list list′ out new r. says-itself;
   mendCells = λ κs list list′ mended new words words′ reasons reasons′ out told r. says-itself;
+  small = λ κs code out new r. says-itself;
+  large = λ κs word out new r. says-itself;
+  checkSmalls = λ κs word r. says-itself;
+  crossSmall = λ κs word edge out new r. says-itself;
+  fileSmall = λ κs degree x y z out new r. says-itself;
 }

@@ -1,4 +1,4 @@
--- Document 02, 2026-01, 2026-04, 2026-09 and 2026-10: what the exported functions themselves say, as
+-- Document 02, 2026-01, 2026-04, 2026-09, 2026-10 and 2026-11: what the exported functions themselves say, as
 -- grid/specs/Contracts.antt has it of document 01's. Assumes nothing.
 use mathlib.Core.Path.{_≡_}
 use Prim.Native.Nat.{ℕ}
@@ -16,6 +16,9 @@ use Rattle.mending.specs.Answers.{lists}
 use Rattle.host_sweeps.specs.Answers.{SweepBytes}
 use Rattle.host_cells.specs.Answers.{CheckBytes, MendBytes}
 use Rattle.exports.specs.Answers.{CrossBytes, FileBytes, ListBytes}
+use Rattle.harbour.specs.Small.{smallCode}
+use Rattle.harbour.specs.Refusals.{checkSmall}
+use Rattle.host_harbour.specs.Answers.{SmallBytes, LargeBytes, CrossSmallBytes, FileSmallBytes}
 use Rattle.host.proofs.grid_check_triangle.Reads as grid_check_triangle
 use Rattle.host.proofs.grid_check_name.Reads as grid_check_name
 use Rattle.host.proofs.grid_cross.Reads as grid_cross
@@ -24,9 +27,14 @@ use Rattle.host.proofs.grid_list.Reads as grid_list
 use Rattle.host.proofs.grid_sweep.Reads as grid_sweep
 use Rattle.host.proofs.grid_check_cells.Reads as grid_check_cells
 use Rattle.host.proofs.grid_mend_cells.Reads as grid_mend_cells
+use Rattle.host.proofs.grid_small.Reads as grid_small
+use Rattle.host.proofs.grid_large.Reads as grid_large
+use Rattle.host.proofs.grid_check_small.Reads as grid_check_small
+use Rattle.host.proofs.grid_cross_small.Reads as grid_cross_small
+use Rattle.host.proofs.grid_file_small.Reads as grid_file_small
 
--- The calls in the order of `OneAnswer`, of the crate exports and then of host_sweeps and of host_cells: for any
--- plain numbers, any result, and bytes left with any contents.
+-- The calls in the order of `OneAnswer`, of the crate exports and then of host_sweeps, of host_cells and of
+-- host_harbour: for any plain numbers, any result, and bytes left with any contents.
 pub record Contracts : Type 0 where
   pub checkTriangle : (κs : Lfts 0) (word : ℕ) (r : ℕ)
       → Says (grid_check_triangle.Asked κs (word, tt)) (grid_check_triangle.Learnt κs (word, tt) r (word, tt))
@@ -60,3 +68,20 @@ pub record Contracts : Type 0 where
       (list′, (new, (words′, (reasons′, (told, tt))))))
       (MendBytes (now list) (lists (now mended) (now words) (now reasons)) (now out) r
       (lists (now new) (now words′) (now reasons′), now told))
+  pub small : (κs : Lfts 1) (code : ℕ) (out new : Slice) (r : ℕ)
+      → Says (grid_small.Asked κs (code, (out, tt))) (grid_small.Learnt κs (code, (out, tt)) r (code, (new, tt)))
+      (SmallBytes (codeOf code) (now out) r (now new))
+  pub large : (κs : Lfts 1) (word : ℕ) (out new : Slice) (r : ℕ)
+      → Says (grid_large.Asked κs (word, (out, tt))) (grid_large.Learnt κs (word, (out, tt)) r (word, (new, tt)))
+      (LargeBytes (smallCode word) (now out) r (now new))
+  pub checkSmalls : (κs : Lfts 0) (word : ℕ) (r : ℕ)
+      → Says (grid_check_small.Asked κs (word, tt)) (grid_check_small.Learnt κs (word, tt) r (word, tt))
+      (r ≡ checkSmall (smallCode word))
+  pub crossSmall : (κs : Lfts 1) (word edge : ℕ) (out new : Slice) (r : ℕ)
+      → Says (grid_cross_small.Asked κs (word, (edge, (out, tt))))
+      (grid_cross_small.Learnt κs (word, (edge, (out, tt))) r (word, (edge, (new, tt))))
+      (CrossSmallBytes (smallCode word) edge (now out) r (now new))
+  pub fileSmall : (κs : Lfts 1) (degree : ℕ) (x y z : ℤ) (out new : Slice) (r : ℕ)
+      → Says (grid_file_small.Asked κs (degree, (x, (y, (z, (out, tt))))))
+      (grid_file_small.Learnt κs (degree, (x, (y, (z, (out, tt))))) r (degree, (x, (y, (z, (new, tt))))))
+      (FileSmallBytes degree (towards x y z) (now out) r (now new))

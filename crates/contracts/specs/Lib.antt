@@ -4,4 +4,5 @@ pub mod Sweeps
 pub mod Soundings
 pub mod Cells
 pub mod Mending
+pub mod Harbour
 pub mod Verdicts

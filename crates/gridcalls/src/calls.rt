@@ -19,8 +19,8 @@ ghost use Prim.Native.Nat.{_≤_};
 ghost use lib.ListN.{length};
 
 fn code_answer(call: u64, t: TriangleCode, out: &mut [u8]) -> usize
-    requires { ⌜ 8192 ≤ length (now out) ⌝ }
-    ensures { λ r. ⌜ r ≤ 8000 ⌝ }
+    requires { ⌜ 16384 ≤ length (now out) ⌝ }
+    ensures { λ r. ⌜ r ≤ 16000 ⌝ }
 {
     match call {
         // check
@@ -32,8 +32,8 @@ fn code_answer(call: u64, t: TriangleCode, out: &mut [u8]) -> usize
 }
 
 pub fn of_code(call: u64, line: &[u8], at: usize, out: &mut [u8]) -> usize
-    requires { ⌜ (at ≤ length (now line)) × (8192 ≤ length (now out)) ⌝ }
-    ensures { λ r. ⌜ r ≤ 8000 ⌝ }
+    requires { ⌜ (at ≤ length (now line)) × (16384 ≤ length (now out)) ⌝ }
+    ensures { λ r. ⌜ r ≤ 16000 ⌝ }
 {
     let c = arguments::code_at(line, at);
     if c.read & arguments::at_end(line, c.next) {
@@ -43,8 +43,8 @@ pub fn of_code(call: u64, line: &[u8], at: usize, out: &mut [u8]) -> usize
 }
 
 fn name_answer(call: u64, w: u64, out: &mut [u8]) -> usize
-    requires { ⌜ 8192 ≤ length (now out) ⌝ }
-    ensures { λ r. ⌜ r ≤ 8000 ⌝ }
+    requires { ⌜ 16384 ≤ length (now out) ⌝ }
+    ensures { λ r. ⌜ r ≤ 16000 ⌝ }
 {
     match call {
         // check-name
@@ -62,8 +62,8 @@ fn name_answer(call: u64, w: u64, out: &mut [u8]) -> usize
 }
 
 pub fn of_name(call: u64, line: &[u8], at: usize, out: &mut [u8]) -> usize
-    requires { ⌜ (at ≤ length (now line)) × (8192 ≤ length (now out)) ⌝ }
-    ensures { λ r. ⌜ r ≤ 8000 ⌝ }
+    requires { ⌜ (at ≤ length (now line)) × (16384 ≤ length (now out)) ⌝ }
+    ensures { λ r. ⌜ r ≤ 16000 ⌝ }
 {
     let q = arguments::name_at(line, at);
     if q.read & arguments::at_end(line, q.next) {
@@ -73,8 +73,8 @@ pub fn of_name(call: u64, line: &[u8], at: usize, out: &mut [u8]) -> usize
 }
 
 fn numbered_answer(call: u64, w: u64, n: u64, out: &mut [u8]) -> usize
-    requires { ⌜ 8192 ≤ length (now out) ⌝ }
-    ensures { λ r. ⌜ r ≤ 8000 ⌝ }
+    requires { ⌜ 16384 ≤ length (now out) ⌝ }
+    ensures { λ r. ⌜ r ≤ 16000 ⌝ }
 {
     match call {
         // child
@@ -96,8 +96,8 @@ fn numbered_answer(call: u64, w: u64, n: u64, out: &mut [u8]) -> usize
 }
 
 pub fn of_code_and_number(call: u64, line: &[u8], at: usize, out: &mut [u8]) -> usize
-    requires { ⌜ (at ≤ length (now line)) × (8192 ≤ length (now out)) ⌝ }
-    ensures { λ r. ⌜ r ≤ 8000 ⌝ }
+    requires { ⌜ (at ≤ length (now line)) × (16384 ≤ length (now out)) ⌝ }
+    ensures { λ r. ⌜ r ≤ 16000 ⌝ }
 {
     let p = arguments::code_and_number(line, at);
     if p.read & arguments::at_end(line, p.next) {
@@ -107,8 +107,8 @@ pub fn of_code_and_number(call: u64, line: &[u8], at: usize, out: &mut [u8]) -> 
 }
 
 pub fn of_direction(line: &[u8], at: usize, out: &mut [u8]) -> usize
-    requires { ⌜ (at ≤ length (now line)) × (8192 ≤ length (now out)) ⌝ }
-    ensures { λ r. ⌜ r ≤ 8000 ⌝ }
+    requires { ⌜ (at ≤ length (now line)) × (16384 ≤ length (now out)) ⌝ }
+    ensures { λ r. ⌜ r ≤ 16000 ⌝ }
 {
     let a = arguments::degree_and_direction(line, at);
     if a.read & arguments::at_end(line, a.next) {
@@ -126,8 +126,8 @@ fn name_back_from(degree: u64, list: &[u64], n: usize) -> NameAnswer
 }
 
 fn back_answer(degree: u64, list: &[u64], n: usize, out: &mut [u8]) -> usize
-    requires { ⌜ 8192 ≤ length (now out) ⌝ }
-    ensures { λ r. ⌜ r ≤ 8000 ⌝ }
+    requires { ⌜ 16384 ≤ length (now out) ⌝ }
+    ensures { λ r. ⌜ r ≤ 16000 ⌝ }
 {
     if list.len() < n {
         return 0;
@@ -136,8 +136,8 @@ fn back_answer(degree: u64, list: &[u64], n: usize, out: &mut [u8]) -> usize
 }
 
 pub fn of_weights(line: &[u8], at: usize, out: &mut [u8]) -> usize
-    requires { ⌜ (at ≤ length (now line)) × (8192 ≤ length (now out)) ⌝ }
-    ensures { λ r. ⌜ r ≤ 8000 ⌝ }
+    requires { ⌜ (at ≤ length (now line)) × (16384 ≤ length (now out)) ⌝ }
+    ensures { λ r. ⌜ r ≤ 16000 ⌝ }
 {
     let d = arguments::number_at(line, at);
     if !d.read {

@@ -59,7 +59,7 @@ fn put_first(list: &[u64], n: usize, out: &mut [u8], at: usize) -> usize
 
 // A count and as many codes.
 fn put_codes(count: u64, list: &[u64], out: &mut [u8]) -> usize
-    requires { ⌜ 8192 ≤ length (now out) ⌝ }
+    requires { ⌜ 16384 ≤ length (now out) ⌝ }
     ensures { λ r. ⌜ r ≤ 1000 ⌝ }
 {
     let colon = lines::put_decimal(count, out, 0);
@@ -77,7 +77,7 @@ fn put_codes(count: u64, list: &[u64], out: &mut [u8]) -> usize
 
 // The twelve weights.
 fn put_weights(list: &[u64], out: &mut [u8]) -> usize
-    requires { ⌜ 8192 ≤ length (now out) ⌝ }
+    requires { ⌜ 16384 ≤ length (now out) ⌝ }
     ensures { λ r. ⌜ r ≤ 1000 ⌝ }
 {
     if list.len() < 12 {
@@ -112,7 +112,7 @@ fn entry_of(q: Asked) -> Entry {
 }
 
 fn put_answer(q: Asked, r: CountAnswer, list: &[u64], out: &mut [u8]) -> usize
-    requires { ⌜ 8192 ≤ length (now out) ⌝ }
+    requires { ⌜ 16384 ≤ length (now out) ⌝ }
     ensures { λ n. ⌜ n ≤ 1000 ⌝ }
 {
     if r.refusal != 0 {
@@ -125,8 +125,8 @@ fn put_answer(q: Asked, r: CountAnswer, list: &[u64], out: &mut [u8]) -> usize
 }
 
 fn in_list(q: Asked, list: &mut [u64], shown: bool, out: &mut [u8]) -> usize
-    requires { ⌜ (length (now list) ≤ 16) × (8192 ≤ length (now out)) ⌝ }
-    ensures { λ r. ⌜ r ≤ 8000 ⌝ }
+    requires { ⌜ (length (now list) ≤ 16) × (16384 ≤ length (now out)) ⌝ }
+    ensures { λ r. ⌜ r ≤ 16000 ⌝ }
 {
     places::number(list);
     let r = fill(q, list);
@@ -138,16 +138,16 @@ fn in_list(q: Asked, list: &mut [u64], shown: bool, out: &mut [u8]) -> usize
 }
 
 fn in_first(q: Asked, list: &mut [u64], n: usize, shown: bool, out: &mut [u8]) -> usize
-    requires { ⌜ (n ≤ length (now list)) × (n ≤ 16) × (8192 ≤ length (now out)) ⌝ }
-    ensures { λ r. ⌜ r ≤ 8000 ⌝ }
+    requires { ⌜ (n ≤ length (now list)) × (n ≤ 16) × (16384 ≤ length (now out)) ⌝ }
+    ensures { λ r. ⌜ r ≤ 16000 ⌝ }
 {
     in_list(q, &mut list[..n], shown, out)
 }
 
 // With the places that the rest of the line asks for.
 fn with_places(q: Asked, line: &[u8], at: usize, usual: usize, out: &mut [u8]) -> usize
-    requires { ⌜ (at ≤ length (now line)) × (usual ≤ 16) × (8192 ≤ length (now out)) ⌝ }
-    ensures { λ r. ⌜ r ≤ 8000 ⌝ }
+    requires { ⌜ (at ≤ length (now line)) × (usual ≤ 16) × (16384 ≤ length (now out)) ⌝ }
+    ensures { λ r. ⌜ r ≤ 16000 ⌝ }
 {
     let p = arguments::places_at(line, at, usual);
     if !p.read {
@@ -158,8 +158,8 @@ fn with_places(q: Asked, line: &[u8], at: usize, usual: usize, out: &mut [u8]) -
 }
 
 fn weights(line: &[u8], at: usize, out: &mut [u8]) -> usize
-    requires { ⌜ (at ≤ length (now line)) × (8192 ≤ length (now out)) ⌝ }
-    ensures { λ r. ⌜ r ≤ 8000 ⌝ }
+    requires { ⌜ (at ≤ length (now line)) × (16384 ≤ length (now out)) ⌝ }
+    ensures { λ r. ⌜ r ≤ 16000 ⌝ }
 {
     let p = arguments::code_and_number(line, at);
     if !p.read {
@@ -169,8 +169,8 @@ fn weights(line: &[u8], at: usize, out: &mut [u8]) -> usize
 }
 
 fn name_weights(line: &[u8], at: usize, out: &mut [u8]) -> usize
-    requires { ⌜ (at ≤ length (now line)) × (8192 ≤ length (now out)) ⌝ }
-    ensures { λ r. ⌜ r ≤ 8000 ⌝ }
+    requires { ⌜ (at ≤ length (now line)) × (16384 ≤ length (now out)) ⌝ }
+    ensures { λ r. ⌜ r ≤ 16000 ⌝ }
 {
     let q = arguments::name_at(line, at);
     if !q.read {
@@ -180,8 +180,8 @@ fn name_weights(line: &[u8], at: usize, out: &mut [u8]) -> usize
 }
 
 fn round(line: &[u8], at: usize, out: &mut [u8]) -> usize
-    requires { ⌜ (at ≤ length (now line)) × (8192 ≤ length (now out)) ⌝ }
-    ensures { λ r. ⌜ r ≤ 8000 ⌝ }
+    requires { ⌜ (at ≤ length (now line)) × (16384 ≤ length (now out)) ⌝ }
+    ensures { λ r. ⌜ r ≤ 16000 ⌝ }
 {
     let q = arguments::name_at(line, at);
     if !q.read {
@@ -191,8 +191,8 @@ fn round(line: &[u8], at: usize, out: &mut [u8]) -> usize
 }
 
 fn holders(line: &[u8], at: usize, out: &mut [u8]) -> usize
-    requires { ⌜ (at ≤ length (now line)) × (8192 ≤ length (now out)) ⌝ }
-    ensures { λ r. ⌜ r ≤ 8000 ⌝ }
+    requires { ⌜ (at ≤ length (now line)) × (16384 ≤ length (now out)) ⌝ }
+    ensures { λ r. ⌜ r ≤ 16000 ⌝ }
 {
     let a = arguments::degree_and_direction(line, at);
     if !a.read {
@@ -204,8 +204,8 @@ fn holders(line: &[u8], at: usize, out: &mut [u8]) -> usize
 
 // Each call by its row of the table of calls; 0 where the arguments cannot be read.
 pub fn answer(call: u64, line: &[u8], at: usize, out: &mut [u8]) -> usize
-    requires { ⌜ (at ≤ length (now line)) × (8192 ≤ length (now out)) ⌝ }
-    ensures { λ r. ⌜ r ≤ 8000 ⌝ }
+    requires { ⌜ (at ≤ length (now line)) × (16384 ≤ length (now out)) ⌝ }
+    ensures { λ r. ⌜ r ≤ 16000 ⌝ }
 {
     match call {
         // weights

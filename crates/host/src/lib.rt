@@ -1,7 +1,7 @@
 // What is exported to a C host (document 02, 2026-01): plain numbers and lent bytes in, a refusal number out. Document
 // 01's calls are in the crates host_grid and host_filing, the sweep of 2026-04 in host_sweeps, those on a cell list
-// of 2026-09 and 2026-10 in host_cells. A library for C has the functions of one crate, and so they stand here once
-// more, a line each.
+// of 2026-09 and 2026-10 in host_cells, those on the small form of 2026-11 in host_harbour. A library for C has the
+// functions of one crate, and so they stand here once more, a line each.
 ghost use mathlib.Core.Path.{_≡_};
 ghost use Rattle.words.specs.Family.{codeOf};
 ghost use Rattle.words.specs.Refusals.{checkCode};
@@ -12,6 +12,9 @@ ghost use Rattle.mending.specs.Answers.{lists};
 ghost use Rattle.exports.specs.Answers.{CrossBytes, FileBytes, ListBytes};
 ghost use Rattle.host_sweeps.specs.Answers.{SweepBytes};
 ghost use Rattle.host_cells.specs.Answers.{CheckBytes, MendBytes};
+ghost use Rattle.harbour.specs.Small.{smallCode};
+ghost use Rattle.harbour.specs.Refusals.{checkSmall};
+ghost use Rattle.host_harbour.specs.Answers.{SmallBytes, LargeBytes, CrossSmallBytes, FileSmallBytes};
 
 // Checking a word as a triangle code.
 #[no_mangle]
@@ -90,4 +93,44 @@ pub extern "C" fn grid_mend_cells(
         ⌝ }
 {
     host_cells::grid_mend_cells(list, mended, words, reasons, out)
+}
+
+// The small code of a code, in four bytes.
+#[no_mangle]
+pub extern "C" fn grid_small(code: u64, out: &mut [u8]) -> u64
+    ensures { λ r. ⌜ SmallBytes (codeOf code) (now (out .entry)) r (now (out .exit)) ⌝ }
+{
+    host_harbour::grid_small(code, out)
+}
+
+// The code of a small one, in eight bytes.
+#[no_mangle]
+pub extern "C" fn grid_large(word: u32, out: &mut [u8]) -> u64
+    ensures { λ r. ⌜ LargeBytes (smallCode word) (now (out .entry)) r (now (out .exit)) ⌝ }
+{
+    host_harbour::grid_large(word, out)
+}
+
+// Checking a word as a small code.
+#[no_mangle]
+pub extern "C" fn grid_check_small(word: u32) -> u64
+    ensures { λ r. ⌜ r ≡ checkSmall (smallCode word) ⌝ }
+{
+    host_harbour::grid_check_small(word)
+}
+
+// Crossing an edge on the small form: the small code and the edge's number there, in twelve bytes.
+#[no_mangle]
+pub extern "C" fn grid_cross_small(word: u32, edge: u64, out: &mut [u8]) -> u64
+    ensures { λ r. ⌜ CrossSmallBytes (smallCode word) edge (now (out .entry)) r (now (out .exit)) ⌝ }
+{
+    host_harbour::grid_cross_small(word, edge, out)
+}
+
+// Filing a direction on the small form: the small code, in four bytes.
+#[no_mangle]
+pub extern "C" fn grid_file_small(degree: u64, x: i32, y: i32, z: i32, out: &mut [u8]) -> u64
+    ensures { λ r. ⌜ FileSmallBytes degree (towards x y z) (now (out .entry)) r (now (out .exit)) ⌝ }
+{
+    host_harbour::grid_file_small(degree, x, y, z, out)
 }

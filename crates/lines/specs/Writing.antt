@@ -41,9 +41,9 @@ sign (negsuc n) = 45 ∷ []
 unfoldable pub signedDecimal : ℤ → List ℕ
 signedDecimal z = sign z ++ decimal (natAbs z)
 
--- 0x and sixteen digits
-unfoldable pub hexadecimal : ℕ → List ℕ
-hexadecimal w = (48 ∷ 120 ∷ []) ++ digits 16 16 w
+-- 0x and so many hexadecimal digits: sixteen for a word, eight for a small one
+unfoldable pub hexadecimal : (k w : ℕ) → List ℕ
+hexadecimal k w = (48 ∷ 120 ∷ []) ++ digits 16 k w
 
 -- a, p and q
 unfoldable pub side : ℕ → List ℕ

@@ -394,13 +394,29 @@ pub fn put_signed(x: i64, out: &mut [u8], at: usize) -> usize
     put_decimal(magnitude(x), out, next)
 }
 
+// 0x and the last k hexadecimal digits of n.
+fn put_hexadecimal(k: u64, n: u64, out: &mut [u8], at: usize) -> usize
+    requires { ⌜ at + (2 + k) ≤ length (now out) ⌝ }
+    ensures { λ r. ⌜ Wrote (2 + k) (writing.hexadecimal k n) at r (now (out .entry)) (now (out .exit)) ⌝ }
+{
+    let next = put_bytes(b"0x", out, at);
+    put_digits(16, k, n, out, next)
+}
+
 // A word as 0x and sixteen hexadecimal digits.
 pub fn put_word(w: u64, out: &mut [u8], at: usize) -> usize
     requires { ⌜ at + 18 ≤ length (now out) ⌝ }
-    ensures { λ r. ⌜ Wrote 18 (writing.hexadecimal w) at r (now (out .entry)) (now (out .exit)) ⌝ }
+    ensures { λ r. ⌜ Wrote 18 (writing.hexadecimal 16 w) at r (now (out .entry)) (now (out .exit)) ⌝ }
 {
-    let next = put_bytes(b"0x", out, at);
-    put_digits(16, 16, w, out, next)
+    put_hexadecimal(16, w, out, at)
+}
+
+// A small word as 0x and eight.
+pub fn put_small_word(w: u32, out: &mut [u8], at: usize) -> usize
+    requires { ⌜ at + 10 ≤ length (now out) ⌝ }
+    ensures { λ r. ⌜ Wrote 10 (writing.hexadecimal 8 w) at r (now (out .entry)) (now (out .exit)) ⌝ }
+{
+    put_hexadecimal(8, w as u64, out, at)
 }
 
 // a, p and q of a word.

@@ -15,7 +15,7 @@ ghost use lib.ListN.{length};
 
 // How a call is written, by its row of CALLS.
 pub fn put_usage(call: u64, out: &mut [u8]) -> usize
-    requires { ⌜ 8192 ≤ length (now out) ⌝ }
+    requires { ⌜ 16384 ≤ length (now out) ⌝ }
     ensures { λ r. ⌜ r ≤ 200 ⌝ }
 {
     let at = lines::put_bytes(b"error: write it as ", out, 0);
@@ -23,7 +23,7 @@ pub fn put_usage(call: u64, out: &mut [u8]) -> usize
 }
 
 pub fn refused(f: u64, out: &mut [u8]) -> usize
-    requires { ⌜ 8192 ≤ length (now out) ⌝ }
+    requires { ⌜ 16384 ≤ length (now out) ⌝ }
     ensures { λ r. ⌜ r ≤ 130 ⌝ }
 {
     let number = lines::put_bytes(b"refused ", out, 0);
@@ -37,7 +37,7 @@ pub fn refused(f: u64, out: &mut [u8]) -> usize
 
 // A name: its word, the corner's number and the triangle.
 fn put_name(w: u64, out: &mut [u8]) -> usize
-    requires { ⌜ 8192 ≤ length (now out) ⌝ }
+    requires { ⌜ 16384 ≤ length (now out) ⌝ }
     ensures { λ r. ⌜ r ≤ 200 ⌝ }
 {
     let corner = lines::put_word(w, out, 0);
@@ -50,7 +50,7 @@ fn put_name(w: u64, out: &mut [u8]) -> usize
 // ---- the answers
 
 pub fn check(f: u64, out: &mut [u8]) -> usize
-    requires { ⌜ 8192 ≤ length (now out) ⌝ }
+    requires { ⌜ 16384 ≤ length (now out) ⌝ }
     ensures { λ r. ⌜ r ≤ 200 ⌝ }
 {
     if f != 0 {
@@ -60,7 +60,7 @@ pub fn check(f: u64, out: &mut [u8]) -> usize
 }
 
 pub fn code(r: CodeAnswer, out: &mut [u8]) -> usize
-    requires { ⌜ 8192 ≤ length (now out) ⌝ }
+    requires { ⌜ 16384 ≤ length (now out) ⌝ }
     ensures { λ n. ⌜ n ≤ 200 ⌝ }
 {
     if r.refusal != 0 {
@@ -69,24 +69,32 @@ pub fn code(r: CodeAnswer, out: &mut [u8]) -> usize
     put_code(r.code.0, out, 0)
 }
 
+// What stands after a neighbour's code: the edge's number there, and those of its corners.
+pub fn put_shared(edge: u64, first: u64, second: u64, out: &mut [u8], at: usize) -> usize
+    requires { ⌜ at + 100 ≤ length (now out) ⌝ }
+    ensures { λ r. ⌜ r ≤ at + 100 ⌝ }
+{
+    let number = lines::put_bytes(b" edge ", out, at);
+    let corners = lines::put_decimal(edge, out, number);
+    let lower = lines::put_bytes(b" corners ", out, corners);
+    let space = lines::put_decimal(first, out, lower);
+    let higher = lines::put_byte(b' ', out, space);
+    lines::put_decimal(second, out, higher)
+}
+
 pub fn step(r: StepAnswer, out: &mut [u8]) -> usize
-    requires { ⌜ 8192 ≤ length (now out) ⌝ }
+    requires { ⌜ 16384 ≤ length (now out) ⌝ }
     ensures { λ n. ⌜ n ≤ 200 ⌝ }
 {
     if r.refusal != 0 {
         return refused(r.refusal, out);
     }
     let edge = put_code(r.code.0, out, 0);
-    let number = lines::put_bytes(b" edge ", out, edge);
-    let corners = lines::put_decimal(r.edge, out, number);
-    let first = lines::put_bytes(b" corners ", out, corners);
-    let space = lines::put_decimal(r.first, out, first);
-    let second = lines::put_byte(b' ', out, space);
-    lines::put_decimal(r.second, out, second)
+    put_shared(r.edge, r.first, r.second, out, edge)
 }
 
 pub fn name(r: NameAnswer, out: &mut [u8]) -> usize
-    requires { ⌜ 8192 ≤ length (now out) ⌝ }
+    requires { ⌜ 16384 ≤ length (now out) ⌝ }
     ensures { λ n. ⌜ n ≤ 200 ⌝ }
 {
     if r.refusal != 0 {
@@ -122,7 +130,7 @@ fn put_golden(axis: u8, a: Golden, out: &mut [u8], at: usize) -> usize
 }
 
 pub fn coordinates(r: CoordinatesAnswer, out: &mut [u8]) -> usize
-    requires { ⌜ 8192 ≤ length (now out) ⌝ }
+    requires { ⌜ 16384 ≤ length (now out) ⌝ }
     ensures { λ n. ⌜ n ≤ 200 ⌝ }
 {
     if r.refusal != 0 {
@@ -142,7 +150,7 @@ fn put_ticks(axis: u8, t: i64, out: &mut [u8], at: usize) -> usize
 }
 
 pub fn ticks(r: TicksAnswer, out: &mut [u8]) -> usize
-    requires { ⌜ 8192 ≤ length (now out) ⌝ }
+    requires { ⌜ 16384 ≤ length (now out) ⌝ }
     ensures { λ n. ⌜ n ≤ 200 ⌝ }
 {
     if r.refusal != 0 {
@@ -164,7 +172,7 @@ fn put_drawn(axis: u8, t: i64, n: u64, out: &mut [u8], at: usize) -> usize
 
 // Of a word, whose degree says by what t is divided.
 pub fn drawn(w: u64, r: TicksAnswer, out: &mut [u8]) -> usize
-    requires { ⌜ 8192 ≤ length (now out) ⌝ }
+    requires { ⌜ 16384 ≤ length (now out) ⌝ }
     ensures { λ n. ⌜ n ≤ 300 ⌝ }
 {
     if r.refusal != 0 {
@@ -189,7 +197,7 @@ fn put_bits(axis: u8, x: f64, out: &mut [u8], at: usize) -> usize
 }
 
 pub fn bits(r: PointAnswer, out: &mut [u8]) -> usize
-    requires { ⌜ 8192 ≤ length (now out) ⌝ }
+    requires { ⌜ 16384 ≤ length (now out) ⌝ }
     ensures { λ n. ⌜ n ≤ 200 ⌝ }
 {
     if r.refusal != 0 {

@@ -3,11 +3,12 @@ use crate::arguments;
 ghost use Prim.Native.Nat.{_≤_};
 ghost use lib.ListN.{length};
 
-const HELP: [u8; 7416] = *b"The grid of the globe: one call to a line, and one line for its answer.
+const HELP: [u8; 8101] = *b"The grid of the globe: one call to a line, and one line for its answer.
 
   WORD     0x and 1 to 16 hexadecimal digits
   CODE     a triangle code, as 10003 for side 100 and digits 0 and 3; or a WORD
   NAME     a corner name, as a WORD
+  SMALL    a small word: 0x and 1 to 8 hexadecimal digits
   X Y Z    a direction: three whole numbers
   PLACES   0 to 16: how many places the lent list has. They hold 1, 2, 3 and so on before the call,
            and stand after the answer as the call leaves them
@@ -95,6 +96,21 @@ mend-cells MENDED WORDS REASONS [CODE]..
   mend-cells 1 1 1 600              words 0, changes 1 | 0x0000000000000001 | 0xC000000000000000 | 1
   mend-cells 4 4 4 1003 1001 1000 1002  words 1, changes 1 | 0x2000000000000000 0x0000000000000002 ..
 
+small CODE                          the small word of a code of degree 11 or less, in 32 bits
+  small 1001                        1001 0x20A00000
+
+large SMALL                         the code of a small word
+  large 0x20A00000                  1001 0x2050000000000000
+
+check-small SMALL                   whether the word is a small word of a code
+  check-small 0x20A00000            ok
+
+cross-small SMALL EDGE              cross on small words
+  cross-small 0x20A00000 2          2001 0x40A00000 edge 3 corners 1 2
+
+file-small DEGREE X Y Z             file on small words
+  file-small 2 0 0 1                10003 0x21180000
+
 table DEGREE [LENGTH FILL [PLACE VALUE]..]
                                     opens a table of soundings with no readings, of degree 0 to 6; or any
                                     list of LENGTH numbers, FILL but at each PLACE its VALUE, to try refusals.
@@ -142,8 +158,8 @@ work-out                            works all counts and sums out afresh from th
 help                                these lines";
 
 pub fn answer(line: &[u8], at: usize, out: &mut [u8]) -> usize
-    requires { ⌜ (at ≤ length (now line)) × (8192 ≤ length (now out)) ⌝ }
-    ensures { λ r. ⌜ r ≤ 8000 ⌝ }
+    requires { ⌜ (at ≤ length (now line)) × (16384 ≤ length (now out)) ⌝ }
+    ensures { λ r. ⌜ r ≤ 16000 ⌝ }
 {
     if !arguments::at_end(line, at) {
         return 0;

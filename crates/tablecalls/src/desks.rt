@@ -168,8 +168,8 @@ fn make(
 
 // A refusal; beside 23 its place.
 fn refused(f: u64, place: u64, out: &mut [u8]) -> usize
-    requires { ⌜ 8192 ≤ length (now out) ⌝ }
-    ensures { λ r. ⌜ r ≤ 8000 ⌝ }
+    requires { ⌜ 16384 ≤ length (now out) ⌝ }
+    ensures { λ r. ⌜ r ≤ 16000 ⌝ }
 {
     let end = answers::refused(f, out);
     if f != 23 {
@@ -180,8 +180,8 @@ fn refused(f: u64, place: u64, out: &mut [u8]) -> usize
 }
 
 fn put_sounding(s: Sounding, out: &mut [u8]) -> usize
-    requires { ⌜ 8192 ≤ length (now out) ⌝ }
-    ensures { λ r. ⌜ r ≤ 8000 ⌝ }
+    requires { ⌜ 16384 ≤ length (now out) ⌝ }
+    ensures { λ r. ⌜ r ≤ 16000 ⌝ }
 {
     match s {
         Sounding::Nothing => lines::put_bytes(b"no reading", out, 0),
@@ -190,8 +190,8 @@ fn put_sounding(s: Sounding, out: &mut [u8]) -> usize
 }
 
 fn put_opened(held: Held, out: &mut [u8]) -> usize
-    requires { ⌜ 8192 ≤ length (now out) ⌝ }
-    ensures { λ r. ⌜ r ≤ 8000 ⌝ }
+    requires { ⌜ 16384 ≤ length (now out) ⌝ }
+    ensures { λ r. ⌜ r ≤ 16000 ⌝ }
 {
     let number = lines::put_bytes(b"degree ", out, 0);
     let comma = lines::put_decimal(held.degree, out, number);
@@ -200,8 +200,8 @@ fn put_opened(held: Held, out: &mut [u8]) -> usize
 }
 
 fn put_length(n: usize, out: &mut [u8], at: usize) -> usize
-    requires { ⌜ (at ≤ 100) × (8192 ≤ length (now out)) ⌝ }
-    ensures { λ r. ⌜ r ≤ 8000 ⌝ }
+    requires { ⌜ (at ≤ 100) × (16384 ≤ length (now out)) ⌝ }
+    ensures { λ r. ⌜ r ≤ 16000 ⌝ }
 {
     let unit = lines::put_decimal(n as u64, out, at);
     lines::put_bytes(b" places", out, unit)
@@ -209,8 +209,8 @@ fn put_length(n: usize, out: &mut [u8], at: usize) -> usize
 
 // What came of a call that shows no list.
 fn put_told(d: Done, out: &mut [u8]) -> usize
-    requires { ⌜ 8192 ≤ length (now out) ⌝ }
-    ensures { λ r. ⌜ r ≤ 8000 ⌝ }
+    requires { ⌜ 16384 ≤ length (now out) ⌝ }
+    ensures { λ r. ⌜ r ≤ 16000 ⌝ }
 {
     match d {
         Done::Unread(call) => answers::put_usage(call, out),
@@ -241,8 +241,8 @@ fn tell(
     sums: &[u64],
     out: &mut [u8],
 ) -> Reply
-    requires { ⌜ 8192 ≤ length (now out) ⌝ }
-    ensures { λ r. ⌜ r .size ≤ 8000 ⌝ }
+    requires { ⌜ 16384 ≤ length (now out) ⌝ }
+    ensures { λ r. ⌜ r .size ≤ 16000 ⌝ }
 {
     match d {
         Done::Show(shown) => showing::show(shown, held, list, owners, counts, sums, out),
@@ -262,8 +262,8 @@ pub fn answer(
     sums: &mut [u64],
     out: &mut [u8],
 ) -> Reply
-    requires { ⌜ (at ≤ length (now line)) × (8192 ≤ length (now out)) ⌝ }
-    ensures { λ r. ⌜ r .size ≤ 8000 ⌝ }
+    requires { ⌜ (at ≤ length (now line)) × (16384 ≤ length (now out)) ⌝ }
+    ensures { λ r. ⌜ r .size ≤ 16000 ⌝ }
 {
     let asked = asking::asked_at(call, line, at, held);
     let done = make(asked, held, line, list, owners, counts, sums);

@@ -142,7 +142,7 @@ fn put_unit(word: &[u8], count: usize, out: &mut [u8], at: usize) -> usize
 }
 
 fn put_count(shown: Shown, count: usize, out: &mut [u8]) -> usize
-    requires { ⌜ 8192 ≤ length (now out) ⌝ }
+    requires { ⌜ 16384 ≤ length (now out) ⌝ }
     ensures { λ r. ⌜ r ≤ 100 ⌝ }
 {
     let unit = lines::put_decimal(count as u64, out, 0);
@@ -167,8 +167,8 @@ fn put_places(
     out: &mut [u8],
     start: usize,
 ) -> Part
-    requires { ⌜ (start ≤ 100) × (8192 ≤ length (now out)) ⌝ }
-    ensures { λ r. ⌜ (r .size ≤ 8000) × (r .rest ≤ rest - 1) ⌝ }
+    requires { ⌜ (start ≤ 100) × (16384 ≤ length (now out)) ⌝ }
+    ensures { λ r. ⌜ (r .size ≤ 16000) × (r .rest ≤ rest - 1) ⌝ }
 {
     // Neither can be: such a degree is refused before the first part, and no more is left than there are triangles.
     if 6 < degree {
@@ -211,8 +211,8 @@ pub fn show(
     sums: &[u64],
     out: &mut [u8],
 ) -> Reply
-    requires { ⌜ 8192 ≤ length (now out) ⌝ }
-    ensures { λ r. ⌜ r .size ≤ 8000 ⌝ }
+    requires { ⌜ 16384 ≤ length (now out) ⌝ }
+    ensures { λ r. ⌜ r .size ≤ 16000 ⌝ }
 {
     let f = refuse(shown, held);
     if f != 0 {
@@ -259,8 +259,8 @@ pub fn go_on(
     sums: &[u64],
     out: &mut [u8],
 ) -> Part
-    requires { ⌜ (0 < rest) × (8192 ≤ length (now out)) ⌝ }
-    ensures { λ r. ⌜ (r .size ≤ 8000) × (r .rest < rest) ⌝ }
+    requires { ⌜ (0 < rest) × (16384 ≤ length (now out)) ⌝ }
+    ensures { λ r. ⌜ (r .size ≤ 16000) × (r .rest < rest) ⌝ }
 {
     let shown = held.shown;
     let degree = degree_shown(shown, held.degree);

@@ -39,10 +39,10 @@ fn write_first(bytes: &[u8], n: usize) -> bool
 // Writes the answers so far where there may be no room for one more.
 fn make_room(answers: &[u8], p: Progress) -> Progress
     requires { ⌜ (p .filled ≤ length (now answers)) × (65536 ≤ length (now answers)) ⌝ }
-    ensures { λ r. ⌜ r .filled ≤ 57000 ⌝ }
+    ensures { λ r. ⌜ r .filled ≤ 49000 ⌝ }
 {
     let filled = p.filled;
-    if filled <= 57000 {
+    if filled <= 49000 {
         return p;
     }
     let written = write_first(answers, filled);
@@ -66,8 +66,8 @@ fn line_answer(
     sums: &mut [u64],
     out: &mut [u8],
 ) -> Reply
-    requires { ⌜ 8192 ≤ length (now out) ⌝ }
-    ensures { λ r. ⌜ r .size ≤ 8000 ⌝ }
+    requires { ⌜ 16384 ≤ length (now out) ⌝ }
+    ensures { λ r. ⌜ r .size ≤ 16000 ⌝ }
 {
     if 1000 < n {
         return console::too_long(held, out);
@@ -123,7 +123,7 @@ fn put_answer(
     answers: &mut [u8],
     p: Progress,
 ) -> Progress
-    requires { ⌜ (p .filled ≤ 57000) × (65536 ≤ length (now answers)) ⌝ }
+    requires { ⌜ (p .filled ≤ 49000) × (65536 ≤ length (now answers)) ⌝ }
     ensures { λ r. ⌜ r .filled ≤ 65536 ⌝ }
 {
     let at = p.filled;

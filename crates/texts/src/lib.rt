@@ -4,7 +4,7 @@ ghost use Prim.Native.Nat.{_+_, _≤_};
 ghost use lib.ListN.{length};
 
 // How each call is written. A call is known by the number of its row, from 0.
-const CALLS: [u8; 696] = *b"help
+const CALLS: [u8; 784] = *b"help
 check CODE
 parent CODE
 check-name NAME
@@ -39,7 +39,12 @@ work-out
 counts LENGTH FILL [PLACE N]..
 sums LENGTH FILL [PLACE N]..
 check-cells [CODE]..
-mend-cells MENDED WORDS REASONS [CODE]..";
+mend-cells MENDED WORDS REASONS [CODE]..
+small CODE
+large SMALL
+check-small SMALL
+cross-small SMALL EDGE
+file-small DEGREE X Y Z";
 
 // Document 01, 'Refusal numbers': when each is given, from 1.
 const REASONS: [u8; 559] = *b"a degree, as field or argument, is above 24
@@ -54,8 +59,8 @@ a lent list is too short: 12 for weights, 6 for triangles
 a word passes 1 to 4 as a corner name and is not the canonical one
 no corner of the degree has the twelve weights";
 
-// Document 02: the same, from 20. (No call gives 30 or 31.)
-const REASONS_FROM_20: [u8; 391] = *b"wrong degree
+// Document 02: the same, from 20.
+const REASONS_FROM_20: [u8; 453] = *b"wrong degree
 reading out of range
 the list's length isn't 20*4^degree
 the list holds a number that is neither a reading nor -1
@@ -65,8 +70,8 @@ owned by the other desk
 not owned
 a list of counts or sums has the wrong length
 the stored count or sum of the parent concerned differs from its children's readings
-
-
+a degree, as field or argument, is 12 to 24
+the last bit is set
 a list has more than 4,096 words";
 
 // Document 02, 2026-09: the reasons of an offending place, from 1.
@@ -175,9 +180,9 @@ fn row_named(table: &[u8], rows: u64, word: &[u8]) -> u64 {
 
 // ---- what is told
 
-// The call that a word names; 36 where it names none.
+// The call that a word names; 41 where it names none.
 pub fn call_named(word: &[u8]) -> u64 {
-    row_named(&CALLS, 36, word)
+    row_named(&CALLS, 41, word)
 }
 
 // The form of a call.

@@ -1,11 +1,11 @@
--- `lines::put_word` meets its contract: 0x, and then the digits. Assumes nothing.
+-- `lines::put_hexadecimal` meets its contract: 0x, and then the digits. Assumes nothing.
 use mathlib.Core.Path.{refl}
 use native.Mathlib.Omega.{arith}
 use Rattle.lines.proofs.Placing.{wrote-after}
 use Rattle.lines.specs.Writing.{hexadecimal}
 use borrow.Author.Needs.{needs}
-use Rattle.lines.proofs.put_word.Statement.{statement}
-use Rattle.lines.proofs.put_word.Tie as tie
+use Rattle.lines.proofs.put_hexadecimal.Statement.{statement}
+use Rattle.lines.proofs.put_hexadecimal.Tie as tie
 
 slice-aggregate-put-bytes : tie.Need-slice-aggregate-put-bytes
 slice-aggregate-put-bytes c = search needs
@@ -23,7 +23,7 @@ returns : tie.Need-returns
 unfolding hexadecimal
 returns c = wrote-after refl (omega arith) (omega arith) (c .before .before .before .before .before .before .put-bytes .ensures) (c .before .before .put-digits .ensures)
 
-pub put-word-spec : {M : Type 1} → statement M
-put-word-spec =
+pub put-hexadecimal-spec : {M : Type 1} → statement M
+put-hexadecimal-spec =
     tie.close
     (tie.spec slice-aggregate-put-bytes put-bytes-requires put-digits-requires same-length returns)

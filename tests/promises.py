@@ -218,7 +218,7 @@ def of_table():
 @functools.cache
 def of_sweep():
     """The calls of a sweep: the functions that need nothing asked and promise a whole result."""
-    lib = (CRATES / "sweeps/src/lib.rt").read_text(encoding="utf-8")
+    lib = (CRATES / "sweeper/src/lib.rt").read_text(encoding="utf-8")
     return re.findall(r"^pub fn (\w+)\([^{]*\n    ensures \{ λ r\. ⌜ \w+Result ", lib, re.MULTILINE)
 
 

@@ -198,7 +198,7 @@ pub extern "C" fn bench_sweep(degree: u64, dirs: &[i32], codes: &mut [u64]) -> u
         × (r ≡ bitXor (bitXor (bitXor (a .refusal) (a .refused)) (a .place)) (a .first)))
         ⌝ }
 {
-    let r = sweeps::sweep(degree, dirs, codes);
+    let r = sweeper::sweep(degree, dirs, codes);
     r.refusal ^ r.refused ^ r.place ^ r.first
 }
 

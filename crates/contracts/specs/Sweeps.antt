@@ -9,7 +9,7 @@ use Rattle.frame.specs.Promises.{Says}
 use Rattle.grid.specs.Contracts.{Slice}
 use Rattle.sweeps.specs.Answers.{SweepResult}
 use Rattle.sweeps.specs.declared.SweepAnswer.{SweepAnswer}
-use Rattle.sweeps.proofs.sweep.Reads as sweep
+use Rattle.sweeper.proofs.sweep.Reads as sweep
 
 -- For any arguments, any result, and a list of codes left with any contents.
 pub record Contracts : Type 0 where

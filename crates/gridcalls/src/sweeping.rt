@@ -3,8 +3,8 @@ use replies::answers;
 use replies::arguments;
 use replies::places;
 use replies::places::Entry;
+use sweeper::sweep;
 use sweeps::SweepAnswer;
-use sweeps::sweep;
 ghost use Prim.Native.Nat.{_≤_};
 ghost use lib.ListN.{length};
 

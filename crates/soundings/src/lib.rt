@@ -65,7 +65,7 @@ fn refuse_kept(
     if first.refusal != 0 {
         return first;
     }
-    refuse(coarse::refuse_coarse(degree, t, list, counts, sums))
+    refuse(keeping::refuse_coarse(degree, t, list, counts, sums))
 }
 
 // What the deed leaves at its triangle's place of the readings and of the owners.
@@ -106,7 +106,7 @@ fn carry_out(
     }
     // A desk is 1 or 2 here.
     write(deed, desk as u8, t, list, owners);
-    coarse::keep(degree, t, list, counts, sums);
+    keeping::keep(degree, t, list, counts, sums);
     checked
 }
 
@@ -213,7 +213,7 @@ fn refuse_work_out(degree: u64, list: &[i32], counts: &[u64], sums: &[u64]) -> T
     if of_list.refusal != 0 {
         return of_list;
     }
-    refuse(coarse::refuse_lengths(degree, counts, sums))
+    refuse(keeping::refuse_lengths(degree, counts, sums))
 }
 
 // All counts and sums, of a table opened from elsewhere.
@@ -227,6 +227,6 @@ pub fn work_out(degree: u64, list: &[i32], counts: &mut [u64], sums: &mut [u64])
     if answered.refusal != 0 {
         return answered;
     }
-    coarse::store_all(list, counts, sums);
+    keeping::store_all(list, counts, sums);
     answered
 }

@@ -85,7 +85,7 @@ fn file_part(
     ensures { λ r. ⌜ r .filled ≤ 65000 ⌝ }
 {
     let before = p.tally;
-    let a = sweeps::sweep(degree, &dirs[0..3 * n], codes);
+    let a = sweeper::sweep(degree, &dirs[0..3 * n], codes);
     Progress {
         length: p.length,
         filled: results::put_all(degree, dirs, codes, n, out, p.filled),

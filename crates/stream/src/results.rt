@@ -16,7 +16,7 @@ fn refusal_of(degree: u64, dirs: &[i32], i: usize) -> u64
 {
     let mut code = [0u64; 1];
     let k = 3 * i;
-    let a = sweeps::sweep(degree, &dirs[k..k + 3], &mut code);
+    let a = sweeper::sweep(degree, &dirs[k..k + 3], &mut code);
     a.first
 }
 

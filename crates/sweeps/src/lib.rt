@@ -1,17 +1,15 @@
-// Filing a sweep (document 02, 2026-04): a lent list of directions, three numbers each, into a lent list of codes.
-// Later parts are handed on as parts that start in the middle of both lists.
+// Filing a sweep (document 02, 2026-04): what is answered of a lent list of directions, three numbers each, and a lent
+// list of codes (specs/), with the laws of it (proofs/); in code what two parts come to, what one number tells of a
+// direction, and the first place that has 0. The call is in the crate sweeper.
 ghost use mathlib.Core.Path.{_≡_};
 ghost use mathlib.Core.List.{[], _∷_};
-ghost use Prim.Native.Nat.{_+_, _*_, _%_, _^_, _≤_, _<_};
-ghost use lib.ListN.{length};
+ghost use Prim.Native.Nat.{_+_, _^_, _<_};
 ghost use Rattle.frame.specs.Lists.{firstPlace};
 ghost use Rattle.net.specs.Steps.{nonZeros};
-ghost use Rattle.directions.specs.Answers.{FileAnswer};
 ghost use Rattle.directions.specs.Means.Numbers.{answerFor};
 ghost use Rattle.sweeps.specs.Sweeps.{sweepAnswer};
-ghost use Rattle.sweeps.specs.Answers.{SweepResult};
-ghost use Rattle.sweeps.specs.Promises.{directionAt, joined};
-ghost use Rattle.sweeps.specs.Means.Counted.{CountedInto, isZero, Tells};
+ghost use Rattle.sweeps.specs.Promises.{joined};
+ghost use Rattle.sweeps.specs.Means.Counted.{isZero};
 
 // The refusal of the whole call, or 0; how many directions were refused, and the first one's place, from 0, and
 // refusal.
@@ -60,18 +58,7 @@ pub fn join(h: u64, a: SweepAnswer, b: SweepAnswer) -> SweepAnswer
     none_refused(0)
 }
 
-// ---- the sweep
-
-// Files direction i: the word of its code, or the number of its refusal, in one number.
-fn file_at(degree: u64, dirs: &[i32], i: usize) -> u64
-    requires { ⌜ 3 * i + 2 < length (now dirs) ⌝ }
-    ensures { λ r. ⌜ FileAnswer degree (directionAt (now (dirs .entry)) i) (answerFor r) ⌝ }
-{
-    let x = dirs[3 * i];
-    let y = dirs[3 * i + 1];
-    let z = dirs[3 * i + 2];
-    directions::file_word(degree, x, y, z)
-}
+// ---- one direction in one number: the word of its code, or the number of its refusal
 
 // The code of such a number, 0 where it is a refusal's; and 1 where it is a refusal's, else 0.
 pub fn code_in(w: u64) -> u64
@@ -95,42 +82,10 @@ pub fn refusals_in(w: u64) -> u64
     0
 }
 
-// Files one direction after the other, and answers how many are refused.
-fn file_each(degree: u64, dirs: &[i32], codes: &mut [u64]) -> u64
-    requires { ⌜ (length (now dirs) % 3 ≡ 0) × (length (now dirs) ≤ 3 * length (now codes)) ⌝ }
-    ensures { λ r. ⌜ CountedInto degree (now (dirs .entry)) (now (codes .entry)) r (now (codes .exit)) ⌝ }
-{
-    let n = dirs.len() / 3;
-    let mut refused = 0;
-    let mut i = 0;
-    while i < n {
-        let w = file_at(degree, dirs, i);
-        codes[i] = code_in(w);
-        refused += refusals_in(w);
-        i += 1;
-    }
-    refused
-}
-
-// The same by halves, down to parts of 64 directions or fewer: however many there are, no more than 58 calls are open
-// at a time.
-fn file_halves(degree: u64, dirs: &[i32], codes: &mut [u64]) -> u64
-    requires { ⌜ (length (now dirs) % 3 ≡ 0) × (length (now dirs) ≤ 3 * length (now codes)) ⌝ }
-    ensures { λ r. ⌜ CountedInto degree (now (dirs .entry)) (now (codes .entry)) r (now (codes .exit)) ⌝ }
-{
-    let n = dirs.len() / 3;
-    if n <= 64 {
-        return file_each(degree, dirs, codes);
-    }
-    let h = n / 2;
-    let k = 3 * h;
-    let a = file_halves(degree, &dirs[..k], codes);
-    let b = file_halves(degree, &dirs[k..], &mut codes[h..]);
-    a + b
-}
+// ---- the codes of a sweep
 
 // The first place that has 0; the length where there is none.
-fn first_zero(codes: &[u64]) -> usize
+pub fn first_zero(codes: &[u64]) -> usize
     ensures { λ r. ⌜ r ≡ firstPlace isZero (now (codes .entry)) ⌝ }
 {
     let mut place = 0;
@@ -141,45 +96,4 @@ fn first_zero(codes: &[u64]) -> usize
         place += 1;
     }
     place
-}
-
-// The answer, where so many are refused: the first is the first with the code 0, and is asked once more for its
-// refusal.
-fn tell(degree: u64, dirs: &[i32], codes: &[u64], refused: u64) -> SweepAnswer
-    requires { ⌜ ((refused ≡ 0 → ⊥) → 3 * firstPlace isZero (now codes) + 2 < length (now dirs)) ⌝ }
-    ensures { λ r. ⌜ Tells degree (now (dirs .entry)) (firstPlace isZero (now (codes .entry))) refused r ⌝ }
-{
-    if refused == 0 {
-        return none_refused(0);
-    }
-    let place = first_zero(codes);
-    SweepAnswer {
-        refusal: 0,
-        refused,
-        place: place as u64,
-        first: file_at(degree, dirs, place),
-    }
-}
-
-// Filing many directions, each as the single call files it. A refused one writes 0 in its own place, and the sweep goes
-// on. (A short sweep takes the short way, which costs no more than its single calls.)
-pub fn sweep(degree: u64, dirs: &[i32], codes: &mut [u64]) -> SweepAnswer
-    ensures { λ r. ⌜ SweepResult degree (now (dirs .entry)) (now (codes .entry)) r (now (codes .exit)) ⌝ }
-{
-    if 24 < degree {
-        return none_refused(1);
-    }
-    if dirs.len() % 3 != 0 {
-        return none_refused(9);
-    }
-    let n = dirs.len() / 3;
-    if codes.len() < n {
-        return none_refused(9);
-    }
-    if n <= 64 {
-        let refused = file_each(degree, dirs, codes);
-        return tell(degree, dirs, codes, refused);
-    }
-    let refused = file_halves(degree, dirs, codes);
-    tell(degree, dirs, codes, refused)
 }

@@ -67,5 +67,5 @@ pub fn parents_of(degree: u64) -> usize {
     if 6 < degree {
         return 0;
     }
-    coarse::parents_of(degree) as usize
+    keeping::parents_of(degree) as usize
 }

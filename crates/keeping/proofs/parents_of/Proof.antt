@@ -1,9 +1,9 @@
 -- One degree up (Children). Assumes nothing.
 use mathlib.Core.Path.{_∙_}
 use Rattle.coarse.proofs.Children.{parents-above}
 use borrow.Author.Needs.{needs}
-use Rattle.coarse.proofs.parents_of.Statement.{statement}
-use Rattle.coarse.proofs.parents_of.Tie as tie
+use Rattle.keeping.proofs.parents_of.Statement.{statement}
+use Rattle.keeping.proofs.parents_of.Tie as tie
 
 returns : tie.Need-returns
 returns c = search needs

@@ -3,11 +3,11 @@
 use mathlib.Core.Path.{sym}
 use native.Mathlib.Omega.{arith}
 use Rattle.frame.proofs.Answering.{refusing, answering}
 use Rattle.sweeps.proofs.Refused.{refuse-degree, refuse-threes, refuse-short, refuse-none}
 use Rattle.sweeps.proofs.CountedParts.{zero-in, tells-into}
 use borrow.Author.Needs.{needs}
-use Rattle.sweeps.proofs.sweep.Statement.{statement}
-use Rattle.sweeps.proofs.sweep.Tie as tie
+use Rattle.sweeper.proofs.sweep.Statement.{statement}
+use Rattle.sweeper.proofs.sweep.Tie as tie
 
 none-refused-requires : tie.Need-none-refused-requires
 none-refused-requires c κs = search needs

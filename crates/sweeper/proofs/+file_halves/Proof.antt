@@ -10,13 +10,13 @@ use borrow.Author.Needs.{needs}
 use borrow.Rule.Slice.PartMut.{same-len-mid}
 use borrow.Fn.Kinds.{In}
 use borrow.Fn.PlainCycle.{Measures, is, falls, and}
 use Rattle.sweeps.proofs.CountedParts.{counted-most, two-slices}
-use Rattle.sweeps.proofs.file_halves.Reads as file-halves
-use Rattle.sweeps.proofs.file_halves.Kinds as file-halves-kinds
-use Rattle.sweeps.proofs.+file_halves.Lts-file_halves as file-halves-lts
-use Rattle.sweeps.proofs.file_each.Reads as file-each-reads
-use Rattle.sweeps.proofs.+file_halves.{statement}
-use Rattle.sweeps.proofs.+file_halves.Tie.{close}
+use Rattle.sweeper.proofs.file_halves.Reads as file-halves
+use Rattle.sweeper.proofs.file_halves.Kinds as file-halves-kinds
+use Rattle.sweeper.proofs.+file_halves.Lts-file_halves as file-halves-lts
+use Rattle.sweeper.proofs.file_each.Reads as file-each-reads
+use Rattle.sweeper.proofs.+file_halves.{statement}
+use Rattle.sweeper.proofs.+file_halves.Tie.{close}
 
 abbrev μ-file-halves : Measures 2 file-halves-kinds.ps ℕ
 μ-file-halves κs a = length (a .1 .0 .now)

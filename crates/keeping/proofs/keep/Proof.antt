@@ -3,11 +3,11 @@ use mathlib.Core.Path.{_∙_, ap}
 use native.Mathlib.Omega.{arith}
 use lib.ListN.{length}
 use Rattle.net.specs.Division.{sum}
 use Rattle.coarse.specs.Sums.{countIn, sumIn, coarse}
 use Rattle.coarse.proofs.Children.{Above, above, kept-set, kept-none}
 use borrow.Author.Needs.{needs}
-use Rattle.coarse.proofs.keep.Statement.{statement}
-use Rattle.coarse.proofs.keep.Tie as tie
+use Rattle.keeping.proofs.keep.Statement.{statement}
+use Rattle.keeping.proofs.keep.Tie as tie
 
 returns : tie.Need-returns
 returns c =

@@ -11,8 +11,8 @@ use Rattle.directions.specs.Answers.{FileAnswer}
 use Rattle.directions.specs.Means.Numbers.{answerFor}
 use Rattle.grid.specs.Writing.{towards}
 use borrow.Author.Needs.{needs}
-use Rattle.sweeps.proofs.file_at.Statement.{statement}
-use Rattle.sweeps.proofs.file_at.Tie as tie
+use Rattle.sweeper.proofs.file_at.Statement.{statement}
+use Rattle.sweeper.proofs.file_at.Tie as tie
 
 mul-x : tie.Need-mul-x
 mul-x c = search needs

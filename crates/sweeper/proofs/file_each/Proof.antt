@@ -8,11 +8,11 @@ use lib.ListN.{length, take, set}
 use lib.Seq.{take-all, length-take-le}
 use Rattle.net.specs.Steps.{nonZeros}
 use Rattle.directions.specs.Means.Numbers.{answerFor}
 use Rattle.sweeps.specs.Means.Counted.{CountedInto}
 use Rattle.sweeps.proofs.CountedParts.{counted-most, into-none, into-long, into-next}
 use Rattle.sweeps.proofs.Told.{non-most}
-use Rattle.sweeps.proofs.file_each.Statement.{statement}
-use Rattle.sweeps.proofs.file_each.Tie as tie
+use Rattle.sweeper.proofs.file_each.Statement.{statement}
+use Rattle.sweeper.proofs.file_each.Tie as tie
 
 abbrev Inv-loop : tie.InvT-loop
 Inv-loop degree dirs codes₀ n refused₀ i₀ codes refused i =

@@ -1,10 +1,10 @@
 -- Length by length (Refused). Assumes nothing.
 use mathlib.Core.Path.{_∙_, sym}
 use Rattle.coarse.specs.Sums.{coarse}
 use Rattle.coarse.proofs.Refused.{wrong-counts, wrong-sums, right-lengths}
 use borrow.Author.Needs.{needs}
-use Rattle.coarse.proofs.refuse_lengths.Statement.{statement}
-use Rattle.coarse.proofs.refuse_lengths.Tie as tie
+use Rattle.keeping.proofs.refuse_lengths.Statement.{statement}
+use Rattle.keeping.proofs.refuse_lengths.Tie as tie
 
 parents-of-requires : tie.Need-parents-of-requires
 parents-of-requires c κs = search needs

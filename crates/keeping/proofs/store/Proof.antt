@@ -3,8 +3,8 @@ use mathlib.Core.Path.{ap}
 use Prim.Native.Nat.{ℕ}
 use lib.ListN.{set}
 use borrow.Author.Needs.{needs}
-use Rattle.coarse.proofs.store.Statement.{statement}
-use Rattle.coarse.proofs.store.Tie as tie
+use Rattle.keeping.proofs.store.Statement.{statement}
+use Rattle.keeping.proofs.store.Tie as tie
 
 mul-tally-from : tie.Need-mul-tally-from
 mul-tally-from c = search needs

@@ -5,10 +5,10 @@ use lib.ListN.{length}
 use borrow.Author.Needs.{needs}
 use Rattle.directions.specs.Answers.{FileAnswer}
 use Rattle.directions.specs.Means.Numbers.{answerFor}
 use Rattle.sweeps.specs.Sweeps.{sweepAnswer}
 use Rattle.sweeps.specs.Promises.{directionAt}
-use Rattle.sweeps.proofs.tell.Statement.{statement}
-use Rattle.sweeps.proofs.tell.Tie as tie
+use Rattle.sweeper.proofs.tell.Statement.{statement}
+use Rattle.sweeper.proofs.tell.Tie as tie
 
 none-refused-requires : tie.Need-none-refused-requires
 none-refused-requires c κs = search needs

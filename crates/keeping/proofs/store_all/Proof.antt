@@ -10,9 +10,9 @@ use Rattle.frame.specs.Answers.{over}
 use Rattle.frame.specs.Lists.{below}
 use Rattle.frame.proofs.Below.{below-next, below-all}
 use Rattle.net.specs.Division.{sum}
 use Rattle.coarse.specs.Means.Fours.{presentFrom}
-use Rattle.coarse.proofs.store_all.Statement.{statement}
-use Rattle.coarse.proofs.store_all.Tie as tie
+use Rattle.keeping.proofs.store_all.Statement.{statement}
+use Rattle.keeping.proofs.store_all.Tie as tie
 
 abbrev counted : List ℤ → ℕ → ℕ
 counted list i = length (presentFrom (4 * i) list)

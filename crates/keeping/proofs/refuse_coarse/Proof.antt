@@ -6,13 +6,13 @@ use lib.ListN.{length, getD}
 use Rattle.frame.specs.Refusals.{firstOf}
 use Rattle.words.specs.Family.{parentOf}
 use Rattle.net.specs.Division.{sum}
 use Rattle.coarse.specs.Sums.{countIn, sumIn, parents, coarse}
 use Rattle.coarse.specs.Refusals.{sumOrder, lengthRows}
 use Rattle.coarse.proofs.Children.{Above, above}
 use Rattle.coarse.proofs.Refused.{right-long, lengths-first, other-count, other-sum, none-kept}
 use borrow.Author.Needs.{needs}
-use Rattle.coarse.proofs.refuse_coarse.Statement.{statement}
-use Rattle.coarse.proofs.refuse_coarse.Tie as tie
+use Rattle.keeping.proofs.refuse_coarse.Statement.{statement}
+use Rattle.keeping.proofs.refuse_coarse.Tie as tie
 
 refuse-lengths-requires : tie.Need-refuse-lengths-requires
 refuse-lengths-requires c κs = search needs

@@ -1,6 +1,6 @@
 #!/usr/bin/env python3
-"""Every example of README.md, of CONSOLE.md, DESKS.md and COARSE.md in docs/, and of the console's help is compared by
-the gate.
+"""Every example of README.md, of CONSOLE.md, DESKS.md, COARSE.md and HARBOUR.md in docs/, and of the console's help is
+compared by the gate.
 
 `rt ci` runs the console on the calls of crates/plot_main/stdin and holds what it writes to crates/plot_main/stdout. The
 first call is help; every line after it has one line as its answer. Here each example must stand there with just that
@@ -132,6 +132,16 @@ def check_row(place):
     return check_lines(place, re.findall(r"^    \S.*", (ROOT / place).read_text(), re.M))
 
 
+# ---- docs/HARBOUR.md: among pictures, calls that have arguments, each with its answer
+
+def check_calls(place):
+    lines = re.findall(r"^    (\S+(?: \S+)+) {2,}(\S.*)$", (ROOT / place).read_text(), re.M)
+    examples = [(call, answer) for call, answer in lines if call.split()[0] in NAMES]
+    for call, answer in examples:
+        compare(place, call, answer)
+    return len(examples)
+
+
 # ---- README.md: `$ ./plot CALL`, a remark after #, and the answer in the next line that is no remark; or
 # ---- `$ ./plot <<END`, calls, END, and as many answers
 
@@ -166,6 +176,7 @@ counts = {
     "docs/CONSOLE.md": check_console(),
     "docs/DESKS.md": check_row("docs/DESKS.md"),
     "docs/COARSE.md": check_row("docs/COARSE.md"),
+    "docs/HARBOUR.md": check_calls("docs/HARBOUR.md"),
     "README.md": check_readme(),
 }
 check_table()

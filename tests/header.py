@@ -4,8 +4,9 @@
 Every line of the header is read by one of a few forms, and what fits none is an error. So is an exported function of
 crates/host/src/ that cannot be read. Held together are: the calls' names, their parameters with names, types and order,
 and the type of what is returned; the refusal numbers, each under the sentence that crate texts has for it: document
-01's, and of document 02's those that a call names; the order of refusals (frame/specs/Refusals.antt, and what
-host_cells/specs/Refusals.antt puts before it), in which each call names its own.
+01's, and of document 02's those that a call names; the order of refusals (frame/specs/Refusals.antt, with what
+harbour/specs/Refusals.antt puts into it and host_cells/specs/Refusals.antt before it), in which each call names its
+own.
 
     python3 tests/header.py                         a line for each thing that is wrong; status 1 if there is one
     python3 tests/header.py --seen CALLS ANSWERS    the refusals that each call names, and the bytes that it needs, are
@@ -24,6 +25,7 @@ HEADER = ROOT / "include" / "dogrzewin.h"
 EXPORTS = ROOT / "crates" / "host" / "src"
 REASONS = ROOT / "crates" / "texts" / "src" / "lib.rt"
 ORDER = ROOT / "crates" / "frame" / "specs" / "Refusals.antt"
+INTO = ROOT / "crates" / "harbour" / "specs" / "Refusals.antt"
 FIRST = ROOT / "crates" / "host_cells" / "specs" / "Refusals.antt"
 
 # What a number of Rattle is in C, and what a slice is: a pointer, and then a length.
@@ -88,11 +90,11 @@ FORMS = {
     "closing": r"#ifdef __cplusplus\n\}\n#endif\n",
     "end": r"#endif\n",
     "enum": r"enum (?P<enum>\w+) \{(?P<rows>[^{}]*)\};",
-    "number": r"static inline uint64_t grid_number\(const uint8_t \*bytes\) \{\n.*?\n\}",
+    "number": r"static inline uint(?:64_t grid|32_t grid_small)_number\(const uint8_t \*bytes\) \{\n.*?\n\}",
     "call": r"(?P<result>\w+) (?P<name>\w+)\((?P<parameters>[^(){};]*)\);",
 }
 # The forms follow each other in this order; comments stand anywhere before the last.
-ORDERLY = r"guard include include version opening enum enum number( call)+ closing end"
+ORDERLY = r"guard include include version opening enum enum number number( call)+ closing end"
 
 
 def scan(text):
@@ -172,7 +174,11 @@ def reasons(given):
 
 def order():
     first = re.search(r"firstOf \(((?:\d+ ∷ )+)order\)", FIRST.read_text())[1]
-    return numbers(first) + numbers(re.search(r"^order = (.*)$", ORDER.read_text(), re.M)[1])
+    base = numbers(re.search(r"^order = (.*)$", ORDER.read_text(), re.M)[1])
+    whole = numbers(re.search(r"^harbourOrder = (.*)$", INTO.read_text(), re.M)[1])
+    if [number for number in whole if number in base] != base:
+        raise Unreadable(f"the order of the small form, {whole}, is not document 01's with numbers put into it")
+    return numbers(first) + whole
 
 
 def in_c(call):
@@ -243,7 +249,7 @@ def out_length(words):
     if words[0] in ("check-cells", "mend-cells"):
         given, (*lists, out) = given_length(words[1]), lent_lengths(words[2:])
         return out if given % 8 == 0 and all(given <= length for length in lists) else None
-    lent = {"cross": 3, "file": 5, "list": 5}.get(words[0])
+    lent = {"cross": 3, "file": 5, "list": 5, "small": 2, "large": 2, "cross-small": 3, "file-small": 5}.get(words[0])
     return lent_lengths(words[lent:])[0] if lent else None
 
 
@@ -306,12 +312,17 @@ PLANTED = [
     ("a constant of the same number", "GRID_ANSWERED = 0,", "GRID_ANSWERED = 0,\n    /* answered */\n    GRID_OK = 0,"),
     ("a wrong sentence", "/* a is 0, 6 or 7 */", "/* a is 0 or 7 */"),
     ("a sentence missing", "/* a is 0, 6 or 7 */\n", ""),
-    ("another order", "1, 2, 3, 4, 10, 5, 6, 8, 7, 9, 11 is given", "1, 2, 3, 4, 5, 6, 7, 8, 9, 10, 11 is given"),
+    ("another order", "31, 10, 5, 6, 8, 7, 9, 11 is given", "31, 5, 6, 7, 8, 9, 10, 11 is given"),
+    ("30 after 2", "1, 30, 2, 3, 4, 31, 10", "1, 2, 30, 3, 4, 31, 10"),
+    ("31 before 4", "1, 30, 2, 3, 4, 31, 10", "1, 30, 2, 3, 31, 4, 10"),
+    ("31 before 3 at a call", "Refusals: 30, 2, 3, 31, 5, 9.", "Refusals: 30, 2, 31, 3, 5, 9."),
+    ("a word of 64 bits", "grid_check_small(uint32_t word", "grid_check_small(uint64_t word"),
+    ("one way to read numbers alone", "static inline uint32_t grid_small_number(", "static inline int grid_small_number("),
     ("refusals in another order", "Refusals: 1, 2, 3, 4, 10.", "Refusals: 1, 2, 3, 10, 4."),
     ("refusals in another form", "Refusals: 1, 2, 3, 4, 10.", "Refusals: 1 to 4 and 10."),
     ("no refusals", " * Refusals: 1, 2, 3, 4, 10. */", " */"),
-    ("32 not first", "32, 1, 2, 3, 4, 10, 5, 6, 8, 7, 9, 11 is", "1, 2, 3, 4, 10, 5, 6, 8, 7, 9, 11, 32 is"),
-    ("an order without 32", "32, 1, 2, 3, 4, 10, 5, 6, 8, 7, 9, 11 is", "1, 2, 3, 4, 10, 5, 6, 8, 7, 9, 11 is"),
+    ("32 not first", "32, 1, 30, 2, 3, 4, 31, 10, 5, 6, 8, 7, 9, 11 is", "1, 30, 2, 3, 4, 31, 10, 5, 6, 8, 7, 9, 11, 32 is"),
+    ("an order without 32", "32, 1, 30, 2, 3, 4, 31, 10, 5,", "1, 30, 2, 3, 4, 31, 10, 5,"),
     ("9 before 32", "Refusals: 32, 9.", "Refusals: 9, 32."),
     ("a wrong sentence of document 02", "more than 4,096 words */", "more than 4,095 words */"),
     ("a wrong number of document 02", "GRID_TOO_LONG = 32", "GRID_TOO_LONG = 31"),
@@ -330,6 +341,9 @@ PLANTED_FOR_ANSWERS = [
     ("too few bytes of a verdict", "GRID_CHECK_CELLS_BYTES = 16", "GRID_CHECK_CELLS_BYTES = 8"),
     ("too many bytes of two counts", "GRID_MEND_CELLS_BYTES = 16", "GRID_MEND_CELLS_BYTES = 24"),
     ("mending without 32", "Refusals: 32, 9.", "Refusals: 9."),
+    ("too many bytes of a small word", "GRID_SMALL_BYTES = 4", "GRID_SMALL_BYTES = 8"),
+    ("too many bytes of a crossing", "GRID_CROSS_SMALL_BYTES = 12", "GRID_CROSS_SMALL_BYTES = 16"),
+    ("reading with 1", "Refusals: 30, 2, 3, 31, 9.", "Refusals: 1, 30, 2, 3, 31, 9."),
     ("checking with 32", "Refusals: 9.", "Refusals: 32, 9."),
 ]
 PLANTED_IN_RATTLE = [
@@ -359,6 +373,12 @@ PAIRS = [
     ("mend-cells 00 1 0 1 0 1 0 30 0", "9 00"),
     ("mend-cells 0000000000000000 8 0 8 0 7 0 30 0", "9 00"),
     (f"mend-cells {'00' * 32776} null null null null", "32"),
+    *((f"small 0x{n} 4 0", f"{n} 00") for n in (0, 1, 30, 2, 3, 4)),
+    *((f"large 0x{n} 8 0", f"{n} 00") for n in (0, 30, 2, 3, 31)),
+    *((f"check-small 0x{n}", str(n)) for n in (0, 30, 2, 3, 31)),
+    *((f"cross-small 0x{n} 1 12 0", f"{n} 00") for n in (0, 30, 2, 3, 31, 5)),
+    *((f"file-small {n} 0 0 1 4 0", f"{n} 00") for n in (0, 1, 30, 8, 7)),
+    *((f"{call} 0", "9 00") for call in ("small 0x1 3", "large 0x1 7", "cross-small 0x1 1 11", "file-small 1 0 0 1 3")),
 ]
 
 

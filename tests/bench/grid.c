@@ -130,6 +130,33 @@ static int give_direction_and_bytes(struct input *in, const char *kind, uint64_t
     return give_direction(in, kind, degree);
 }
 
+static int give_code_and_bytes(struct input *in, const char *kind, uint64_t degree) {
+    give_bytes(in, 1);
+    return give_code(in, kind, degree);
+}
+
+/* The small word of a code of degree 11 or less: the digits begin 31 bits lower. */
+static uint64_t small_word_of(uint64_t code) {
+    return code >> 59 << 27 | (code >> 54 & 31) << 23 | (code & (((uint64_t)1 << 54) - 1)) >> 31;
+}
+
+static int give_small(struct input *in, const char *kind, uint64_t degree) {
+    int known = give_code(in, kind, degree);
+    in->argument[0] = small_word_of(in->argument[0]);
+    return known;
+}
+
+static int give_small_and_bytes(struct input *in, const char *kind, uint64_t degree) {
+    give_bytes(in, 1);
+    return give_small(in, kind, degree);
+}
+
+static int give_small_number_and_bytes(struct input *in, const char *kind, uint64_t degree) {
+    int known = give_code_number_and_bytes(in, kind, degree);
+    in->argument[0] = small_word_of(in->argument[0]);
+    return known;
+}
+
 /* ---- a table of soundings: a list of numbers, each a reading or -1, one of owners, and two of the coarse sums */
 
 #define PLACES_OF_DEGREE_6 81920
@@ -491,5 +518,10 @@ const struct call calls[] = {
     {"host-list", (any_function *)grid_list, WEIGHTS, give_direction_and_bytes},
     {"host-check-cells", (any_function *)grid_check_cells, WORD, give_cells_in_bytes},
     {"host-mend-cells", (any_function *)grid_mend_cells, WORD, give_mend_in_bytes},
+    {"host-check-small", (any_function *)grid_check_small, WORD, give_small},
+    {"host-small", (any_function *)grid_small, WEIGHTS, give_code_and_bytes},
+    {"host-large", (any_function *)grid_large, WEIGHTS, give_small_and_bytes},
+    {"host-cross-small", (any_function *)grid_cross_small, WEIGHTS, give_small_number_and_bytes},
+    {"host-file-small", (any_function *)grid_file_small, WEIGHTS, give_direction_and_bytes},
 };
 const size_t calls_count = sizeof calls / sizeof calls[0];

@@ -115,6 +115,13 @@ static uint64_t read_word(const char *text) {
     return read_digits(text + 2, 16, UINT64_MAX);
 }
 
+static uint64_t read_small_word(const char *text) {
+    if (strncmp(text, "0x", 2) != 0 || strlen(text) > 10) {
+        stop(UNREAD, "a small word is 0x and 1 to 8 hexadecimal digits");
+    }
+    return read_digits(text + 2, 16, UINT32_MAX);
+}
+
 static int32_t read_coordinate(const char *text) {
     if (*text == '-') {
         return (int32_t)-(int64_t)read_digits(text + 1, 10, (uint64_t)INT32_MAX + 1);
@@ -176,8 +183,8 @@ static void read_bytes(const char *text, struct slice *into) {
     }
 }
 
-/* ---- the calls: their names, a letter for each argument (w a word, n a number, c a coordinate, r a slice that is only
- * read, o a lent one) */
+/* ---- the calls: their names, a letter for each argument (w a word, s a small word, n a number, c a coordinate, r a
+ * slice that is only read, o a lent one) */
 
 /* Where the slices of a call stand. */
 typedef uint64_t call_function(const struct arguments *a, uint8_t *const at[MOST_SLICES]);
@@ -221,6 +228,28 @@ static uint64_t mend_cells(const struct arguments *a, uint8_t *const at[MOST_SLI
                            s[4].length);
 }
 
+static uint64_t small(const struct arguments *a, uint8_t *const at[MOST_SLICES]) {
+    return grid_small(a->number[0], at[0], a->slice[0].length);
+}
+
+static uint64_t large(const struct arguments *a, uint8_t *const at[MOST_SLICES]) {
+    return grid_large((uint32_t)a->number[0], at[0], a->slice[0].length);
+}
+
+static uint64_t check_small(const struct arguments *a, uint8_t *const at[MOST_SLICES]) {
+    (void)at;
+    return grid_check_small((uint32_t)a->number[0]);
+}
+
+static uint64_t cross_small(const struct arguments *a, uint8_t *const at[MOST_SLICES]) {
+    return grid_cross_small((uint32_t)a->number[0], a->number[1], at[0], a->slice[0].length);
+}
+
+static uint64_t file_small(const struct arguments *a, uint8_t *const at[MOST_SLICES]) {
+    const int32_t *c = a->coordinate;
+    return grid_file_small(a->number[0], c[0], c[1], c[2], at[0], a->slice[0].length);
+}
+
 struct form {
     const char *name, *kinds;
     call_function *call;
@@ -235,6 +264,11 @@ static const struct form forms[] = {
     {"sweep", "nroo", sweep},
     {"check-cells", "ro", check_cells},
     {"mend-cells", "roooo", mend_cells},
+    {"small", "wo", small},
+    {"large", "so", large},
+    {"check-small", "s", check_small},
+    {"cross-small", "sno", cross_small},
+    {"file-small", "nccco", file_small},
 };
 
 static const struct form *read_form(const char *name) {
@@ -259,6 +293,9 @@ static const struct form *read_line(char *line, struct arguments *into) {
         switch (*kind) {
         case 'w':
             into->number[numbers++] = read_word(fields[at++]);
+            break;
+        case 's':
+            into->number[numbers++] = read_small_word(fields[at++]);
             break;
         case 'n':
             into->number[numbers++] = read_digits(fields[at++], 10, UINT64_MAX);

@@ -119,6 +119,11 @@ pub gives-one : {A : Type 0} {P : A → Type 0} {r : A} → ((s s′ : A) → P 
     → P gives r
 gives-one {r = r} one is = record { meets = is; only = λ s a. one s r a is }
 
+-- where a promise is kept
+pub keeps-gives : {A : Type 0} {f : ℕ} {P : A → Type 0} {number : A → ℕ} {zeros : ℕ → A} {r : A}
+    → Keeps f P number zeros → P r → P gives r
+keeps-gives k = let one = k .one .1 .only in gives-one (λ s s′ p q. one s p ∙ sym (one s′ q))
+
 -- where what is answered is one value
 pub known-gives : {A : Type 0} {f : ℕ} {v : A} {zeros : ℕ → A} {r : A} → settled f v zeros ≡ r
     → Known f v zeros gives r

@@ -1,12 +1,12 @@
 -- The examples of specs/Examples.antt, by computing; crossing and filing by document 01's own. Assumes nothing.
-use mathlib.Core.Path.{_≡_, _∙_, refl, sym}
+use mathlib.Core.Path.{refl}
 use Prim.Native.Nat.{ℕ, suc}
 use native.Mathlib.Omega.{arith}
 use lib.Dec.{eqb·suc-zero}
 use lib.IntN.{pos}
 use Rattle.frame.specs.Refusals.{firstOf}
-use Rattle.frame.specs.Promises.{Keeps, _gives_}
-use Rattle.frame.proofs.Answering.{answering, refusing, gives-one, known-gives, no-other}
+use Rattle.frame.specs.Promises.{_gives_}
+use Rattle.frame.proofs.Answering.{answering, refusing, keeps-gives, known-gives, no-other}
 use Rattle.words.specs.Forms.{firstDigits, path, wordIn, carried}
 use Rattle.words.specs.Family.{codeAnswer}
 use Rattle.words.specs.Writing.{decimals, written}
@@ -22,15 +22,10 @@ use Rattle.harbour.specs.Answers.{SmallCrossAnswer, SmallFileAnswer}
 use Rattle.harbour.specs.Examples.{Examples, Bounds, Mistakes}
 use Rattle.harbour.proofs.Promises.{one-answer}
 
--- what meets a promise that is kept is what it gives
-kept : {A : Type 0} {f : ℕ} {P : A → Type 0} {number : A → ℕ} {zeros : ℕ → A} {r : A} → Keeps f P number zeros → P r
-    → P gives r
-kept k = let one = k .one .1 .only in gives-one (λ s s′ p q. one s p ∙ sym (one s′ q))
-
 crosses : SmallCrossAnswer (smallCode 0x20A00000) 2 gives smallStep 0 (smallCode 0x40A00000) 3 1 2
 unfolding firstOf decimals written firstDigits path wordIn carried refuseSmallCross refuseNumbered
 crosses =
-    kept (one-answer .cross (smallCode 0x20A00000) 2) (answering refl (record {
+    keeps-gives (one-answer .cross (smallCode 0x20A00000) 2) (answering refl (record {
       answer = stepAnswer 0 (written 2001) 3 1 2;
       large = grid.examples .e8 .meets .answered refl;
       is = refl;
@@ -39,7 +34,7 @@ crosses =
 files : SmallFileAnswer 2 up gives smallAnswer 0 (smallCode 0x21180000)
 unfolding firstOf decimals written firstDigits path wordIn carried refuseSmallFile refuseFile
 files =
-    kept (one-answer .file 2 up) (answering refl (record {
+    keeps-gives (one-answer .file 2 up) (answering refl (record {
       answer = codeAnswer 0 (written 10003);
       large = grid.examples .e3 .meets .answered refl;
       is = refl;
@@ -58,9 +53,9 @@ examples = record {
   bit-set = known-gives refl;
   e8 = crosses;
   e3 = files;
-  no-edge = kept (one-answer .cross (smallCode 0x20A00000) 4) (refusing {k = 5} refl (λ e. omega (arith, e)));
+  no-edge = keeps-gives (one-answer .cross (smallCode 0x20A00000) 4) (refusing {k = 5} refl (λ e. omega (arith, e)));
   nowhere =
-      kept (one-answer .file 2 (towards (pos 0) (pos 0) (pos 0))) (refusing {k = 7} refl (λ e. omega (arith, e)));
+      keeps-gives (one-answer .file 2 (towards (pos 0) (pos 0) (pos 0))) (refusing {k = 7} refl (λ e. omega (arith, e)));
 }
 
 pub bounds : Bounds

@@ -1,8 +1,8 @@
 // What the calls on a table of soundings refuse (document 02, 2026-03 and 2026-07): 1 to 4 and 20 to 27.
+use meanings::is_bad;
+use meanings::is_other;
 use tables::Deed;
 use tables::TableAnswer;
-use tables::is_bad;
-use tables::is_other;
 use words::TriangleCode;
 ghost use mathlib.Core.Path.{_≡_};
 ghost use mathlib.Core.Bool.{cond};
@@ -175,7 +175,7 @@ fn refuse_shared(deed: Deed, desk: u64, degree: u64, t: TriangleCode, owners: &[
     requires { ⌜ (degree ≤ 6) × IsCode degree t ⌝ }
     ensures { λ r. ⌜ r ≡ firstOf deskOrder (sharedRows deed desk degree t (now (owners .entry))) ⌝ }
 {
-    if !tables::is_desk(desk) {
+    if !meanings::is_desk(desk) {
         return 24;
     }
     if owners.len() as u64 != words::codes_of(degree) {
@@ -202,7 +202,7 @@ pub fn refuse_deed(
         (refuseDeed deed desk degree t (shared (now (list .entry)) (now (owners .entry))))
         ⌝ }
 {
-    let first = refuse_call(tables::is_out_of_range(deed), degree, t, list);
+    let first = refuse_call(meanings::is_out_of_range(deed), degree, t, list);
     if first.refusal != 0 {
         return first;
     }

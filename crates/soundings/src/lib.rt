@@ -39,7 +39,7 @@ pub fn get(degree: u64, t: TriangleCode, list: &[i32]) -> SoundingAnswer
     SoundingAnswer {
         refusal: 0,
         place: 0,
-        sounding: tables::said_of(list[i]),
+        sounding: meanings::said_of(list[i]),
     }
 }
 
@@ -79,8 +79,8 @@ fn write(deed: Deed, desk: u8, t: TriangleCode, list: &mut [i32], owners: &mut [
         ⌝ }
 {
     let i = words::place_of(t) as usize;
-    list[i] = tables::number_after(deed, list[i]);
-    owners[i] = tables::owner_after(deed, desk, owners[i]);
+    list[i] = meanings::number_after(deed, list[i]);
+    owners[i] = meanings::owner_after(deed, desk, owners[i]);
 }
 
 // Checks all, and then writes one place of each list.

@@ -25,7 +25,7 @@ fn of_reading(x: i32) -> Item {
     if x == -1 {
         return Item::Nothing;
     }
-    if tables::is_reading(x) {
+    if meanings::is_reading(x) {
         return Item::Reading(x);
     }
     Item::Bad(wide(x))
@@ -35,7 +35,7 @@ fn of_owner(x: u8) -> Item {
     if x == 0 {
         return Item::Nothing;
     }
-    if tables::is_desk(wide_owner(x)) {
+    if meanings::is_desk(wide_owner(x)) {
         return Item::Desk(wide_owner(x));
     }
     Item::Bad(x as i64)

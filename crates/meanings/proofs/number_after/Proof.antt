@@ -3,13 +3,13 @@ use mathlib.Core.Path.{_≡_, sym, _∙_, ap}
 use lib.IntN.{ℤ}
 use mir.Syntax.{w32}
 use mir.ValLaws.{toZ-ofZ}
 use Rattle.tables.specs.Tables.{said, number}
 use Rattle.tables.specs.Owners.{soundingAfter}
 use Rattle.tables.specs.declared.Deed.{Deed}
 use Rattle.tables.proofs.Numbers.{number-said}
 use borrow.Author.Needs.{needs}
-use Rattle.tables.proofs.number_after.Statement.{statement}
-use Rattle.tables.proofs.number_after.Tie as tie
+use Rattle.meanings.proofs.number_after.Statement.{statement}
+use Rattle.meanings.proofs.number_after.Tie as tie
 
 enum-told : tie.Need-enum-told
 enum-told c = search needs

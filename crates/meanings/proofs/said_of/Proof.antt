@@ -3,9 +3,9 @@ use mathlib.Core.Path.{sym, _∙_, ap}
 use mir.Syntax.{w32}
 use mir.Val.{toZ, ofZ}
 use mir.ValLaws.{toZ-ofZ}
 use Rattle.tables.proofs.Numbers.{said-nothing, said-reading}
-use Rattle.tables.proofs.said_of.Statement.{statement}
-use Rattle.tables.proofs.said_of.Tie as tie
+use Rattle.meanings.proofs.said_of.Statement.{statement}
+use Rattle.meanings.proofs.said_of.Tie as tie
 
 returns : tie.Need-returns
 returns c =

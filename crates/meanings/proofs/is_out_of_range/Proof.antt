@@ -3,11 +3,11 @@ use mathlib.Core.Path.{_≡_, sym, _∙_, ap}
 use mathlib.Core.Bool.{not}
 use mir.Syntax.{w32}
 use mir.ValLaws.{toZ-ofZ}
 use Rattle.tables.specs.Tables.{isReading}
 use Rattle.tables.specs.Refusals.{outOfRange}
 use borrow.Author.Needs.{needs}
-use Rattle.tables.proofs.is_out_of_range.Statement.{statement}
-use Rattle.tables.proofs.is_out_of_range.Tie as tie
+use Rattle.meanings.proofs.is_out_of_range.Statement.{statement}
+use Rattle.meanings.proofs.is_out_of_range.Tie as tie
 
 enum-told : tie.Need-enum-told
 enum-told c = search needs

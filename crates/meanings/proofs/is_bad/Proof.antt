@@ -5,9 +5,9 @@ use lib.IntN.{negsuc}
 use lib.Signed.{ltZ}
 use mir.Syntax.{w32}
 use mir.ValLaws.{toZ-ofZ}
 use Rattle.tables.proofs.Numbers.{bad-low, bad-else}
-use Rattle.tables.proofs.is_bad.Statement.{statement}
-use Rattle.tables.proofs.is_bad.Tie as tie
+use Rattle.meanings.proofs.is_bad.Statement.{statement}
+use Rattle.meanings.proofs.is_bad.Tie as tie
 
 returns : tie.Need-returns
 returns c =

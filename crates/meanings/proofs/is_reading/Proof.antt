@@ -5,9 +5,9 @@ use lib.IntN.{pos}
 use lib.Signed.{ltZ}
 use mir.Syntax.{w32}
 use mir.ValLaws.{toZ-ofZ}
 use Rattle.tables.proofs.Numbers.{reading-low, reading-else}
-use Rattle.tables.proofs.is_reading.Statement.{statement}
-use Rattle.tables.proofs.is_reading.Tie as tie
+use Rattle.meanings.proofs.is_reading.Statement.{statement}
+use Rattle.meanings.proofs.is_reading.Tie as tie
 
 returns : tie.Need-returns
 returns c =

@@ -1,9 +1,9 @@
 -- Two tests. Assumes nothing.
 use mathlib.Core.Path.{sym, ap}
 use borrow.Author.Tests.{ne-eqb}
 use Rattle.tables.specs.Owners.{isDesk}
-use Rattle.tables.proofs.is_desk.Statement.{statement}
-use Rattle.tables.proofs.is_desk.Tie as tie
+use Rattle.meanings.proofs.is_desk.Statement.{statement}
+use Rattle.meanings.proofs.is_desk.Tie as tie
 
 returns : tie.Need-returns
 returns c = sym (ap isDesk (c .if1 .taken))

@@ -1,7 +1,7 @@
 -- One test (Numbers). Assumes nothing.
 use Rattle.tables.proofs.Numbers.{is-other}
-use Rattle.tables.proofs.is_other.Statement.{statement}
-use Rattle.tables.proofs.is_other.Tie as tie
+use Rattle.meanings.proofs.is_other.Statement.{statement}
+use Rattle.meanings.proofs.is_other.Tie as tie
 
 returns : tie.Need-returns
 returns c = is-other (c .args .owner)

@@ -13,6 +13,9 @@ use Rattle.words.specs.Refusals.{degreeRows, codeRows}
 use Rattle.words.specs.declared.CodeAnswer.{CodeAnswer}
 use Rattle.words.specs.declared.TriangleCode.{TriangleCode}
 use Rattle.net.specs.Refusals.{oneToThreeRows}
+use Rattle.net.specs.Means.Walks.{edgeThere, stepFrom}
+use Rattle.net.specs.declared.Edge.{Edge}
+use Rattle.net.proofs.Crossing.{across-is}
 use Rattle.filing.specs.Filing.{AreHolders}
 use Rattle.filing.specs.Refusals.{directionRows}
 use Rattle.filing.specs.declared.Direction.{Direction}
@@ -20,6 +23,7 @@ use Rattle.corners.specs.Refusals.{refuseNumbered}
 use Rattle.corners.specs.Answers.{CrossAnswer, countAnswer}
 use Rattle.corners.specs.declared.StepAnswer.{StepAnswer}
 use Rattle.corners.specs.declared.CountAnswer.{CountAnswer}
+use Rattle.corners.proofs.Refused.{numbered}
 use Rattle.directions.specs.Refusals as directions
 use Rattle.directions.specs.Answers.{FileAnswer, ListAnswer}
 use Rattle.directions.proofs.Refused.{list-then}
@@ -57,6 +61,15 @@ module _ (t : TriangleCode) (k : ℕ) (out : List ℕ) {a : StepAnswer} (p : Cro
   pub cross-returns : Returns (bytes 8) (a .refusal) (refuseCross t k out) 16 (CodeAndEdge t k)
       (a .code .0 ∷ a .edge ∷ []) out
   cross-returns = returned (bytes 8) (CodeAndEdge t k) out (cross-nine t k out) _ cross-number cross-numbers
+
+-- the same from the step alone, where it is not asked how the corners turned
+pub step-returns : (t : TriangleCode) (k : ℕ) (out : List ℕ) {f : ℕ} {r : Edge} → f ≡ refuseNumbered t k
+    → r ≡ edgeThere (stepFrom (record { code = t; number = k }))
+    → Returns (bytes 8) f (refuseCross t k out) 16 (CodeAndEdge t k) (r .code .0 ∷ r .number ∷ []) out
+step-returns t k out {r = r} number e =
+    returned (bytes 8) (CodeAndEdge t k) out (cross-nine t k out) _ number (λ z.
+    let c = numbered t k z in
+    record { code = r .code .0; edge = r .number; are = refl; across = rw e (across-is (c .0) k (c .1)) })
 
 module _ (n : ℕ) (d : Direction) (out : List ℕ) {a : CodeAnswer} (p : FileAnswer n d a) where
   pub file-number : a .refusal ≡ directions.refuseFile n d

@@ -3,6 +3,7 @@
 // crate exports, below; filing and listing are in host_filing; the crate host, above, exports all.
 use grid::CornerName;
 use grid::TriangleCode;
+use net::Edge;
 use octets::put8;
 ghost use mathlib.Core.Path.{_≡_};
 ghost use Rattle.words.specs.Family.{codeOf};
@@ -25,18 +26,24 @@ pub fn grid_check_name(word: u64) -> u64
     grid::check_name(CornerName(word))
 }
 
-// Crossing an edge: the code and the edge's number there, in sixteen bytes. How the corners turned is dropped.
+// Crossing an edge: the code and the edge's number there, in sixteen bytes. How the corners turned is not asked for, so
+// that the neighbour comes back in registers.
 pub fn grid_cross(code: u64, edge: u64, out: &mut [u8]) -> u64
     ensures { λ r. ⌜ CrossBytes (codeOf code) edge (now (out .entry)) r (now (out .exit)) ⌝ }
 {
-    let a = grid::cross(TriangleCode(code), edge);
-    if a.refusal != 0 {
-        return a.refusal;
+    let here = Edge {
+        code: TriangleCode(code),
+        number: edge,
+    };
+    let f = corners::refuse_numbered(TriangleCode(code), edge);
+    if f != 0 {
+        return f;
     }
     if out.len() < 16 {
         return 9;
     }
-    put8(a.code.0, out);
-    put8(a.edge, &mut out[8..]);
+    let there = here.neighbour();
+    put8(there.code.0, out);
+    put8(there.number, &mut out[8..]);
     0
 }

@@ -1,22 +1,32 @@
--- The grid's refusal, then 9, then the bytes of the code and of the edge (Calls). Assumes nothing.
+-- What crossing refuses, then 9, then the bytes of the neighbour's code and of the edge there (Calls). Assumes nothing.
 use borrow.Author.Needs.{needs}
-use mathlib.Core.Path.{_∙_}
+use mathlib.Core.Path.{_≡_, _∙_, refl, sym}
 use mathlib.Core.List.{[], _∷_}
 use native.Mathlib.Omega.{arith}
+use Rattle.words.specs.Family.{codeOf}
 use Rattle.octets.proofs.Laying.{laid-one, laid-next}
-use Rattle.exports.proofs.Calls.{cross-returns}
+use Rattle.corners.specs.Refusals.{refuseNumbered}
+use Rattle.corners.proofs.Refused.{numbered-passes}
+use Rattle.exports.proofs.Calls.{step-returns}
 use Rattle.host_grid.proofs.grid_cross.Statement.{statement}
 use Rattle.host_grid.proofs.grid_cross.Tie as tie
 
-cross-requires : tie.Need-cross-requires
-cross-requires c κs = search needs
+refuse-numbered-requires : tie.Need-refuse-numbered-requires
+refuse-numbered-requires c κs = search needs
 
 returns : tie.Need-returns
-returns c = cross-returns _ _ _ (c .before .before .cross .ensures) .refused (c .if1 .taken)
+returns c = step-returns _ _ _ (c .before .refuse-numbered .ensures) refl .refused (c .if1 .taken)
 
 returns-2 : tie.Need-returns-2
 returns-2 c =
-    cross-returns _ _ _ (c .before .before .before .cross .ensures) .short (c .before .if1 .left) (omega arith)
+    step-returns _ _ _ (c .before .before .refuse-numbered .ensures) refl .short (c .before .if1 .left) (omega arith)
+
+-- nothing is refused: a code and an edge
+none : (c : tie.Else1) → let a = c .before .before .before .args in refuseNumbered (codeOf (a .code)) (a .edge) ≡ 0
+none c = sym (c .before .refuse-numbered .ensures) ∙ c .if1 .left
+
+neighbour-requires : tie.Need-neighbour-requires
+neighbour-requires c κs = numbered-passes _ _ .0 (none (c .before))
 
 put8-requires : tie.Need-put8-requires
 put8-requires c κs = search needs
@@ -40,8 +50,9 @@ returns-3 : tie.Need-returns-3
 returns-3 c =
     let q = c .before .before in
     let p = q .before .before .before .before in
-    let e = p .before .before in
-    cross-returns _ _ _ (e .before .before .before .cross .ensures) .sent (e .before .if1 .left) (omega arith)
+    let n = p .before .before in
+    let e = n .before .before in
+    step-returns _ _ _ (e .before .refuse-numbered .ensures) (n .neighbour .ensures) .sent (e .if1 .left) (omega arith)
     (laid-next 8 _ (_ ∷ []) _ (p .put8 .last .1 .0) (q .put82 .last .1 .0) (p .put8 .ensures)
     (q .put82 .ensures ∙ laid-one 8 _ _))
 
@@ -49,9 +60,10 @@ pub grid-cross-spec : {M : Type 1} → statement M
 grid-cross-spec =
     tie.close
     (tie.spec
-    cross-requires
+    refuse-numbered-requires
     returns
     returns-2
+    neighbour-requires
     put8-requires
     sub-put8
     part-put8-start

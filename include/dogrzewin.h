@@ -41,9 +41,9 @@ extern "C" {
 #endif
 
 /* What a call returns: 0, or a refusal number of the grid's rules. Where several refusals hold, the first in the order
- * 32, 1, 30, 2, 3, 4, 31, 10, 5, 6, 8, 7, 9, 11 is given: 32 is checked before all others. Each call below names its own in
- * that order. No call here gives 6 or 11. For 9 the lent list is out, or one of a sweep's or of a cell list's, and what
- * it needs stands at each call, in bytes. */
+ * 32, 1, 30, 2, 3, 4, 31, 10, 5, 6, 8, 7, 9, 11 is given: 32 is checked before all others. Each call below names its
+ * own in that order. No call here gives 6 or 11. The calls on small words alone give 30 and 31. For 9 the lent list is
+ * out, or one of a sweep's or of a cell list's, and what it needs stands at each call, in bytes. */
 enum grid_refusal {
     /* answered */
     GRID_ANSWERED = 0,
@@ -91,7 +91,8 @@ enum grid_bytes {
     GRID_FILE_SMALL_BYTES = 4
 };
 
-/* The number in eight bytes, the most significant first: number k of an answer, from 0, is grid_number(out + 8 * k). */
+/* The number in eight bytes, the most significant first: number k of an answer without a small word, from 0, is
+ * grid_number(out + 8 * k). */
 static inline uint64_t grid_number(const uint8_t *bytes) {
     uint64_t number = 0;
     int k;
@@ -193,7 +194,8 @@ uint64_t grid_check_small(uint32_t word);
 
 /* Crosses an edge, 1 to 3, of the triangle with this small word, as grid_cross does.
  *
- * Writes: 12 bytes: the small word of the triangle across the edge in 4, and the number that the edge has there in 8.
+ * Writes: 12 bytes: the small word of the triangle across the edge, which grid_small_number(out) reads, and the number
+ * that the edge has there, which grid_number(out + 4) reads.
  * Refusals: 30, 2, 3, 31, 5, 9. (9 where out_length is below GRID_CROSS_SMALL_BYTES.) */
 uint64_t grid_cross_small(uint32_t word, uint64_t edge, uint8_t *out, size_t out_length);
 

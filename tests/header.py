@@ -175,10 +175,11 @@ def reasons(given):
 def order():
     first = re.search(r"firstOf \(((?:\d+ ∷ )+)order\)", FIRST.read_text())[1]
     base = numbers(re.search(r"^order = (.*)$", ORDER.read_text(), re.M)[1])
-    whole = numbers(re.search(r"^harbourOrder = (.*)$", INTO.read_text(), re.M)[1])
-    if [number for number in whole if number in base] != base:
-        raise Unreadable(f"the order of the small form, {whole}, is not document 01's with numbers put into it")
-    return numbers(first) + whole
+    # numbers put into it, each directly after another, the innermost first
+    into = re.search(r"^harbourOrder = ((?:directlyAfter \d+ \d+ \(?)+)order\)*$", INTO.read_text(), re.M)[1]
+    for new, after in reversed(re.findall(r"directlyAfter (\d+) (\d+)", into)):
+        base.insert(base.index(int(after)) + 1, int(new))
+    return numbers(first) + base
 
 
 def in_c(call):

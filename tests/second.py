@@ -47,6 +47,13 @@ covered before and after, the checker's answer, the merges undone, and the count
 least that covers as much, over all accepted lists on one side to degree 2. For ./cells each case has the mended list
 and the report too.
 
+For the small words of request 2026-11 the 32 bits are spelled out, field after field; crossing and filing are those of
+the code. The console's calls are made with every code to degree 4: written small, checked and read back; over each edge
+to degree 3, and of a share of degree 4; with words of degree 5 to 24; with each bit turned over, each value that a
+field must not have, and each two such; and with a share of the directions that are filed. The test bench's are lent
+slices of every length too. Each answer is then compared with what check, cross and file answer for the code, which is
+moved from one form to the other by shifts.
+
     second.py CALLS ANSWERS           writes the calls, one a line, and the answers that the console must give to them
     second.py --answer                answers the call lines of standard input, all but help, from no open table on
     second.py --host CALLS ANSWERS    writes the calls of the test bench in C, and the answers that it must give to them
@@ -60,6 +67,7 @@ and the report too.
                                       to standard error
 """
 import bisect
+import gc
 import itertools
 import math
 import operator
@@ -68,7 +76,7 @@ import random
 import re
 import struct
 import sys
-from collections import namedtuple
+from collections import Counter, namedtuple
 from functools import lru_cache, reduce
 from types import SimpleNamespace
 
@@ -150,6 +158,7 @@ def middle(x, y):
     return tuple(map(operator.add, x, y))
 
 
+@lru_cache(maxsize=1 << 14)
 def children(triangle):
     # "digit 0: M1, M2, M3; digit 1: A1, M3, M2; digit 2: M3, A2, M1; digit 3: M2, M1, A3"
     a1, a2, a3 = triangle
@@ -191,12 +200,13 @@ def degree_of(word):
     return word >> 54 & 31
 
 
-def all_digits(word):
-    return [word >> (52 - 2 * place) & 3 for place in range(24)]
-
-
 def digits_of(word):
-    return all_digits(word)[: degree_of(word)]
+    return [word >> (52 - 2 * place) & 3 for place in range(min(degree_of(word), 24))]
+
+
+def digits_beyond(word):
+    """Those beyond the degree, as one number."""
+    return word >> 6 & 4 ** (24 - min(degree_of(word), 24)) - 1
 
 
 def zero_bits(word):
@@ -208,12 +218,14 @@ def corner_number(word):
 
 
 def child_code(code, digit):
-    return make_code(side_of(code), digits_of(code) + [digit])
+    """One degree more, and the digit after the last."""
+    return code + (1 << 54) | digit << (52 - 2 * degree_of(code))
 
 
-@lru_cache(maxsize=1 << 17)
 def parent_code(code):
-    return make_code(side_of(code), digits_of(code)[:-1])
+    """One degree less, and no last digit. A side stays as it is."""
+    n = degree_of(code)
+    return code - (1 << 54) & ~(3 << (54 - 2 * n)) if n > 0 else code
 
 
 def read_triangle(text):
@@ -286,7 +298,10 @@ def deep_search(n, p):
     doubled as often as there are degrees between."""
 
     def can_have(triangle, left):
-        return all(min(x, y, z) << left <= w <= max(x, y, z) << left for x, y, z, w in zip(*triangle, p))
+        for x, y, z, w in zip(*triangle, p):
+            if not min(x, y, z) << left <= w <= max(x, y, z) << left:
+                return False
+        return True
 
     return with_numbers(come_down(whole_degree(0).items(), n, can_have), p)
 
@@ -353,7 +368,7 @@ def determinant(x, y, z):
 # ==== Document 01, "Steps and rings"
 
 
-@lru_cache(maxsize=1 << 12)
+@lru_cache(maxsize=1 << 17)
 def neighbour(code, edge):
     # "Edge k lies opposite corner k." "Crossing an edge answers the neighbour's code and the number of the shared edge
     # there." The neighbour is the other triangle that has both corners of the edge.
@@ -365,6 +380,7 @@ def neighbour(code, edge):
     return others[0], shared
 
 
+@lru_cache(maxsize=1 << 17)
 def both_numbers(code, edge):
     """The edge's two corners in rising number, each as (number here, number in the neighbour)."""
     # Document 02, 2026-06: "for the shared edge's two corners in rising number, their numbers in the neighbour".
@@ -436,12 +452,19 @@ def holds(triangle, d):
 
 @lru_cache(maxsize=None)
 def whole_walls(n):
-    return [(code, walls(triangle)) for code, triangle in whole_degree(n).items()]
+    """All that differ, and each triangle with the places of its three among them: edges on one line have one wall."""
+    places = {}
+    three_of = {code: [places.setdefault(wall, len(places)) for wall in walls(triangle)]
+                for code, triangle in whole_degree(n).items()}
+    return list(places), [(code, *three) for code, three in three_of.items()]
 
 
 def full_holders(n, d):
     """Every triangle of the degree is asked."""
-    return [code for code, three in whole_walls(n) if within_walls(three, d)]
+    different, triangles = whole_walls(n)
+    x, y, z = d
+    inside = [at_least_zero(x * a + y * b + z * c, x * p + y * q + z * r) for (a, b, c), (p, q, r) in different]
+    return [code for code, i, j, k in triangles if inside[i] and inside[j] and inside[k]]
 
 
 @lru_cache(maxsize=1 << 14)
@@ -569,20 +592,28 @@ REFUSAL_TABLE += """
 REFUSAL_TABLE += """
 | 32 | a list above 4,096 words |
 """
+# 2026-11; the words are those of docs/CONSOLE.md.
+REFUSAL_TABLE += """
+| 30 | a degree, as field or argument, is 12 to 24 |
+| 31 | the last bit is set |
+"""
 REFUSALS = {int(n): text for n, text in re.findall(r"\| (\d+) \| (.*) \|", REFUSAL_TABLE)}
 
 # "Where several hold, the order is", and then of document 02: "They are checked in number order", "The new refusals are
 # checked in number order after 23", "refusal 28, checked after 27", "refusal 29, checked last", "refusal 32, checked
-# first".
-REFUSAL_ORDER = [32, 1, 2, 3, 4, 10, 5, 6, 8, 7, 9, 11, 20, 21, 22, 23, 24, 25, 26, 27, 28, 29]
+# first", "30 directly after 1 and 31 directly after 4".
+REFUSAL_ORDER = [32, 1, 30, 2, 3, 4, 31, 10, 5, 6, 8, 7, 9, 11, 20, 21, 22, 23, 24, 25, 26, 27, 28, 29]
 
 
 def first(refusals):
-    return min(refusals, key=REFUSAL_ORDER.index, default=0)
+    return min(refusals, key=REFUSAL_ORDER.index) if refusals else 0
+
+
+NONE = frozenset()
 
 
 def when(no, true):
-    return {no} if true else set()
+    return {no} if true else NONE
 
 
 def degree_refusals(n):
@@ -593,12 +624,12 @@ def word_refusals(word, numbers):
     return (
         degree_refusals(degree_of(word))
         | when(2, side_of(word)[0] in (0, 6, 7))
-        | when(3, any(all_digits(word)[degree_of(word) :]))
+        | when(3, digits_beyond(word) != 0)
         | when(4, zero_bits(word) != 0 or corner_number(word) not in numbers)
     )
 
 
-@lru_cache(maxsize=1 << 14)
+@lru_cache(maxsize=1 << 15)
 def code_refusals(code):
     # "A triangle code has corner number 0."
     return word_refusals(code, (0,))
@@ -648,8 +679,10 @@ def back_refusals(n, weights):
 
 # "It holds one reading for each triangle of one degree from 0 to 6, in a lent list of signed numbers". "Each triangle
 # gets an owner: 0 nobody, 1 ice, 2 pilotage, in a lent list of the same length." "for each triangle one degree up, the
-# count and sum of its present readings .. in lent lists beside the table"
-Table = namedtuple("Table", "degree places owners counts sums")
+# count and sum of its present readings .. in lent lists beside the table". `bad` and `others` tell what numbers the
+# first two lists hold: a call writes only a reading, -1 or an owner, and only where no other number is, so that both
+# stay true from the line that lays the list.
+Table = namedtuple("Table", "degree places owners counts sums bad others")
 TABLE_DEEPEST = 6
 NOTHING = -1  # "-1 means no reading"
 NOBODY, DESKS = 0, (1, 2)
@@ -685,6 +718,10 @@ def bad_places(places):
     return [place for place, x in enumerate(places) if not (0 <= x <= 100_000 or x == NOTHING)]
 
 
+def other_owners_in(owners):
+    return set(owners) - {NOBODY, *DESKS}
+
+
 def table_degree_refusals(n):
     # "a table degree of 7 to 24 is also 20, above 24 it is 1"
     return degree_refusals(n) | when(20, TABLE_DEEPEST < n <= DEEPEST)
@@ -702,7 +739,7 @@ def length_refusals(n, places):
 
 def reading_list_refusals(table):
     n, places = table.degree, table.places
-    return table_degree_refusals(n) | length_refusals(n, places) | when(23, bad_places(places))
+    return table_degree_refusals(n) | length_refusals(n, places) | when(23, table.bad)
 
 
 def sounding_refusals(table, code):
@@ -712,8 +749,7 @@ def sounding_refusals(table, code):
 
 def owner_list_refusals(table):
     # "25 owner list malformed (wrong length or another number)"
-    malformed = not has_length(table.degree, table.owners) or not set(table.owners) <= {NOBODY, *DESKS}
-    return when(25, malformed)
+    return when(25, not has_length(table.degree, table.owners) or table.others)
 
 
 def parent_list_refusals(table):
@@ -826,6 +862,7 @@ def path(code):
     return (*side_of(code), *digits_of(code))
 
 
+@lru_cache(maxsize=1 << 10)
 def paths_above(code):
     """Those of the triangles that the code's lies inside: its side, and the beginnings of its digits but not all."""
     return [path(code)[:length] for length in range(3, len(path(code)))]
@@ -882,10 +919,10 @@ def drop_reasons(words):
     # "drop invalid words, .. drop repeats and triangles inside others". docs/CELLS.md: "equal to an earlier word, kept
     # or dropped", "inside another word, earlier or later, kept or dropped". An invalid word is no triangle: it is
     # inside no other, and none is inside it.
-    there = {path(word) for word in words if not code_refusals(word)}
+    all_invalid = [bool(code_refusals(word)) for word in words]
+    there = {path(word) for word, invalid in zip(words, all_invalid) if not invalid}
     found, earlier = [], set()
-    for word in words:
-        invalid = bool(code_refusals(word))
+    for word, invalid in zip(words, all_invalid):
         inside = not invalid and not there.isdisjoint(paths_above(word))
         found.append(when(1, invalid) | when(3, word in earlier) | when(4, inside))
         earlier.add(word)
@@ -898,20 +935,24 @@ def merged(paths):
     # "replace four whole children by their parent as long as any four remain"
     there, parents = set(paths), []
     while True:
-        # A path of three numbers is a side's, and has no parent.
-        above = {one[:-1] for one in there if len(one) > 3}
-        whole = {parent: {(*parent, digit) for digit in (0, 1, 2, 3)} for parent in above}
-        whole = {parent: four for parent, four in whole.items() if four <= there}
+        # A path of three numbers is a side's, and has no parent. A parent has four children.
+        above = Counter(one[:-1] for one in there if len(one) > 3)
+        whole = [parent for parent, many in above.items() if many == 4]
         if not whole:
             return there, parents
-        for parent, four in whole.items():
-            there -= four
+        for parent in whole:
+            there -= {(*parent, digit) for digit in (0, 1, 2, 3)}
             there.add(parent)
         parents.extend(whole)
 
 
+@lru_cache(maxsize=1 << 14)
+def code_at(one):
+    return make_code(one[:3], one[3:])
+
+
 def codes_at(paths):
-    return [make_code(one[:3], one[3:]) for one in paths]
+    return list(map(code_at, paths))
 
 
 def mend(words):
@@ -927,6 +968,57 @@ def mend(words):
         [word for _, word, _ in dropped] + parents,
         [reason for _, _, reason in dropped] + [MERGE] * len(parents),
     )
+
+
+# ==== Document 02, 2026-11, "Harbour profile"
+
+SMALL_DEEPEST = 11  # "Small units store only degree 11 or less"
+Small = namedtuple("Small", "side degree digits last")
+
+
+@lru_cache(maxsize=1 << 13)
+def small_of(code):
+    # "in 32-bit words: a, p, q as before, a degree of 4 bits, eleven digits, and one zero bit, most significant first"
+    a, p, q = side_of(code)
+    digits = "".join(f"{digit:02b}" for digit in digits_of(code))
+    return int(f"{a:03b}{p:b}{q:b}{degree_of(code):04b}{digits:0<22}0", 2)
+
+
+@lru_cache(maxsize=1 << 13)
+def small_fields(small):
+    bits = f"{small:032b}"
+    a, p, q, degree, last = (int(x, 2) for x in (bits[:3], bits[3], bits[4], bits[5:9], bits[31]))
+    return Small((a, p, q), degree, [int(bits[k : k + 2], 2) for k in range(9, 31, 2)], last)
+
+
+def code_of(small):
+    fields = small_fields(small)
+    return make_code(fields.side, fields.digits[: fields.degree])
+
+
+def small_degree_refusals(n):
+    # "Degree 12 to 24, as field or argument, is refusal 30"
+    return when(30, SMALL_DEEPEST < n <= DEEPEST)
+
+
+def small_refusals(small):
+    # "a set last bit is 31; the rest as in 01". A degree of 4 bits is at most 15, and so not above 24, for 1; the four
+    # zero bits and the corner number of 4 are not there.
+    side, degree, digits, last = small_fields(small)
+    return (
+        small_degree_refusals(degree)
+        | when(2, side[0] in (0, 6, 7))
+        | when(3, any(digits[degree:]))
+        | when(31, last != 0)
+    )
+
+
+def writer_refusals(code):
+    return code_refusals(code) | small_degree_refusals(degree_of(code))
+
+
+def small_direction_refusals(n, d):
+    return direction_refusals(n, d) | small_degree_refusals(n)
 
 
 # ==== The console's answers
@@ -986,15 +1078,16 @@ def call_child(code, digit):
     return either(r, lambda: code_text(child_code(code, digit)))
 
 
-def call_cross(code, edge):
+def cross_text(code, edge, form):
     # Document 02, 2026-06: "The crossing call shall also answer" the two numbers, in the order of our corners.
-    def say():
-        other, shared = neighbour(code, edge)
-        numbers = " ".join(str(there) for _, there in both_numbers(code, edge))
-        return f"{code_text(other)} edge {shared} corners {numbers}"
+    other, shared = neighbour(code, edge)
+    numbers = " ".join(str(there) for _, there in both_numbers(code, edge))
+    return f"{form(other)} edge {shared} corners {numbers}"
 
+
+def call_cross(code, edge):
     # Document 02, 2026-06: "The refusals are as before".
-    return either(code_refusals(code) | number_refusals(edge), say)
+    return either(code_refusals(code) | number_refusals(edge), lambda: cross_text(code, edge, code_text))
 
 
 def call_name(code, number):
@@ -1119,6 +1212,33 @@ def call_mend_cells(mended, changed, reasons, words):
     return text
 
 
+def small_text(code):
+    # "the code, a space, and the small word as 0x and 8 upper-case hexadecimal digits"
+    return f"{triangle_text(code)} 0x{small_of(code):08X}"
+
+
+def call_small(code):
+    return either(writer_refusals(code), lambda: small_text(code))
+
+
+def call_large(small):
+    return either(small_refusals(small), lambda: code_text(code_of(small)))
+
+
+def call_check_small(small):
+    return either(small_refusals(small), lambda: "ok")
+
+
+def call_cross_small(small, edge):
+    # "Crossing and filing on the small form give the small form of the large answer."
+    r = small_refusals(small) | number_refusals(edge)
+    return either(r, lambda: cross_text(code_of(small), edge, small_text))
+
+
+def call_file_small(n, x, y, z):
+    return either(small_direction_refusals(n, (x, y, z)), lambda: small_text(min(holders(n, (x, y, z)))))
+
+
 # ==== The console's table: docs/CONSOLE.md, "A table of soundings"
 
 # "The console holds one table (document 02, 2026-03, 2026-07 and 2026-08), from the line that opens it to the next one
@@ -1136,7 +1256,8 @@ def call_table(n, places=None):
         # "Both lay a list of owners of the same length, in which all is nobody's, and lists of counts and of sums that
         # hold 0: 20*4^(DEGREE-1) places each for a degree of 1 to 6, and none for any other."
         parents = 20 * 4 ** (n - 1) if 1 <= n <= TABLE_DEEPEST else 0
-        CONSOLE.table = Table(n, numbers, [NOBODY] * len(numbers), [0] * parents, [0] * parents)
+        bad = [] if places is None else bad_places(places)
+        CONSOLE.table = Table(n, numbers, [NOBODY] * len(numbers), [0] * parents, [0] * parents, bad, set())
         return f"degree {n}, {len(numbers)} places"
 
     # "The degree may be any number, and nothing is refused", if a list is given. Of a fresh table: "A degree of 7 to 24
@@ -1152,7 +1273,7 @@ def on_table(call):
 
 def refused_with_place(table, no):
     # "Refusal 23 alone answers, besides its number, the least bad place, counted from 0."
-    return refused(no) + (f"; place {bad_places(table.places)[0]}" if no == 23 else "")
+    return refused(no) + (f"; place {table.bad[0]}" if no == 23 else "")
 
 
 def write_place(table, refusals, code, number=None, owner=None):
@@ -1161,8 +1282,10 @@ def write_place(table, refusals, code, number=None, owner=None):
     if no:
         return refused_with_place(table, no)
     if number is not None:
+        must(is_reading(number) or number == NOTHING, "no bad number", number)
         table.places[place_of(code)] = number
     if owner is not None:
+        must(owner in (NOBODY, *DESKS), "no other owner", owner)
         table.owners[place_of(code)] = owner
     # "keep them true through set, clear, take and give back"
     if table.degree > 0:
@@ -1215,8 +1338,8 @@ def call_readings(table):
     n, places = table.degree, table.places
 
     def say():
-        shown = [place_text(code, x) for code, x in zip(codes_of(n), places) if x != NOTHING]
-        return readings_text(sum(map(is_reading, places)), shown)
+        held = [(code, x) for code, x in zip(codes_of(n), places) if x != NOTHING]
+        return readings_text(sum(is_reading(x) for _, x in held), [place_text(code, x) for code, x in held])
 
     # "it is refused, in this order: 1 for a degree above 24, 20 for one of 7 to 24, 22 for the length"
     return either(table_degree_refusals(n) | length_refusals(n, places), say)
@@ -1240,12 +1363,12 @@ def lay(table, kind, numbers):
 def call_owners(table, owners=None):
     """The owners, or a list of them for the open table."""
     if owners is not None:
-        return lay(table, "owners", owners)
+        return lay(table._replace(others=other_owners_in(owners)), "owners", owners)
     n = table.degree
 
     def say():
         shown = [owner_text(code, x) for code, x in zip(codes_of(n), table.owners) if x != NOBODY]
-        return owners_text(sum(x in DESKS for x in table.owners), shown)
+        return owners_text(sum(map(table.owners.count, DESKS)), shown)
 
     # "It is refused with 1 and 20 as `readings` is, and then with 25 where the list of owners has not 20*4^DEGREE
     # places."
@@ -1296,6 +1419,7 @@ def call_work_out(table):
 # ==== The console's lines
 
 HEX = re.compile("0x([0-9A-Fa-f]{1,16})")
+SMALL_HEX = re.compile("0x([0-9A-Fa-f]{1,8})")
 TRIANGLE = re.compile("[0-7][01][01][0-3]{0,24}")
 WHOLE_NUMBER = re.compile("[0-9]+")
 SIGNED_NUMBER = re.compile("-?[0-9]+")
@@ -1312,6 +1436,7 @@ def within(number, least, most):
     return number
 
 
+@lru_cache(maxsize=1 << 12)
 def read_hex(text):
     found = HEX.fullmatch(text)
     if not found:
@@ -1319,14 +1444,24 @@ def read_hex(text):
     return int(found[1], 16)
 
 
+def read_small(text):
+    # "0x and 1 to 8 hexadecimal digits, either case: any 32-bit number"
+    if not SMALL_HEX.fullmatch(text):
+        raise Unreadable
+    return read_hex(text)
+
+
+@lru_cache(maxsize=1 << 12)
 def read_code(text):
     return read_triangle(text) if TRIANGLE.fullmatch(text) else read_hex(text)
 
 
+@lru_cache(maxsize=1 << 12)
 def read_number(text):
     return within(int(text), 0, 2**64 - 1) if WHOLE_NUMBER.fullmatch(text) else read_hex(text)
 
 
+@lru_cache(maxsize=1 << 12)
 def read_signed(text):
     if not SIGNED_NUMBER.fullmatch(text):
         raise Unreadable
@@ -1349,7 +1484,7 @@ def read_owner(text):
 
 SIGNED = dict.fromkeys("XYZ", read_signed)
 READERS = {"CODE": read_code, "NAME": read_hex, **SIGNED, "MM": read_signed}
-READERS.update({"PLACES": read_places, "[PLACES]": read_places, "[CODE]": read_code})
+READERS.update({"PLACES": read_places, "[PLACES]": read_places, "[CODE]": read_code, "SMALL": read_small})
 LENT_LISTS = ("MENDED", "WORDS", "REASONS")
 READERS.update(dict.fromkeys(LENT_LISTS, read_lent_length))
 
@@ -1377,6 +1512,11 @@ ANSWERS = {
     "sweep DEGREE PLACES [NUMBER]..": call_sweep,
     "check-cells [CODE]..": call_check_cells,
     "mend-cells MENDED WORDS REASONS [CODE]..": call_mend_cells,
+    "small CODE": call_small,
+    "large SMALL": call_large,
+    "check-small SMALL": call_check_small,
+    "cross-small SMALL EDGE": call_cross_small,
+    "file-small DEGREE X Y Z": call_file_small,
 }
 TABLE_ANSWERS = {
     "table DEGREE [LENGTH FILL [PLACE VALUE]..]": call_table,
@@ -1432,20 +1572,26 @@ def read_parents(given):
     return [read_list(given, read_number, LONGEST_PARENTS)]
 
 
+def read_weights(given):
+    # "(0 to 16 weights)"
+    within(len(given), 1, 17)
+    return [read_number(given[0]), [read_number(x) for x in given[1:]]]
+
+
+def read_sweep(given):
+    # "(0 to 48 numbers)"
+    within(len(given), 2, 2 + MOST_NUMBERS)
+    return [read_number(given[0]), read_places(given[1]), [read_signed(x) for x in given[2:]]]
+
+
+LIST_READERS = {"WEIGHTS": read_weights, "[NUMBER]..": read_sweep}
+LIST_READERS.update({"VALUE]..]": read_table, "OWNER]..]": read_owners, "N]..": read_parents})
+
+
 def read_arguments(kinds, given):
     last = kinds[-1] if kinds else ""
-    if last == "WEIGHTS":  # "(0 to 16 weights)"
-        within(len(given), 1, 17)
-        return [read_number(given[0]), [read_number(x) for x in given[1:]]]
-    if last == "VALUE]..]":
-        return read_table(given)
-    if last == "OWNER]..]":
-        return read_owners(given)
-    if last == "N]..":
-        return read_parents(given)
-    if last == "[NUMBER]..":  # "(0 to 48 numbers)"
-        within(len(given), 2, 2 + MOST_NUMBERS)
-        return [read_number(given[0]), read_places(given[1]), [read_signed(x) for x in given[2:]]]
+    if last in LIST_READERS:
+        return LIST_READERS[last](given)
     if last == "[CODE]..":  # "(as many as the line has room for)"
         many = len(kinds) - 1
         return read_arguments(kinds[:-1], given[:many]) + [[read_code(x) for x in given[many:]]]
@@ -1453,8 +1599,11 @@ def read_arguments(kinds, given):
     return [READERS.get(kind, read_number)(x) for kind, x in zip(kinds, given)]
 
 
+PART = re.compile("[^ \t\r]+")
+
+
 def parts_of(line):
-    return [x for x in line.replace("\t", " ").replace("\r", " ").split(" ") if x]
+    return PART.findall(line)
 
 
 def answer(line):
@@ -1514,6 +1663,17 @@ def check_degree(n):
     for code in triangles:
         for edge in (1, 2, 3):
             check_crossing(code, edge)
+
+
+def check_child_codes():
+    """The code of each child has the digit in addition, and the child's parent is the code."""
+    chance = random.Random(17)
+    for n, digit in itertools.product(range(DEEPEST), (0, 1, 2, 3)):
+        for code in {random_code(chance, n) for _ in range(9)}:
+            child = child_code(code, digit)
+            must(child == make_code(side_of(code), digits_of(code) + [digit]), "the child", code, digit)
+            must(parent_code(child) == code == make_code(side_of(child), digits_of(child)[:-1]), "its parent", child)
+    must(all(parent_code(code) == code for code in whole_degree(0)), "sides")
 
 
 def search_by_determinants(n, p):
@@ -1659,6 +1819,7 @@ def internal_checks():
     must(sorted(DIRECTIONS) == sorted(ORDER) and sorted(REFUSALS) == sorted(REFUSAL_ORDER), "the tables")
     must(sorted(OPPOSITE) == sorted(OPPOSITE.values()) == sorted(ORDER), "each vertex has its opposite")
     check_signs()
+    check_child_codes()
     for n in range(WHOLE + 1):
         check_degree(n)
     check_search()
@@ -1675,6 +1836,7 @@ def internal_checks():
     check_cell_lines()
     check_mend_lines()
     check_least()
+    check_small_lines()
 
 
 # ==== Internal checks of what file and list are answered to degree 5
@@ -2282,6 +2444,7 @@ def refusal_calls():
 def good_arguments(kinds):
     good = {"CODE": "100", "NAME": "0x2000000000000001", "DEGREE": "0", "[PLACES]": "12"}
     good.update({"WEIGHTS": "1 0 0 0 0 0 0 0 0 0 0 0", "PLACES": "1", "[NUMBER]..": "1 2 3", "[CODE]..": "100"})
+    good["SMALL"] = "0x20A00000"
     return [good.get(kind, "1") for kind in kinds]
 
 
@@ -2304,6 +2467,10 @@ BAD = {"CODE": BAD_CODES, "NAME": BAD_NAMES, "X": BAD_SIGNED, "Y": BAD_SIGNED, "
 BAD.update({"PLACES": BAD_PLACES, "[NUMBER]..": BAD_SIGNED, "[CODE]..": BAD_CODES})
 BAD_LENT = BAD_NUMBERS + "65 100 256 257 320 4294967297 18446744073709551615 0x41 0x100 00065 six - #".split()
 BAD.update(dict.fromkeys(LENT_LISTS, BAD_LENT))
+BAD["SMALL"] = """
+    100 1001 20A00000 0x 0x020A00000 0x000000000 0x2050000000000000 0X20A00000 0x20A0000G 0x20A0_0000 x1 -0x1 +0x1 0x-1
+    0x20A00000, 0x20A00000. 547356672 1 0 -1 E2
+""".split()
 ONE_TOO_MANY = {"WEIGHTS": ["0"] * 5, "[NUMBER]..": ["0"] * 46}
 
 
@@ -2329,7 +2496,8 @@ UNREADABLE_AND_REFUSED = """
 def unreadable_calls():
     """Every call with arguments missing, one too many, and each argument unreadable."""
     chance = random.Random(9)
-    with_all = ("check", "check-name", "child", "file", "list", "ring", "sweep", "check-cells", "mend-cells")
+    with_all = ["check", "check-name", "child", "file", "list", "ring", "sweep", "check-cells", "mend-cells"]
+    with_all += SMALL_CALLS
     for call, (_, kinds, _) in GRID_FORMS.items():
         good = good_arguments(kinds)
         least = len(kinds) - (kinds[-1] in ("[PLACES]", "WEIGHTS", "[NUMBER]..", "[CODE].."))
@@ -2357,6 +2525,13 @@ UNKNOWN = """
     mend-cell 1 1 1 100; mend_cells 1 1 1; mendcells 1 1 1; Mend-cells 1 1 1; MEND-CELLS 1 1 1; mend-Cells; mend; mend-
     cells mend; ./cells mend; mend 1 1 1 100; mend-cells: 1 1 1; mend-cells1 1 1; mend-cellss 1 1 1; -mend-cells 1 1 1
     mend-cells\u00a01 1 1; mend-cells#; mend-list 1 1 1 100; mend-cells-1 1 1
+    Small 100; SMALL 100; smal 100; smalls 100; small100; small: 100; small-code 100; small\u00a0100; Large 0x20000000
+    larg 0x20000000; largest 0x20000000; large: 0x20000000; check_small 0x20000000; checksmall 0x20000000; check-smal
+    check-large 0x20000000; Check-small 0x20000000; check-small-name 0x20000001; small-check 0x20000000; cross-large 100
+    cross_small 0x20000000 1; cross-smal 0x20000000 1; Cross-Small 0x20000000 1; small-cross 0x20000000 1; crosssmall 1
+    file_small 2 0 0 1; filesmall 2 0 0 1; file-smal 2 0 0 1; File-small 2 0 0 1; small-file 2 0 0 1; file-large 2 0 0 1
+    list-small 2 0 0 1; name-small 0x20000000 1; parent-small 0x20A00000; child-small 0x20000000 1; ring-small 0x2000001
+    sweep-small 2 0; -small 100; small-; large-; file-; cross-; small#; large#; check-small#; 0x20A00000; harbour 100
     drawn-name 100 1; exact-name 100 1; name-; -name; name-name 1; check#; check, 100; chéck 100; check\u00a0100
     \u2003check 100; \ufeffcheck 100; φ
 """
@@ -2370,6 +2545,7 @@ def unknown_calls():
     yield from ["file 0 1 1 1\x0c", "child 100 \x001", "sweep\x002 1", "sweep\x0b2 1"]
     yield from ["check-cells\x0b100", "check-cells\x00", "\x0ccheck-cells 100", "check-cells\xff"]
     yield from ["mend-cells\x0b1 1 1", "mend-cells\x00 1 1 1", "\x0cmend-cells 1 1 1", "mend-cells\xff"]
+    yield from ["small\x0b100", "large\x000x20000000", "\x0ccheck-small 0x20000000", "cross-small\xff"]
     yield as_bytes("check 100\u00a0")
 
 
@@ -4048,7 +4224,9 @@ class Soundings:
     def __init__(self, n, numbers=None):
         self.n = n
         self.map = {}
-        self.bad = [place for place, x in enumerate(numbers or []) if x < -1 or x > 100_000]
+        self.bad = []
+        if numbers and (min(numbers) < -1 or max(numbers) > 100_000):
+            self.bad = [place for place, x in enumerate(numbers) if x < -1 or x > 100_000]
         self.right_length = numbers is None or self.has_right_length(numbers)
         if numbers and self.right_length:
             self.map = {code: x for code, x in zip(codes_of(n), numbers) if x != -1}
@@ -4064,11 +4242,11 @@ class Soundings:
         """A list of owners; `desk` has those that are not 0, as far as there are codes for them."""
         self.many_owners = len(owners)
         self.right_owners = self.has_right_length(owners)
-        self.others = [place for place, x in enumerate(owners) if x > 2]
+        self.others = [place for place, x in enumerate(owners) if x > 2] if max(owners, default=0) > 2 else []
         self.desk = {}
         if self.n <= TABLE_DEEPEST and any(owners):
             self.desk = {code: x for code, x in zip(codes_of(self.n), owners) if x}
-        kinds = {x for x in owners if x <= 2}
+        kinds = {x for x in set(owners) if x <= 2}
         self.only_kind = kinds.pop() if len(kinds) == 1 else None
 
     def lay_parents(self, kind, numbers):
@@ -4793,7 +4971,7 @@ def cell_form(chance, word):
     """As document 01 writes it, if it can be read so, or as a word; else as a word, also without the zeros at its
     beginning."""
     text, words = triangle_text(word), [f"0x{word:016X}", f"0x{word:016x}"]
-    return chance.choice([text, text, *words] if read_triangle(text) == word else [*words, f"0x{word:x}"])
+    return chance.choice([text, text, *words] if shortest_form(word) == text else [*words, f"0x{word:x}"])
 
 
 def cells_line(chance, words):
@@ -5134,6 +5312,7 @@ def several_offences():
 # ==== The calls: lists of cells as long as a line, lines that cannot be read, and lines that can, just
 
 
+@lru_cache(maxsize=1 << 14)
 def shortest_form(word):
     text = triangle_text(word)
     return text if read_triangle(text) == word else f"0x{word:x}"
@@ -5281,6 +5460,12 @@ def is_inside(code, other):
     return length < len(path(code)) and path(code)[:length] == path(other)
 
 
+def inside_others(codes):
+    """Those that are inside another one: as written, that one is the beginning of them, but not all."""
+    texts = tuple(map(triangle_text, codes))
+    return {code for code, text in zip(codes, texts) if text[:-1].startswith(texts)}
+
+
 def corners_inside(code, other):
     """Another triangle, that holds all three corners of the code's."""
     three = [exact(p) for p in corners(code)]
@@ -5288,10 +5473,11 @@ def corners_inside(code, other):
 
 
 def check_pair(x, y):
-    """The order in two ways; and inside in three."""
+    """The order in two ways; and inside in four."""
     must((path(x) < path(y)) == (aligned(x) < aligned(y)), "the order", x, y)
     must((path(x) == path(y)) == (aligned(x) == aligned(y)) == (x == y), "equal", x, y)
     must((path(x) in paths_above(y)) == is_inside(y, x) == (x in climbed(y)), "inside", x, y)
+    must(inside_others([x, y]) == when(x, is_inside(x, y)) | when(y, is_inside(y, x)), "inside another", x, y)
     # Document 01: "codes of one degree being compared as 64-bit words"
     must(degree_of(x) != degree_of(y) or (path(x) < path(y)) == (x < y), "codes of one degree", x, y)
 
@@ -5333,7 +5519,7 @@ def three_hold(words):
     there = set(words)
     apart = all(there.isdisjoint(climbed(code)) for code in words)
     if len(words) <= LITERAL_CELLS:
-        must(apart == (not any(is_inside(x, y) for x, y in itertools.permutations(words, 2))), "inside another", words)
+        must(apart == (not inside_others(words)), "inside another", words)
     return all(aligned(x) < aligned(y) for x, y in zip(words, words[1:])) and apart
 
 
@@ -5892,10 +6078,18 @@ def greatest_within(runs):
 
 @lru_cache(maxsize=None)
 def whole_below(code):
-    """The triangles of degree 5 in the code's, which is of degree 5 at most."""
+    """The triangles of degree 5 in the code's, which is of degree 5 at most: a bit for each of the 1,024 on a side."""
     if degree_of(code) == WHOLE:
-        return frozenset([code])
-    return frozenset().union(*map(whole_below, child_codes(code)))
+        return 1 << place_of(code) % 1024
+    return reduce(operator.or_, map(whole_below, child_codes(code)))
+
+
+def whole_covered(codes):
+    """The triangles of degree 5 in all of these, by side."""
+    found = dict.fromkeys(SIDES, 0)
+    for code in codes:
+        found[side_of(code)] |= whole_below(code)
+    return found
 
 
 def check_covered(valid, codes):
@@ -5905,8 +6099,7 @@ def check_covered(valid, codes):
     must(covered(codes) == runs, "covers the same", valid, codes)
     must(greatest_within(runs) == codes, "the greatest triangles", valid, codes)
     if all(degree_of(code) <= WHOLE for code in valid):
-        of_five = [set().union(*map(whole_below, some)) for some in (valid, codes)]
-        must(of_five[0] == of_five[1], "covers the same triangles of degree 5", valid, codes)
+        must(whole_covered(valid) == whole_covered(codes), "covers the same triangles of degree 5", valid, codes)
 
 
 def all_inside(valid):
@@ -5919,7 +6112,7 @@ def all_inside(valid):
             found.add(code)
         furthest = max(furthest, end)
     if len(valid) <= LITERAL_CELLS:
-        must(found == {x for x in valid if any(is_inside(x, y) for y in valid)}, "inside another", valid)
+        must(found == inside_others(valid), "inside another", valid)
     return found
 
 
@@ -6124,6 +6317,489 @@ def check_least():
             must(both[0] == both[1] and len(codes) == least[both[0]], "no shorter list", words, codes)
 
 
+# ==== The calls: small words, examples with the answers written out by hand
+
+SMALL_CALLS = ["small", "large", "check-small", "cross-small", "file-small"]
+# In bits 1001 is 001 0 0 0001 01 and zeros; 10003 is 001 0 0 0010 00 11 and zeros; 511 with eleven digits 3 is
+# 101 1 1 1011, 22 ones and the zero bit. The examples of docs/CONSOLE.md and E3 to E10 are among them.
+SMALL_TEXT = """
+    small 1001 -> 1001 0x20A00000
+    large 0x20A00000 -> 1001 0x2050000000000000
+    cross-small 0x20A00000 2 -> 2001 0x40A00000 edge 3 corners 1 2
+    file-small 2 0 0 1 -> 10003 0x21180000
+    check-small 0x20A00001 -> refused 31
+    small 100000000000000 -> refused 30
+    check-small 0x20A00000 -> ok
+    small 100 -> 100 0x20000000
+    large 0x20000000 -> 100 0x2000000000000000
+    small 511 -> 511 0xB8000000
+    small 10003 -> 10003 0x21180000
+    small 0x208C000000000000 -> 10003 0x21180000
+    large 0x21180000 -> 10003 0x208C000000000000
+    small 51133333333333 -> 51133333333333 0xBDFFFFFE
+    large 0xBDFFFFFE -> 51133333333333 0xBAFFFFFF00000000
+    large 0xBDFFFFFF -> refused 31
+    check-small 0xBDFFFFFE -> ok
+    small 511333333333333 -> refused 30
+    small 511333333333333333333333333 -> refused 30
+    small 0x2640000000000000 -> refused 1
+    small 0xC640000000000001 -> refused 1
+    small 0x2600000000000000 -> refused 30
+    small 0xC300000000000001 -> refused 30
+    small 0x2300000000000040 -> refused 30
+    small 0x2300000000000001 -> refused 30
+    small 0xC2C0000000000041 -> refused 2
+    small 000 -> refused 2
+    small 0x0 -> refused 2
+    small 0x20A00000 -> refused 2
+    small 0x2010000000000001 -> refused 3
+    small 0x22C0000000000041 -> refused 3
+    small 0x2050000000000001 -> refused 4
+    small 0x2050000000000004 -> refused 4
+    check-small 0x0 -> refused 2
+    check-small 0x1 -> refused 2
+    check-small 0xC0000000 -> refused 2
+    check-small 0xE0000000 -> refused 2
+    check-small 0xFFFFFFFF -> refused 30
+    check-small 0x25800000 -> ok
+    check-small 0x26000000 -> refused 30
+    check-small 0x27800000 -> refused 30
+    check-small 0x06000000 -> refused 30
+    check-small 0x26000001 -> refused 30
+    check-small 0x00200001 -> refused 2
+    check-small 0x20200000 -> refused 3
+    check-small 0x20000002 -> refused 3
+    check-small 0x25000002 -> refused 3
+    check-small 0x25000008 -> ok
+    check-small 0x20000003 -> refused 3
+    check-small 0x25800001 -> refused 31
+    large 0x26000001 -> refused 30
+    large 0x00000001 -> refused 2
+    large 0x20000003 -> refused 3
+    cross-small 0x20C00000 1 -> 1013 0x28E00000 edge 1 corners 3 2
+    cross-small 0x28A00000 2 -> 5113 0xB8E00000 edge 2 corners 3 1
+    cross-small 0x20000000 3 -> 500 0xA0000000 edge 2 corners 1 3
+    cross-small 0x25AAAAAA 3 -> 50011111111111 0xA5AAAAAA edge 2 corners 1 3
+    cross-small 0x20A00000 0 -> refused 5
+    cross-small 0x20A00000 4 -> refused 5
+    cross-small 0x20A00000 257 -> refused 5
+    cross-small 0x20A00001 0 -> refused 31
+    cross-small 0x20200001 0 -> refused 3
+    cross-small 0x00A00001 0 -> refused 2
+    cross-small 0x26000001 4 -> refused 30
+    file-small 3 1 1 1 -> 200000 0x41800000
+    file-small 3 -1 -1 -1 -> 410000 0x91800000
+    file-small 2 1 0 0 -> 11102 0x39100000
+    file-small 2 0 0 -1 -> 21003 0x51180000
+    file-small 0 0 0 1 -> 100 0x20000000
+    file-small 11 0 0 1 -> 10003333333333 0x259FFFFE
+    file-small 11 0 0 0 -> refused 7
+    file-small 11 0 -1000000001 0 -> refused 8
+    file-small 12 0 0 1 -> refused 30
+    file-small 12 0 0 0 -> refused 30
+    file-small 24 1000000001 0 0 -> refused 30
+    file-small 25 0 0 0 -> refused 1
+    file-small 4294967298 0 0 1 -> refused 1
+    file-small 18446744073709551615 0 0 1 -> refused 1
+"""
+
+
+def small_example(line):
+    """A line, and its answer with the refusal in words."""
+    call, text = line.strip().split(" -> ")
+    return call, refused(int(text.split()[1])) if text.startswith("refused ") else text
+
+
+SMALL_EXAMPLES = dict(map(small_example, SMALL_TEXT.strip().split("\n")))
+
+
+# ==== The calls: small words of every code to degree 4, and of some below
+
+SMALL_WHOLE = 4
+
+
+def small_word(small, at):
+    """In upper or lower case."""
+    return f"0x{small:08{'Xx'[at % 2]}}"
+
+
+def some_small(chance, small):
+    # "0x and 1 to 8 hexadecimal digits, either case"
+    return chance.choice([f"0x{small:08X}", f"0x{small:08x}", f"0x{small:X}"])
+
+
+def every_small():
+    """Every code to degree 4 is written small, checked as a small word, and read back."""
+    for n in range(SMALL_WHOLE + 1):
+        for at, code in enumerate(whole_degree(n)):
+            small = small_word(small_of(code), at)
+            yield from (f"small {some_form(code, at)}", f"check-small {small}", f"large {small}")
+
+
+def small_crossings():
+    """Every code to degree 3, over each edge, and a share of degree 4."""
+    codes = flat(map(whole_degree, range(FULL + 1)))
+    codes += random.Random(141).sample(list(whole_degree(SMALL_WHOLE)), 150)
+    for at, code in enumerate(codes):
+        yield from (f"cross-small {small_word(small_of(code), at)} {edge}" for edge in (1, 2, 3))
+
+
+def deep_smalls():
+    """Degrees 5 to 11; and 12 to 24, which no small word has."""
+    chance = random.Random(142)
+    for n in range(WHOLE, DEEPEST + 1):
+        for at in range(9 if n <= SMALL_DEEPEST else 6):
+            code = (random_code, random_code, seam_code)[at % 3](chance, n)
+            yield f"small {some_form(code, at)}"
+            if n <= SMALL_DEEPEST:
+                small = some_small(chance, small_of(code))
+                yield from (f"check-small {small}", f"large {small}")
+                yield from (f"cross-small {small} {edge}" for edge in (1, 2, 3))
+
+
+# ==== The calls: small words that are refused
+
+
+def break_small_degree(small, chance):
+    return small & ~(15 << 23) | chance.randint(12, 15) << 23
+
+
+def break_small_a(small, chance):
+    return small & ~(7 << 29) | chance.choice([0, 6, 7]) << 29
+
+
+def break_small_digit(small, chance):
+    """A digit beyond the degree, the next one or the last one among them."""
+    beyond = range(small_fields(small).degree, 11)
+    if not beyond:
+        return small
+    place = chance.choice([beyond[0], beyond[-1], chance.choice(beyond)])
+    return small | chance.randrange(1, 4) << (21 - 2 * place)
+
+
+def break_last_bit(small, chance):
+    return small | 1
+
+
+SMALL_BREAKS = [break_small_degree, break_small_a, break_small_digit, break_last_bit]
+
+
+def damaged_small_fields(small):
+    """Each value that a field must not have, alone."""
+    yield from (small & ~(15 << 23) | n << 23 for n in range(12, 16))
+    yield from (small & ~(7 << 29) | a << 29 for a in (0, 6, 7))
+    for place in range(small_fields(small).degree, 11):
+        yield from (small | digit << (21 - 2 * place) for digit in (1, 2, 3))
+    yield small | 1
+
+
+def bounds_of_fields():
+    """Small words and words without digits, with each a and degree about a bound, and with the last bit set or not."""
+    for a, n, last in itertools.product((0, 1, 5, 6, 7), (0, 1, 10, 11, 12, 13, 14, 15), (0, 1)):
+        yield a << 29 | n << 23 | last, None
+    for a, n, last in itertools.product((0, 1, 5, 6, 7), (0, 1, 10, 11, 12, 13, 15, 16, 23, 24, 25, 26, 31), (0, 1)):
+        yield None, a << 61 | n << 54 | last
+
+
+def any_small_crossing(chance, small, edges=(1, 2, 3)):
+    return f"cross-small {some_small(chance, small)} {chance.choice(edges)}"
+
+
+def small_calls(chance, small):
+    """The three calls on a small word."""
+    yield from (f"{call} {some_small(chance, small)}" for call in ("check-small", "large"))
+    yield any_small_crossing(chance, small)
+
+
+def two_small_calls(chance, small):
+    """Checked; and read, or crossed over an edge."""
+    few = list(small_calls(chance, small))
+    yield from (few[0], chance.choice(few[1:]))
+
+
+def turned_small_bits():
+    """Small words with each of the 32 bits turned over, alone."""
+    chance = random.Random(143)
+    for n in range(SMALL_DEEPEST + 1):
+        small = small_of(random_code(chance, n))
+        yield from (x for bit in range(32) for x in two_small_calls(chance, small ^ 1 << bit))
+
+
+def damaged_smalls():
+    """Each value that a field must not have; each field broken, alone and in pairs, over good edges and others; the
+    bounds of the fields; and edges outside."""
+    chance = random.Random(144)
+    for n in (0, 1, 5, 10, 11):
+        for small in damaged_small_fields(small_of(random_code(chance, n))):
+            yield from small_calls(chance, small)
+    for n in range(SMALL_DEEPEST + 1):
+        for breaks in alone_and_in_pairs(SMALL_BREAKS):
+            small = broken(small_of(random_code(chance, n)), breaks, chance)
+            yield from small_calls(chance, small)
+            yield any_small_crossing(chance, small, OUTSIDE_EDGES)
+    for small in (small for small, _ in bounds_of_fields() if small is not None):
+        yield from two_small_calls(chance, small)
+    for edge in OUTSIDE_EDGES:
+        yield any_small_crossing(chance, small_of(random_code(chance, chance.randint(0, 11))), [edge])
+
+
+def any_small_words(chance, many):
+    """The least and the greatest small words and single bits. So often any 32 bits; the same with the last bit 0; and
+    at degree 11, as a small word but for a."""
+    yield from [0, 3, 2**32 - 4, 2**32 - 3, 2**32 - 2, 2**32 - 1] + [1 << bit for bit in range(32)]
+    for _ in range(many):
+        bits = chance.getrandbits(32)
+        yield from (bits, bits & ~1, bits & ~(15 << 23 | 1) | SMALL_DEEPEST << 23)
+
+
+def any_smalls():
+    chance = random.Random(145)
+    for small in any_small_words(chance, 50):
+        yield from two_small_calls(chance, small)
+
+
+def words_to_write(chance, degrees, turned):
+    """For the writer: the bounds of the fields; codes with each value that a field must not have; at these degrees with
+    each field broken, alone and in pairs; at the others with each bit turned over; and any 64 bits."""
+    yield from (word for _, word in bounds_of_fields() if word is not None)
+    for n in (0, 11, 12, 24):
+        yield from damaged_fields(random_code(chance, n))
+    for n in degrees:
+        yield from (broken(random_code(chance, n), some, chance) for some in alone_and_in_pairs(CODE_BREAKS))
+    for n in turned:
+        code = random_code(chance, n)
+        yield from (code ^ 1 << bit for bit in range(64))
+    yield from (chance.getrandbits(64) for _ in range(50))
+
+
+def written_small():
+    chance = random.Random(146)
+    for word in words_to_write(chance, (0, 1, 4, 7, 10, 11, 12, 13, 18, 23, 24), (11, 12)):
+        yield f"small {cell_form(chance, word)}"
+
+
+# ==== The calls: directions filed small
+
+
+def directions_to_file(chance):
+    """Each direction at a degree from 0 to 11; some in the middle of triangles and on edges, of each degree to 5; and a
+    few at each degree."""
+    yield from ((chance.randint(0, SMALL_DEEPEST), d) for d in all_directions())
+    for n in range(WHOLE + 1):
+        yield from ((n, d) for d in chance.sample(list(middle_directions(n).values()), 20))
+        yield from ((n, d) for d in chance.sample(list(edge_directions(n)), 6))
+    for d in all_directions()[::45]:
+        yield from ((n, d) for n in range(DEEPEST + 1))
+
+
+SMALL_OUTSIDE = [12, 13, 15, 16, 17, 23, 24]
+
+
+def outside_to_file(chance, many):
+    """Directions at the bounds, all at degree 11, and so many at each degree that is refused."""
+    yield from ((SMALL_DEEPEST, d) for d in at_the_bounds())
+    for n in [0, *SMALL_OUTSIDE, *OUTSIDE_DEGREES, 2**32 + 11]:
+        yield from ((n, d) for d in [(0, 0, 0), (FAR + 1, 0, 0), (1, -2, 3), *chance.sample(at_the_bounds(), many)])
+
+
+def filed_small():
+    chance = random.Random(147)
+    for n, (x, y, z) in [*directions_to_file(chance), *outside_to_file(chance, 6)]:
+        yield f"file-small {n} {x} {y} {z}"
+
+
+# ==== The calls: lines with small words that cannot be read, and lines that can, just
+
+UNREADABLE_SMALLS = """
+    small; large; check-small; cross-small; file-small; small x; small 1; small 10; small 800; small 1004
+    small 0x; small 0x20500000000000000; small 100 101; small 100 1; small 0x20A00000 0x20A00000; small 100 # note
+    small 1000000000000000000000000000; small SMALL; small 2050000000000000; small 0X2050000000000000; small -100
+    large 100; large 1001; large 20A00000; large 0x; large 0x020A00000; large 0x000000000; large 0x100000000
+    large 0x2050000000000000; large 0X20A00000; large 0x20A0000G; large 0x20A00000 1; large 0x20A00000 0x20A00000
+    large 0x20A00000,; large 0x20A00000 # note; large #; large 547356672; large 0; large -0x1; large x; large SMALL
+    large 1001 0x20A00000; large 0x20a00000.; large 0x20A0 0000; large 0x0000000020A00000
+    check-small 1001; check-small 100; check-small 10003; check-small 0x; check-small 0x020A00000; check-small 20A00000
+    check-small 0x00000000020A00000; check-small 0x2050000000000000; check-small 0x100000000; check-small 0x20A00000 2
+    check-small 0x20A00000 0x20A00000; check-small 0xg; check-small 0X0; check-small 0; check-small 4294967295
+    check-small 51133333333333; check-small 100 # note; check-small CODE; check-small "0x20A00000"
+    cross-small 0x20A00000; cross-small 1001 2; cross-small 0x20A00000 x; cross-small 0x20A00000 2 3
+    cross-small 0x020A00000 2; cross-small 20A00000 2; cross-small 0x2050000000000000 2; cross-small 2 0x20A00000
+    cross-small 0x20A00000 -1; cross-small 0x20A00000 +2; cross-small 0x20A00000 2.0; cross-small 0x20A00000 0x
+    cross-small 0x20A00000 18446744073709551616; cross-small 0x20A00000 0x10000000000000000; cross-small 0x20A00000 EDGE
+    cross-small 0x20A00000 two; cross-small 0x20A00000 2 # note; cross-small 0x20A00000, 2; cross-small 0xFFFFFFFFF 0
+    cross-small 0x0 x; cross-small 0x26000000 -1; cross-small 600 4; cross-small 0x20A00000 2 16
+    file-small 2; file-small 2 0; file-small 2 0 0; file-small 2 0 0 1 4; file-small 2 0 0 1 x; file-small x 0 0 1
+    file-small -1 0 0 1; file-small 2 0 0 2147483648; file-small 2 -2147483649 0 0; file-small 2 0 0x0 1
+    file-small 2 0 +0 1; file-small 25 0 0; file-small 25 0 0 2147483648; file-small 12 0 0 x; file-small 12 0 0 0 0
+    file-small 18446744073709551616 0 0 1; file-small 0x10000000000000000 0 0 1; file-small 2 0,0,1; file-small 2 0 0 1.
+    file-small 2 0 0 1 # note; file-small DEGREE X Y Z; file-small 1001; file-small 2.0 0 0 1; file-small 2 0 0 1 6
+    small ١٠٠; large 0x٢; check-small φ; cross-small 0x20A00000 ٢; file-small 2 0 0 −1; small 100\u00a0
+    large 0x20A00000\u00a0; check-small\u0020\u00a00x20A00000; cross-small 0x20A00000\u00a02; file-small 2\u00a00 0 1
+"""
+
+
+def unreadable_smalls():
+    """What can not be read is said before any refusal."""
+    yield from written(UNREADABLE_SMALLS)
+    yield from ["small 100\x00", "large 0x20A00000\x0b", "check-small \x0c0x20A00000", "cross-small 0x20A00000 2\xff"]
+    yield from ["file-small 2 0\x0b0 1", "large 0x20A00000 \x00", filled("check-small 0x20A00000", 998) + " 1"]
+
+
+READABLE_SMALLS = """
+    large 0x20a00000; large 0xbdfffffe; large 0xBdFfFfFe; large 0x0; large 0x00; large 0x00000000; large 0x1
+    large 0x20000; large 0x0020A000; check-small 0x20a00000; check-small 0xaBcDeF01; check-small 0xABCDEF0
+    check-small 0x2; check-small 0xb8000000; check-small 0xA; check-small 0xFFFFFFFF; check-small 0xffffffff
+    check-small 0x7FFFFFFF
+    cross-small 0x20a00000 0x2; cross-small 0x20A00000 002; cross-small 0x20A00000 0x0000000000000003
+    cross-small 0x20A00000 0000000000000000000000000000000000001; cross-small 0xa5aaaaaa 0x1; cross-small 0x0 0
+    cross-small 0x20A00000 0xFFFFFFFFFFFFFFFF; cross-small 0x20A00000 018446744073709551615; cross-small 0x20A00000 0x4
+    file-small 0x2 0 0 1; file-small 0xb 0 0 1; file-small 0xB 1 2 3; file-small 0xc 0 0 1; file-small 011 0 0 1
+    file-small 012 0 0 1; file-small 0x18 0 0 1; file-small 0x19 0 0 1; file-small 2 -0 -000 0001; file-small 2 -0 0 -0
+    file-small 0000000000000000000000000011 1 1 1; file-small 2 0 -0000000002147483648 0; file-small 0x0 00 -0001 0
+    file-small 0xffffffffffffffff 0 0 0; small 0x20a00000; small 0x2050000000000000; small 0xb800000000000000; small 000
+    small 0xaBcDeF0123456789; small 711; small 6001; small 0x20000000000000; small 0x22fFfFfF00000000; small 0003
+    small 711333333333333333333333333
+"""
+
+
+def spaced_smalls():
+    """Leading zeros, either case, tabs and carriage returns, and lines of 1000 bytes and more."""
+    yield from written(READABLE_SMALLS)
+    yield from ["\tsmall\t1001\t", "large 0x20A00000\r", "  check-small   0x20A00000  ", "\rcross-small\r0x20A00000\r2"]
+    yield from ["file-small\t2\t0\t0\t1\r", " \tsmall \r 511", "check-small\r0x1", "cross-small 0x20A00000 \t 4 \r"]
+    for length in (999, 1000, 1001, 2000):
+        yield filled("small 1001", length)
+        yield filled("check-small 0x20A00000", length, "\r")
+        yield " " * (length - len("large 0x20A00000")) + "large 0x20A00000"
+        yield "cross-small 0x20A00000 " + "0" * (length - 24) + "2"
+        yield "file-small 2 0 0 " + "0" * (length - 18) + "1"
+
+
+def smalls_on_table():
+    """A call on a small word leaves the open table as it is, also one that is refused or can not be read."""
+    for line in ("table 1 80 -1 1 1250 79 0", "table 7 3 500"):
+        yield line
+        for other in ("small 1001", "large 0x20A00000", "check-small 0x20A00000", "cross-small 0x20A00000 2"):
+            yield from [other, "get 1001", "readings"]
+        for other in ("file-small 1 0 0 1", "small 100000000000000", "check-small 0x20A00001", "large 1001"):
+            yield from [other, "readings"]
+
+
+# ==== Internal checks of what is answered to small words
+
+SMALL_LINE = re.compile(rf"[ \t\r]*({'|'.join(SMALL_CALLS)})(?![^ \t\r])")
+# 1 is a word's degree or an argument's; 4 only a word has; 31 only a small word.
+SMALL_NUMBERS = {
+    "small": {1, 30, 2, 3, 4},
+    "large": {30, 2, 3, 31},
+    "check-small": {30, 2, 3, 31},
+    "cross-small": {30, 2, 3, 31, 5},
+    "file-small": {1, 30, 8, 7},
+}
+SmallSeen = namedtuple("SmallSeen", "call arguments held no")
+
+
+def shifted(code):
+    """The small word, by shifts: a, p and q as one, the degree, and the first eleven digits."""
+    return code >> 59 << 27 | degree_of(code) << 23 | (code >> 32 & 2**22 - 1) << 1
+
+
+def shifted_back(small):
+    """The word of the same fields, without the last bit."""
+    return small >> 27 << 59 | (small >> 23 & 15) << 54 | (small >> 1 & 2**22 - 1) << 32
+
+
+def small_held(call, arguments):
+    """All refusals that hold, by what holds of the word, but for slices."""
+    if call == "file-small":
+        n, *d = arguments
+        return direction_refusals(n, tuple(d)) | when(30, n in range(12, 25))
+    word = arguments[0] if call == "small" else shifted_back(arguments[0])
+    held = code_refusals(word) | when(30, 12 <= degree_of(word) <= 24)
+    if call != "small":
+        must(not held & {1, 4}, "1 and 4 come from words", arguments)
+        held |= when(31, arguments[0] % 2)
+    return held | when(5, call == "cross-small" and arguments[1] not in (1, 2, 3))
+
+
+def in_small_form(text):
+    """An answer with a code's word, with the small word in its place."""
+    code, word, *others = text.split(" ")
+    return " ".join([code, f"0x{shifted(int(word, 16)):08X}", *others])
+
+
+def small_again(call, arguments):
+    """The answer, by those of the calls on words."""
+    if call == "small":
+        (code,) = arguments
+        must(shifted(code) < 2**32 and shifted_back(shifted(code)) == code, "there and back", code)
+        return in_small_form(code_text(code))
+    if call == "file-small":
+        return in_small_form(call_file(*arguments))
+    code = shifted_back(arguments[0])
+    must(call_check(code) == "ok" and shifted(code) == arguments[0], "back and there", arguments)
+    if call == "cross-small":
+        return in_small_form(call_cross(code, arguments[1]))
+    return "ok" if call == "check-small" else code_text(code)
+
+
+def seen_small(line, text):
+    call, *words = parts_of(line)
+    arguments = read_arguments(FORMS[call][1], words)
+    held = small_held(call, arguments)
+    # "the rest as in 01, checked in its order, 30 directly after 1 and 31 directly after 4"
+    no = next((no for no in (1, 30, 2, 3, 4, 31, 5, 8, 7) if no in held), 0)
+    must(text == (f"refused {no}: {REFUSALS[no]}" if no else small_again(call, arguments)), "again", line, text)
+    return SmallSeen(call, tuple(arguments), frozenset(held), no)
+
+
+def check_small_whole(seen):
+    """Every code to degree 4 is written, checked and read, and is crossed over each edge to degree 3. Small words
+    compare as the codes of one degree do."""
+    given = {(x.call, *x.arguments) for x in seen if x.no == 0}
+    for n in range(SMALL_WHOLE + 1):
+        for code in whole_degree(n):
+            small = shifted(code)
+            must({("small", code), ("check-small", small), ("large", small)} <= given, "every code", code)
+            must(n > FULL or all(("cross-small", small, k) in given for k in (1, 2, 3)), "over each edge", code)
+    codes = {x.arguments[0] for x in seen if x.call == "small" and x.no == 0}
+    for n in range(SMALL_DEEPEST + 1):
+        here = sorted(code for code in codes if degree_of(code) == n)
+        smalls = [small_of(code) for code in here]
+        must(all(x < y for x, y in zip(smalls, smalls[1:])), "compared alike", n)
+
+
+def check_small_numbers(seen):
+    """Each refusal that a call can give is given, and no other, and each two that can hold at once do; each call is
+    answered at each degree, and each degree beyond is refused."""
+    for call, numbers in SMALL_NUMBERS.items():
+        here = [x for x in seen if x.call == call]
+        must({x.no for x in here} == numbers | {0}, "just these refusals, and answers", call)
+        at_once = {frozenset(two) for x in here for two in itertools.combinations(x.held, 2)}
+        must(at_once == together(call, numbers), "just these at once", call, at_once)
+        degree = {"small": degree_of, "file-small": int}.get(call, lambda small: small_fields(small).degree)
+        met = {(degree(x.arguments[0]), x.no) for x in here}
+        must(met >= {(n, 0) for n in range(12)}, "answered at each degree", call)
+        beyond = range(12, 25 if call in ("small", "file-small") else 16)
+        must({n for n, no in met if no == 30} == set(beyond), "refused at each degree beyond", call)
+        must(not any(no in (0, 30) for n, no in met if n > 24), "above 24", call)
+
+
+def check_smalls(calls, answers):
+    lines = [(line, text) for line, text in zip(calls, answers) if SMALL_LINE.match(line)]
+    seen = [seen_small(line, text) for line, text in lines if not text.startswith(UNREAD)]
+    check_small_whole(seen)
+    check_small_numbers(seen)
+
+
+def check_small_lines():
+    """The answers by hand. And lines that can not be read are all answered by the call's form."""
+    for line, text in SMALL_EXAMPLES.items():
+        must(answer(line) == text, "by hand", line, text, answer(line))
+    for line in unreadable_smalls():
+        must(answer(line) == "error: write it as " + FORMS[line.split(" ")[0]][0], "unreadable", line)
+
+
 # ==== Document 02, 2026-01, "Plotter host in C": the answers
 
 # "It needs check, cross, file and list as calls exported to a C host, on plain numbers and byte slices." "cross writes
@@ -6131,9 +6807,12 @@ def check_least():
 # kinds of word." Document 01: "Checking a word, as the one kind or the other, answers only its refusal number." The
 # sweep of 2026-04 writes, beside the codes, how many directions are refused and the first one's place and refusal (24).
 # tests/host/LINES.md: "check-cells writes 16 bytes of OUT, the reason and the place"; mend-cells "16 bytes of OUT, the
-# number of codes and of changes".
+# number of codes and of changes"; "small writes the small word (4 bytes of OUT), large the code (8), cross-small the
+# neighbour's small word and then the edge's number there (4 + 8 = 12 bytes; ..), file-small the small word (4);
+# check-small writes nothing".
 NEEDED = {"check-triangle": 0, "check-name": 0, "cross": 16, "file": 8, "list": 56, "sweep": 24}
 NEEDED.update({"check-cells": 16, "mend-cells": 16})
+NEEDED.update({"small": 4, "large": 8, "check-small": 0, "cross-small": 12, "file-small": 4})
 LONGEST = 64
 LONGEST_SWEEP = 384
 LONGEST_LIST = 32_800
@@ -6195,6 +6874,36 @@ def host_mend_cells(data):
     return many_refusals(len(data) // 8) | when(9, len(data) % 8 != 0), numbers
 
 
+def small_bytes(code):
+    # tests/host/LINES.md: "and write one as four bytes, the most significant first"
+    return small_of(code).to_bytes(4, "big")
+
+
+def host_small(code):
+    return writer_refusals(code), lambda: [[small_bytes(code)]]
+
+
+def host_large(small):
+    return small_refusals(small), lambda: [[code_of(small)]]
+
+
+def host_check_small(small):
+    return small_refusals(small), tuple
+
+
+def host_cross_small(small, edge):
+    # "how the corners turned is dropped, as cross does"
+    def numbers():
+        other, shared = neighbour(code_of(small), edge)
+        return [[small_bytes(other), shared]]
+
+    return small_refusals(small) | number_refusals(edge), numbers
+
+
+def host_file_small(n, *d):
+    return small_direction_refusals(n, d), lambda: [[small_bytes(min(holders(n, d)))]]
+
+
 def least_lengths(call, arguments):
     """How long each slice must be that is lent to the call, if any is."""
     # Document 02, 2026-04: "or the code list is shorter than the number of directions".
@@ -6212,9 +6921,9 @@ def slice_refusals(call, arguments, lent):
 
 
 def written_into(lent, numbers):
-    # "Answers go to lent bytes, eight for each number, most significant first". Document 01: "places after the count
-    # are unchanged".
-    answered = b"".join(number.to_bytes(8, "big") for number in numbers)
+    # "Answers go to lent bytes, eight for each number, most significant first"; a small word comes in its bytes.
+    # Document 01: "places after the count are unchanged".
+    answered = b"".join(x if isinstance(x, bytes) else x.to_bytes(8, "big") for x in numbers)
     return answered + lent[len(answered) :]
 
 
@@ -6229,6 +6938,11 @@ HOST_ANSWERS = {
     "sweep DEGREE BYTES CODES OUT": host_sweep,
     "check-cells LIST OUT": host_check_cells,
     "mend-cells LIST MENDED WORDS REASONS OUT": host_mend_cells,
+    "small CODE OUT": host_small,
+    "large SMALL OUT": host_large,
+    "check-small SMALL": host_check_small,
+    "cross-small SMALL EDGE OUT": host_cross_small,
+    "file-small DEGREE X Y Z OUT": host_file_small,
 }
 HOST_FORMS = {form.split()[0]: (form.split()[1:], call) for form, call in HOST_ANSWERS.items()}
 
@@ -6255,6 +6969,7 @@ def read_bytes(text, most):
 
 
 HOST_READERS = {"WORD": read_hex, "CODE": read_hex, "EDGE": read_decimal, "DEGREE": read_decimal, **SIGNED}
+HOST_READERS["SMALL"] = read_small
 # "at most 384 bytes"; "as BYTES is, with at most 32800 bytes"
 HOST_READERS["BYTES"] = lambda text: read_bytes(text, LONGEST_SWEEP)
 HOST_READERS["LIST"] = lambda text: read_bytes(text, LONGEST_LIST)
@@ -6518,6 +7233,56 @@ HOST_EXAMPLES = {
         "0000000000000001" * 4096,
         "00 00 00 00 00 00 00 00 00 00 00 00 00 00 10 00",
     ),
+    # The examples of the five calls on small words. 1001, and 511 with eleven digits 3.
+    "small 0x2050000000000000 5 0": "0 20a0000004",
+    "large 0x20A00000 8 0": "0 2050000000000000",
+    "cross-small 0x20A00000 2 12 0": "0 40a000000000000000000003",
+    "file-small 2 0 0 1 3 0": "9 000102",
+    "check-small 0x20A00001": "31",
+    "check-small 0x20a00000": "0",
+    "small 0x2050000000000000 4 9": "0 20a00000",
+    "small 0xbaffffff00000000 4 0": "0 bdfffffe",
+    "large 0xBDFFFFFE 9 248": answered_bytes(0, "ba ff ff ff 00 00 00 00 00"),
+    # E9 and E10; E3, also at degree 11, where ten digits 3 come after the 0. 254 and 4 is 258, and so 2.
+    "cross-small 0x20C00000 1 13 244": answered_bytes(0, "28 e0 00 00 00 00 00 00 00 00 00 01 00"),
+    "cross-small 0x28A00000 2 12 7": answered_bytes(0, "b8 e0 00 00 00 00 00 00 00 00 00 02"),
+    "file-small 2 0 0 1 5 254": "0 2118000002",
+    "file-small 11 0 0 1 4 0": "0 259ffffe",
+    # One byte less than is needed, and none.
+    "small 0x2050000000000000 3 9": "9 090a0b",
+    "small 0x2050000000000000 0 9": "9",
+    "small 0x2050000000000000 null": "9",
+    "large 0x20A00000 7 0": answered_bytes(9, COUNTED[:20]),
+    "large 0x20A00000 null": "9",
+    "cross-small 0x20A00000 2 11 0": answered_bytes(9, COUNTED[:32]),
+    "cross-small 0x20A00000 2 null": "9",
+    "file-small 2 0 0 1 0 0": "9",
+    "file-small 2 0 0 1 null": "9",
+    # "30 directly after 1 and 31 directly after 4"
+    "small 0xc640000000000041 null": "1",
+    "small 0xc300000000000041 null": "30",
+    "small 0xc050000000000041 null": "2",
+    "small 0x2050000000000041 1 5": "3 05",
+    "small 0x2050000000000001 null": "4",
+    "large 0x06000001 null": "30",
+    "large 0x00200001 2 7": "2 0708",
+    "large 0x20200001 null": "3",
+    "large 0x20A00001 null": "31",
+    "cross-small 0x06000001 0 null": "30",
+    "cross-small 0x00200001 0 null": "2",
+    "cross-small 0x20200001 0 null": "3",
+    "cross-small 0x20A00001 0 null": "31",
+    "cross-small 0x20A00000 0 1 1": "5 01",
+    "cross-small 0x20A00000 4294967298 null": "5",
+    "file-small 25 0 0 0 null": "1",
+    "file-small 4294967298 0 0 1 4 0": "1 00010203",
+    "file-small 24 1000000001 0 0 1 5": "30 05",
+    "file-small 12 0 0 0 null": "30",
+    "file-small 11 0 -1000000001 0 null": "8",
+    "file-small 11 0 0 0 null": "7",
+    "check-small 0x06000001": "30",
+    "check-small 0x0": "2",
+    "check-small 0x20000003": "3",
 }
 
 
@@ -7008,11 +7773,132 @@ def host_cells_first():
             yield " ".join(map(str, ["mend-cells", four, *flat(zip(lengths, starts))]))
 
 
+# ==== The plotter host's calls: small words
+
+HOST_SMALL_WHOLE = 2  # Every triangle to this degree is called for.
+
+
+def host_small_words():
+    """Every triangle to degree 2, and a share of degree 3: written small, checked, read back, and over the edges."""
+    starts = itertools.cycle(range(256))
+    for n in range(HOST_SMALL_WHOLE + 2):
+        for at, code in enumerate(whole_degree(n)):
+            if n <= HOST_SMALL_WHOLE or at % 4 == 1:
+                small = small_word(small_of(code), at)
+                yield f"small {word_text(code)} 4 {next(starts)}"
+                yield f"large {small} 8 {next(starts)}"
+                if n <= HOST_SMALL_WHOLE:
+                    yield f"check-small {small}"
+                for edge in (1, 2, 3) if n <= HOST_SMALL_WHOLE else (at // 4 % 3 + 1,):
+                    yield f"cross-small {small} {edge} 12 {next(starts)}"
+
+
+def host_small_crossing(chance, small, edge=None):
+    edge = chance.randint(1, 3) if edge is None else edge
+    return f"cross-small {some_small(chance, small)} {edge} {some_out(chance, 'cross-small')}"
+
+
+def host_small_calls(chance, small):
+    """The three calls on a small word."""
+    yield f"check-small {some_small(chance, small)}"
+    yield f"large {some_small(chance, small)} {some_out(chance, 'large')}"
+    yield host_small_crossing(chance, small)
+
+
+def host_two_small_calls(chance, small):
+    few = list(host_small_calls(chance, small))
+    yield from (few[0], chance.choice(few[1:]))
+
+
+def host_small_rounds():
+    """Degrees 3 to 11, over each edge too; and 12 to 24, which no small word has."""
+    chance = random.Random(151)
+    for n in range(HOST_SMALL_WHOLE + 1, DEEPEST + 1):
+        for at in range(12 if n <= SMALL_DEEPEST else 4):
+            code = (random_code, random_code, seam_code)[at % 3](chance, n)
+            yield f"small {some_word(chance, code)} {some_out(chance, 'small')}"
+            if n <= SMALL_DEEPEST:
+                small = small_of(code)
+                yield f"check-small {some_small(chance, small)}"
+                yield f"large {some_small(chance, small)} {some_out(chance, 'large')}"
+                yield from (host_small_crossing(chance, small, edge) for edge in (1, 2, 3))
+
+
+def host_turned_smalls():
+    """Small words with each of the 32 bits turned over, alone."""
+    chance = random.Random(152)
+    for n in range(SMALL_DEEPEST + 1):
+        small = small_of(random_code(chance, n))
+        yield from (x for bit in range(32) for x in host_two_small_calls(chance, small ^ 1 << bit))
+
+
+def host_damaged_smalls():
+    """Each value that a field must not have; each field broken, alone and in pairs, over good edges and others; the
+    bounds of the fields; edges outside; and any small words."""
+    chance = random.Random(153)
+    for n in (0, 5, 10, 11):
+        for small in damaged_small_fields(small_of(random_code(chance, n))):
+            yield from host_small_calls(chance, small)
+    for n in range(SMALL_DEEPEST + 1):
+        for breaks in alone_and_in_pairs(SMALL_BREAKS):
+            small = broken(small_of(random_code(chance, n)), breaks, chance)
+            yield from host_small_calls(chance, small)
+            start = f"cross-small {some_small(chance, small)} {chance.choice(OUTSIDE_EDGES)}"
+            yield from (f"{start} {x}" for x in chance.sample(tight_outs(chance, "cross-small"), 2))
+    for edge in OUTSIDE_EDGES:
+        for n in (0, 2, 11):
+            yield host_small_crossing(chance, small_of(random_code(chance, n)), edge)
+    some = [small for small, _ in bounds_of_fields() if small is not None]
+    for small in [*some, *any_small_words(chance, 40)]:
+        yield from host_two_small_calls(chance, small)
+
+
+def host_written_small():
+    chance = random.Random(154)
+    for word in words_to_write(chance, (0, 1, 5, 10, 11, 12, 13, 18, 24), (11,)):
+        yield f"small {some_word(chance, word)} {some_out(chance, 'small')}"
+
+
+def host_filed_small():
+    chance = random.Random(155)
+    for n, d in [*directions_to_file(chance), *outside_to_file(chance, 3)]:
+        yield f"file-small {n} {' '.join(map(str, d))} {some_out(chance, 'file-small')}"
+
+
+def smalls_to_lend():
+    """Answered ones, and each refusal."""
+    chance = random.Random(156)
+    for breaks in [(), *((one,) for one in CODE_BREAKS)]:
+        yield f"small {word_text(broken(random_code(chance, 7), breaks, chance))}"
+    yield f"small {word_text(random_code(chance, 12))}"
+    for breaks in [(), *((one,) for one in SMALL_BREAKS)]:
+        small = small_word(broken(small_of(random_code(chance, 7)), breaks, chance), 0)
+        yield from (f"large {small}", f"cross-small {small} {chance.randint(1, 3)}")
+    yield f"cross-small {small_word(small_of(random_code(chance, 11)), 0)} {chance.choice(OUTSIDE_EDGES)}"
+    yield from (f"file-small {x}" for x in ("11 1 2 3", "25 1 2 3", "12 1 2 3", "0 0 -1000000001 0", "11 0 0 0"))
+
+
+def host_small_slices():
+    chance = random.Random(157)
+    for call in smalls_to_lend():
+        yield from (f"{call} {out(chance, length)}" for length in range(LONGEST + 1))
+        yield f"{call} null"
+
+
+def host_small_first():
+    """Slices filled in each of the 256 ways, answered and refused."""
+    for start in range(256):
+        yield from (f"small 0x2050000000000000 {length} {start}" for length in (3, 5))
+        yield f"large 0x20A00001 9 {start}"
+        yield f"cross-small 0x20A00000 2 11 {start}"
+        yield from (f"file-small {n} 0 0 1 5 {start}" for n in (11, 12))
+
+
 # ==== Internal checks of the plotter host's answers
 
 # The rows of document 01's table that each call can give, and 02's 9. 1 to 4 are a word's, 10 a corner name's; 5 takes
 # an edge argument, and a degree argument 1; 8 and 7 are a direction's. There is no parent or child, and so no 6; there
-# are no weights to be found again, and so no 11. 32 is for lists that are mended.
+# are no weights to be found again, and so no 11. 32 is for lists that are mended, 30 and 31 are for small words.
 HOST_NUMBERS = {
     "check-triangle": {1, 2, 3, 4},
     "check-name": {1, 2, 3, 4, 10},
@@ -7022,15 +7908,18 @@ HOST_NUMBERS = {
     "sweep": {1, 9},  # 8 and 7 are told in its answer
     "check-cells": {9},
     "mend-cells": {9, 32},  # 1 to 4 are told as reason 1
+    **{call: numbers | {9} if NEEDED[call] else numbers for call, numbers in SMALL_NUMBERS.items()},
 }
 CELLS_CALLS = ("check-cells", "mend-cells")
 
 
-def together(numbers):
-    """Each two of the numbers that can hold at once. After a degree above 24 there are no digits, for 3; a word that
-    has one of 1 to 4 has no 10; and a coordinate of (0, 0, 0) is not outside, for 8."""
+def together(call, numbers):
+    """Each two of the numbers that can hold at once. After a degree above 24 there are no digits, for 3, and in a small
+    word after one above 11; it is not 12 to 24, for 30; a word that has one of 1 to 4 has no 10; and a coordinate of
+    (0, 0, 0) is not outside, for 8."""
     two = (set(x) for x in itertools.combinations(numbers, 2))
-    return {frozenset(x) for x in two if x not in ({1, 3}, {7, 8}) and 10 not in x}
+    never = [{1, 3}, {7, 8}, {1, 30}] + ([{3, 30}] if call != "small" else [])
+    return {frozenset(x) for x in two if x not in never and 10 not in x}
 
 
 def check_host_numbers(records):
@@ -7043,7 +7932,7 @@ def check_host_numbers(records):
         at_once[asked.call].update(map(frozenset, itertools.combinations(asked.refusals, 2)))
     for call, numbers in HOST_NUMBERS.items():
         must(given[call] == numbers | {0}, "just these refusals, and answers", call, given[call])
-        must(at_once[call] == together(numbers), "just these at once", call, at_once[call])
+        must(at_once[call] == together(call, numbers), "just these at once", call, at_once[call])
 
 
 def numbers_in(text):
@@ -7078,7 +7967,34 @@ def check_list_bytes(arguments, after_call):
     return 8 + 8 * count
 
 
+def check_small_bytes(arguments, after_call):
+    must(int(after_call[:8], 16) == shifted(*arguments), "the small word", arguments)
+    return 4
+
+
+def check_large_bytes(arguments, after_call):
+    must(numbers_in(after_call[:16]) == [shifted_back(*arguments)], "the code", arguments)
+    return 8
+
+
+def check_cross_small_bytes(arguments, after_call):
+    """As for cross, with the codes of the small words."""
+    small, edge = arguments
+    other = int(after_call[:8], 16)
+    must(other % 2 == 0, "the last bit", arguments, after_call)
+    check_cross_bytes([shifted_back(small), edge], f"{shifted_back(other):016x}{after_call[8:24]}")
+    return 12
+
+
+def check_file_small_bytes(arguments, after_call):
+    n, *d = arguments
+    must(int(after_call[:8], 16) == shifted(min(holders(n, tuple(d)))), "the small word", n, d)
+    return 4
+
+
 BYTE_CHECKS = {"cross": check_cross_bytes, "file": check_file_bytes, "list": check_list_bytes}
+BYTE_CHECKS.update({"small": check_small_bytes, "large": check_large_bytes})
+BYTE_CHECKS.update({"cross-small": check_cross_small_bytes, "file-small": check_file_small_bytes})
 
 
 def check_host_bytes(records):
@@ -7149,12 +8065,15 @@ def degrees_asked(asked):
     """The degree that a call is for, or those of the triangles in its list."""
     if asked.call in CELLS_CALLS:
         return set(map(degree_of, filter(is_code, numbers_in(asked.arguments[0].hex()))))
-    return {asked.arguments[0] if asked.call in ("file", "list", "sweep") else degree_of(asked.arguments[0])}
+    if asked.call in ("large", "check-small", "cross-small"):
+        return {degree_of(shifted_back(asked.arguments[0]))}
+    is_argument = asked.call in ("file", "list", "sweep", "file-small")
+    return {asked.arguments[0] if is_argument else degree_of(asked.arguments[0])}
 
 
 def check_host_degrees(records):
-    """Every call is answered at every degree; a word is refused there as not canonical; and there are crossings from
-    side to side, and within one."""
+    """Every call is answered at every degree, those on small words to degree 11; a word is refused there as not
+    canonical; and there are crossings from side to side, and within one."""
     found = set()
     for asked, text in records:
         no = text.split(" ")[0]
@@ -7163,23 +8082,34 @@ def check_host_degrees(records):
             n = degree_of(asked.arguments[0])
             found.add((n, side_of(asked.arguments[0]) == side_of(numbers_in(text[2:18])[0])))
     for n in range(DEEPEST + 1):
-        must(all((call, n, "0") in found for call in HOST_NUMBERS), "answered", n)
+        calls = [call for call in HOST_NUMBERS if n <= SMALL_DEEPEST or call not in SMALL_CALLS]
+        must(all((call, n, "0") in found for call in calls), "answered", n)
+        deep = {(call, n, "30") for call in ("small", "file-small")}
+        must(deep <= found if n > SMALL_DEEPEST else deep.isdisjoint(found), "too deep for a small word", n)
         must(("check-name", n, "10") in found, "not canonical", n)
         must((n, False) in found and ((n, True) in found) == (n > 0), "from side to side, and within one", n)
 
 
 def check_host_whole(records):
-    """Every triangle to degree 4 is checked and crossed over each edge, every word for a corner there is checked; the
-    edges and degrees outside are refused as such; and slices are filled in each of the 256 ways."""
+    """Every triangle to degree 4 is checked and crossed over each edge, every word for a corner there is checked; so
+    are the small words to degree 2, and written and read; the edges and degrees outside are refused as such; and slices
+    are filled in each of the 256 ways."""
     given = {(asked.call, *asked.arguments[:2], text.split(" ")[0]) for asked, text in records}
     for code in itertools.chain.from_iterable(map(whole_degree, range(HOST_WHOLE + 1))):
         must(("check-triangle", code, "0") in given, "every triangle", code)
         for k in (1, 2, 3):
             must(("cross", code, k, "0") in given, "over each edge", code, k)
             must(not given.isdisjoint({("check-name", code | k, no) for no in ("0", "10")}), "every word", code, k)
-    refused_as = {(call, values[-1] if call == "cross" else values[0], no) for call, *values, no in given}
-    must(refused_as >= {("cross", edge, "5") for edge in OUTSIDE_EDGES}, "the edges outside")
-    must(refused_as >= {(call, n, "1") for call in ("file", "list") for n in OUTSIDE_DEGREES}, "the degrees outside")
+    for code in itertools.chain.from_iterable(map(whole_degree, range(HOST_SMALL_WHOLE + 1))):
+        small = shifted(code)
+        calls = {("small", code, "0"), ("large", small, "0"), ("check-small", small, "0")}
+        must(calls | {("cross-small", small, k, "0") for k in (1, 2, 3)} <= given, "every small word", code)
+    crossing = ("cross", "cross-small")
+    refused_as = {(call, values[-1] if call in crossing else values[0], no) for call, *values, no in given}
+    must(refused_as >= {(call, edge, "5") for call in crossing for edge in OUTSIDE_EDGES}, "the edges outside")
+    filing = ("file", "list", "file-small")
+    must(refused_as >= {(call, n, "1") for call in filing for n in OUTSIDE_DEGREES}, "the degrees outside")
+    must(given >= {("file-small", n, 1, "30") for n in SMALL_OUTSIDE}, "the degrees outside of small words")
     filled_with = {(x.call, text[0] == "0", k, one[0]) for x, text in records for k, one in enumerate(x.lent) if one}
     slices = [(call, kind) for call, (kinds, _) in HOST_FORMS.items() for kind in kinds if kind in LENT]
     must(len(filled_with) == len(slices) * 2 * 256, "answered and refused, filled in each way")
@@ -7313,6 +8243,15 @@ def check_host_mends(calls, records):
     check_mends_met([x.mended for x in seen if x.mended], 24)
 
 
+def check_host_smalls(records):
+    """The refusals, by what holds of the word of the same fields, and 9 after all."""
+    for asked, text in (x for x in records if x[0].call in SMALL_CALLS):
+        held = small_held(asked.call, asked.arguments)
+        short = sum(map(len, asked.lent)) < NEEDED[asked.call]
+        no = next((no for no in (1, 30, 2, 3, 4, 31, 5, 8, 7) if no in held), 9 * short)
+        must(text.split(" ")[0] == str(no), "refused", asked, text)
+
+
 def check_host_examples():
     for line, text in HOST_EXAMPLES.items():
         must(host_answer(line) == text, "by hand", line, text, host_answer(line))
@@ -7328,6 +8267,7 @@ def check_host_answers(calls, records):
     check_host_sweeps(calls, records)
     check_host_cell_lists(calls, records)
     check_host_mends(calls, records)
+    check_host_smalls(records)
 
 
 # ==== The program ./sweep: docs/SWEEP.md, "Filing a file of directions"
@@ -8313,6 +9253,17 @@ SECTIONS = {
     "lists to be mended as long as a line": long_mends,
     "unreadable lists to be mended": unreadable_mends,
     "spaced lists to be mended": spaced_mends,
+    "small words, examples": SMALL_EXAMPLES.keys,
+    "small words of every code to degree 4": every_small,
+    "small words over the edges": small_crossings,
+    "small words of degrees 5 to 24": deep_smalls,
+    "small words with one bit turned over": turned_small_bits,
+    "damaged small words": damaged_smalls,
+    "any small words": any_smalls,
+    "words to be written small": written_small,
+    "directions filed small": filed_small,
+    "unreadable small words": unreadable_smalls,
+    "spaced small words": spaced_smalls,
     "the last line without a table": last_without_table,
     "no table is open": before_any_table,
     "unreadable lines on a table": unreadable_on_table,
@@ -8343,6 +9294,7 @@ SECTIONS = {
     "sweeps while a table is open": sweeps_on_table,
     "lists of cells while a table is open": cells_on_table,
     "lists to be mended while a table is open": mends_on_table,
+    "small words while a table is open": smalls_on_table,
     "full tables": full_tables,
     "the last line": last_line,
 }
@@ -8374,8 +9326,9 @@ def write_files(calls_path, answers_path):
     check_sweeps(calls, answers)
     check_cell_lists(calls, answers)
     check_mend_lists(calls, answers)
+    check_smalls(calls, answers)
     write_bytes(calls_path, "\n".join(calls))
-    write_bytes(answers_path, "".join(text + "\n" for text in answers))
+    write_bytes(answers_path, "\n".join([*answers, ""]))
 
 
 def answer_input(answer_line):
@@ -8415,12 +9368,21 @@ HOST_SECTIONS = {
     "lists to be mended that are refused": host_mend_refusals,
     "the longest lists to be mended": host_long_mends,
     "lists of cells and slices filled in every way": host_cells_first,
+    "small words to degree 3": host_small_words,
+    "small words of degrees 3 to 24": host_small_rounds,
+    "small words with one bit turned over": host_turned_smalls,
+    "damaged and any small words": host_damaged_smalls,
+    "words to be written small": host_written_small,
+    "directions filed small": host_filed_small,
+    "small words and slices of every length": host_small_slices,
+    "small words and slices filled in every way": host_small_first,
 }
 
 
 def write_host_files(calls_path, answers_path):
     # The holders are searched as for the console, whose internal checks compare the two ways of searching them.
     check_signs()
+    check_child_codes()
     for n in range(HOST_WHOLE + 1):
         check_degree(n)
     check_search()
@@ -8429,8 +9391,8 @@ def write_host_files(calls_path, answers_path):
     calls = calls_of(HOST_SECTIONS)
     records = [(asked, host_text(asked)) for asked in map(read_host_line, calls)]
     check_host_answers(calls, records)
-    write_bytes(calls_path, "".join(line + "\n" for line in calls))
-    write_bytes(answers_path, "".join(text + "\n" for _, text in records))
+    write_bytes(calls_path, "\n".join([*calls, ""]))
+    write_bytes(answers_path, "\n".join([*(text for _, text in records), ""]))
 
 
 # ==== Writing the cases of ./sweep
@@ -8480,6 +9442,7 @@ def write_cells_cases(folder):
 
 
 if __name__ == "__main__":
+    gc.disable()  # There is next to nothing to be found: all that is made here is freed by its count, or stays.
     if sys.argv[1:] == ["--answer"]:
         answer_input(answer)
     elif sys.argv[1:] == ["--host-answer"]:

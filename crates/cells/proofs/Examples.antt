@@ -1,7 +1,6 @@
 -- The examples by computation. Assumes nothing.
-use mathlib.Core.Path.{_≡_, refl, ap, sym, _∙_}
+use mathlib.Core.Path.{_≡_, refl, ap}
 use mathlib.Core.Bool.{false}
-use mathlib.Core.List.{[], _∷_, _++_}
 use Prim.Native.Nat.{ℕ}
 use lib.Dec.{eqb, lit<}
 use borrow.Author.Tests.{eqb-false}
@@ -16,7 +15,8 @@ use Rattle.cells.specs.Examples.{Examples, Orders, Mistakes}
 use Rattle.cells.specs.declared.Verdict.{Verdict}
 
 pub examples : Examples
-unfolding firstOf some firstPlace below firstDigits path wordIn checkCode decimals written spelled sooner begins lessThan
+unfolding firstOf some firstPlace below firstDigits path wordIn checkCode decimals written spelled sooner begins
+    lessThan
     insideOf reasonAt checked
 examples = record {
   tree = refl;
@@ -58,7 +58,8 @@ place : Verdict → ℕ
 place r = r .place
 
 pub mistakes : Mistakes
-unfolding firstOf some firstPlace below firstDigits path wordIn checkCode decimals written spelled sooner begins lessThan
+unfolding firstOf some firstPlace below firstDigits path wordIn checkCode decimals written spelled sooner begins
+    lessThan
     insideOf reasonAt checked reason place
 mistakes = record {
   as-numbers = differ reason refl;

@@ -1,7 +1,7 @@
 -- Why one pass is enough: after places that offend in nothing, the reach of the word before decides. And the reach as
 -- it is computed. Assumes nothing.
 use mathlib.Core.Path.{_≡_, _∙_, refl, sym, ap}
-use mathlib.Core.Bool.{Bool, true, false, not}
+use mathlib.Core.Bool.{Bool, true, false}
 use mathlib.Core.Logic.{_⊎_, inl, inr, ⊎-elim}
 use mathlib.Core.List.{List, [], _∷_}
 use Prim.Native.Nat.{ℕ, zero, suc, _+_, _-_, _*_, _%_, _^_, _≤_, _<_}
@@ -21,7 +21,7 @@ use Rattle.words.proofs.WordLayout.{side-top, tail-is}
 use Rattle.words.proofs.Digits.{digits-are, path-lt, large-roomy}
 use Rattle.words.proofs.Codes.{code-side, code-word}
 use Rattle.cells.specs.Order.{valid, lessThan, insideOf}
-use Rattle.cells.specs.Checking.{reasonAt, offends, verdict, accepted, checked}
+use Rattle.cells.specs.Checking.{reasonAt, verdict, accepted, checked}
 use Rattle.cells.specs.Means.Ranks.{start, width, rank, end, reach, reachBefore, reasonBy, reasonAfter}
 use Rattle.cells.specs.Means.Ranks.{ClearTo}
 use Rattle.cells.specs.declared.Reach.{Reach}

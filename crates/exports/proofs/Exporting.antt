@@ -1,5 +1,6 @@
--- An exported call over one of the grid: what it returns, that there is one answer, and what a host reads. The call
--- refuses f; the exported call refuses f and then a slice of less than `least` bytes, g in all. Assumes nothing.
+-- An exported call over a call of the grid or of the harbour: what it returns, that there is one answer, what a host
+-- reads. The call refuses f; the exported call refuses f and then a slice of less than `least` bytes, g in all. Assumes
+-- nothing.
 use mathlib.Core.Path.{_≡_, _∙_, refl, sym, ap}
 use mathlib.Core.Logic.{⊎-elim}
 use mathlib.Core.List.{List}
@@ -61,15 +62,15 @@ module _ (laid : List ℕ → List ℕ) {f g least : ℕ} (Good : List ℕ → T
         ((0, over (laid (m .0)) out), record { numbers = m .0; good = m .1; answered = refl; put = refl })))
         exported-one
 
-    -- ---- what a host has, where the call answers the numbers ms
+    -- ---- what a host has, where the call refuses k and answers the numbers ms
 
-    pub delivered : {r : ℕ} {new : List ℕ} (ms : List ℕ) → (f ≡ 0 → Good ms) → ExportedAs laid g Good out r new
-        → Delivered f (laid ms) least out r new
-    delivered {r} {new} ms good p =
+    pub delivered : {k r : ℕ} {new : List ℕ} (ms : List ℕ) → k ≡ f → (f ≡ 0 → Good ms)
+        → ExportedAs laid g Good out r new → Delivered k (laid ms) least out r new
+    delivered {k} {r} {new} ms own good p =
         record {
-          refused = λ some. number ∙ sym (nine .first refl some);
-          short = λ z l. number ∙ sym (nine .nine z l);
-          answered = λ z l. number ∙ nine .passes .1 (z, l);
+          refused = λ some. number ∙ sym (nine .first own some);
+          short = λ z l. number ∙ sym (nine .nine (sym own ∙ z) l);
+          answered = λ z l. number ∙ nine .passes .1 (sym own ∙ z, l);
           written = λ e.
               let z = sym number ∙ e in
               let s = p .answered z in
@@ -80,6 +81,11 @@ module _ (laid : List ℕ → List ℕ) {f g least : ℕ} (Good : List ℕ → T
       where
         number : r ≡ g
         number = number-is (λ (x : ℕ × List ℕ). x .0) refl (λ x s. s .answered) p
+
+-- a call that is answered was not refused
+pub delivered-passed : {f least : ℕ} {bs out : List ℕ} {r : ℕ} {new : List ℕ} → Delivered f bs least out r new → r ≡ 0
+    → f ≡ 0
+delivered-passed {f} d e = ⊎-elim (λ z. z) (λ some. sym (d .refused some) ∙ e) (answers-or-not f)
 
 -- ---- what a host reads, eight bytes for each number
 
@@ -96,7 +102,7 @@ hosted {f} {least} {ms} {out} {r} {new} d fitting =
       short = d .short;
       answered = d .answered;
       reads = λ e i j. ap (λ (x : List ℕ). numberAt 8 x i) (d .written e)
-          ∙ number-at 8 ms (drop (length (bytes 8 ms)) out) i j (fitting (passed e) .1 i j);
+          ∙ number-at 8 ms (drop (length (bytes 8 ms)) out) i j (fitting (delivered-passed d e) .1 i j);
       later = ⊎-elim (λ e. ap (drop (8 * length ms)) (d .written e) ∙ after-bytes 8 ms out)
           (λ some. ap (drop (8 * length ms)) (d .kept some)) (answers-or-not r);
       kept = d .kept;
@@ -104,10 +110,9 @@ hosted {f} {least} {ms} {out} {r} {new} d fitting =
           (answers-or-not r);
     }
   where
-    -- a call that is answered was not refused, and had bytes enough
-    passed : r ≡ 0 → f ≡ 0
-    passed e = ⊎-elim (λ z. z) (λ some. sym (d .refused some) ∙ e) (answers-or-not f)
-
+    -- it had bytes enough
     enough : r ≡ 0 → 8 * length ms ≤ length out
-    enough e = ⊎-elim (λ l. omega (arith, l, fitting (passed e) .0)) (λ l. absurd (omega (arith, e, d .short (passed e) l)))
+    enough e =
+        let z = delivered-passed d e in
+        ⊎-elim (λ l. omega (arith, l, fitting z .0)) (λ l. absurd (omega (arith, e, d .short z l)))
         (le-or-lt least (length out))

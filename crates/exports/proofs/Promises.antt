@@ -106,25 +106,25 @@ crossed : (t : TriangleCode) (k : ℕ) (a : StepAnswer) (out : List ℕ) (r : �
     → CrossAnswer t k a → CrossBytes t k out r new
     → Hosted (a .refusal) (a .code .0 ∷ a .edge ∷ []) 16 out r new
 crossed t k a out r new p q =
-    subst (λ (f : ℕ). Hosted f (a .code .0 ∷ a .edge ∷ []) 16 out r new) (sym (cross-number t k out p))
-    (hosted (delivered (bytes 8) (CodeAndEdge t k) out (cross-nine t k out) (cross-same t k) _ (cross-numbers t k out p) q)
-    (λ z. cross-fits t k z (cross-numbers t k out p z)))
+    let good = cross-numbers t k out p in
+    hosted (delivered (bytes 8) (CodeAndEdge t k) out (cross-nine t k out) (cross-same t k) _ (cross-number t k out p)
+    good q) (λ z. let z′ = sym (cross-number t k out p) ∙ z in cross-fits t k z′ (good z′))
 
 filed : (n : ℕ) (d : Direction) (a : CodeAnswer) (out : List ℕ) (r : ℕ) (new : List ℕ) → FileAnswer n d a
     → FileBytes n d out r new → Hosted (a .refusal) (a .code .0 ∷ []) 8 out r new
 filed n d a out r new p q =
-    subst (λ (f : ℕ). Hosted f (a .code .0 ∷ []) 8 out r new) (sym (file-number n d out p))
-    (hosted (delivered (bytes 8) (FiledCode n d) out (file-nine n d out) (λ z. file-same n d) _ (file-numbers n d out p) q)
-    (λ z. file-fits n d (file-numbers n d out p z)))
+    let good = file-numbers n d out p in
+    hosted (delivered (bytes 8) (FiledCode n d) out (file-nine n d out) (λ z. file-same n d) _ (file-number n d out p)
+    good q) (λ z. file-fits n d (good (sym (file-number n d out p) ∙ z)))
 
 listed : (n : ℕ) (d : Direction) (places left : List ℕ) (a : CountAnswer) (out : List ℕ) (r : ℕ)
     (new : List ℕ) → 6 ≤ length places → ListAnswer n d places a left → ListBytes n d out r new
     → Hosted (a .refusal) (a .count ∷ take (a .count) left) 56 out r new
 listed n d places left a out r new six p q =
-    subst (λ (f : ℕ). Hosted f (a .count ∷ take (a .count) left) 56 out r new)
-    (sym (list-number n d out places left six p))
-    (hosted (delivered (bytes 8) (CountAndCodes n d) out (list-nine n d out) (λ z. list-same n d) _
-    (list-numbers n d out places left six p) q) (λ z. list-fits n d z (list-numbers n d out places left six p z)))
+    let own = list-number n d out places left six p in
+    let good = list-numbers n d out places left six p in
+    hosted (delivered (bytes 8) (CountAndCodes n d) out (list-nine n d out) (λ z. list-same n d) _ own good q)
+    (λ z. let z′ = sym own ∙ z in list-fits n d z′ (good z′))
 
 pub as-the-grid : AsTheGrid
 as-the-grid = record { cross = crossed; file = filed; list = listed }

@@ -3,7 +3,6 @@ use mathlib.Core.Path.{_≡_, sym, _∙_, ap, subst}
 use mathlib.Core.Logic.{_↔_}
 use mathlib.Core.List.{List, []}
 use Prim.Native.Nat.{ℕ, _*_, _^_, _≤_, _<_}
-use native.Mathlib.Omega.{arith}
 use Rattle.words.specs.Words.{degreeOf, digits, path, sideOf, wordOf}
 use Rattle.words.specs.Family.{codeOf}
 use Rattle.words.specs.Refusals.{IsCode}

@@ -16,8 +16,8 @@ use Rattle.grid.specs.Examples.{Bounds}
 
 pub bounds : Bounds
 unfolding firstOf checkCode refuseParent refuseChild checkName lesserHas placeOf codeAt refuseNumbered refuseWeights
-    refuseNameWeights refuseBack refuseRing refuseFile refuseList decimals written path wordIn firstDigits corner cornerOf
-    triangleAt unitAt cornerVertex sum
+    refuseNameWeights refuseBack refuseRing refuseFile refuseList decimals written path wordIn firstDigits corner
+    cornerOf triangleAt unitAt cornerVertex sum
 bounds = record {
   word-0 = refl;
   word-0-name = refl;

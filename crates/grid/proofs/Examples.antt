@@ -74,7 +74,8 @@ deeper-41 = ticks-test _ _ (tt, tt) (tt, tt) (tt, tt)
 -- ---- E1 to E12
 
 pub examples : Examples
-unfolding firstOf refuseFile refuseNumbered refuseBack decimals written path wordIn firstDigits corner cornerOf triangleAt
+unfolding firstOf refuseFile refuseNumbered refuseBack decimals written path wordIn firstDigits corner cornerOf
+    triangleAt
     unitAt cornerVertex sum stepOf cross seamSide seamKept around wordAt nameAt leastName leastFrom first holds nonNeg
     sideDets determinants replaced determinant exact _+φ_ negφ _*φ_ descent leastChild allWords sideWords joined
     holders

@@ -112,7 +112,8 @@ filed-side n d t l z a =
     let e : t ≡ codeOf (wordOf (leastFrom d 4) n v) = filed-once (a .answered z .is) (found-code n d l) in
     let k : 0 + n ≡ n = omega arith in
     ap (λ (t : TriangleCode). sideOf (t .0)) e
-    ∙ side-is large large-roomy (leastFrom d 4) n v l (rw k at (descent-low n (sideDets d (leastFrom d 4)) 0 0 (omega arith)))
+    ∙ side-is large large-roomy (leastFrom d 4) n v l
+    (rw k at (descent-low n (sideDets d (leastFrom d 4)) 0 0 (omega arith)))
 
 -- (1, 1, 1) and (-1, -1, -1) lie in different sides
 abbrev there : Direction
@@ -157,7 +158,8 @@ fixed-name n q l f =
 -- ---- all of them
 
 pub mistakes : Mistakes
-unfolding firstOf refuseNumbered refuseBack checkCode decimals written path wordIn firstDigits corner cornerOf triangleAt
+unfolding firstOf refuseNumbered refuseBack checkCode decimals written path wordIn firstDigits corner cornerOf
+    triangleAt
     unitAt cornerVertex sum stepOf cross seamSide seamKept leastFrom first holds nonNeg sideDets determinants replaced
     determinant exact _+φ_ negφ _*φ_ descent leastChild refuseFile
 mistakes = record {

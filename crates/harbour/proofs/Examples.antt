@@ -1,6 +1,5 @@
 -- The examples of specs/Examples.antt, by computing; crossing and filing by document 01's own. Assumes nothing.
 use mathlib.Core.Path.{refl}
-use Prim.Native.Nat.{ℕ, suc}
 use native.Mathlib.Omega.{arith}
 use lib.Dec.{eqb·suc-zero}
 use lib.IntN.{pos}
@@ -55,7 +54,8 @@ examples = record {
   e3 = files;
   no-edge = keeps-gives (one-answer .cross (smallCode 0x20A00000) 4) (refusing {k = 5} refl (λ e. omega (arith, e)));
   nowhere =
-      keeps-gives (one-answer .file 2 (towards (pos 0) (pos 0) (pos 0))) (refusing {k = 7} refl (λ e. omega (arith, e)));
+      keeps-gives (one-answer .file 2 (towards (pos 0) (pos 0) (pos 0)))
+      (refusing {k = 7} refl (λ e. omega (arith, e)));
 }
 
 pub bounds : Bounds
@@ -86,6 +86,7 @@ bounds = record {
   order-30-2 = refl;
   order-30-4 = refl;
   order-2-3 = refl;
+  order-3-4 = refl;
   order-3-31 = refl;
   order-31-5 = refl;
   order-30-8 = refl;

@@ -1,14 +1,13 @@
 -- The calls on the small form beside the large ones: they refuse the same once the word, or the degree, has passed, and
 -- what the large ones answer has a small form. Assumes nothing.
-use mathlib.Core.Path.{_≡_, _∙_, refl, sym, ap}
+use mathlib.Core.Path.{_≡_, _∙_, refl, sym}
 use mathlib.Core.List.{_++_}
 use Prim.Native.Nat.{ℕ, _≤_}
 use native.Mathlib.Omega.{arith}
 use borrow.Author.Tests.{le-ltb}
 use Rattle.frame.specs.Refusals.{firstOf, order}
-use Rattle.frame.proofs.Refusing.{_or_, inTurn, none-so, none-after, refusal-append}
+use Rattle.frame.proofs.Refusing.{none-so, none-after, refuse-rest}
 use Rattle.frame.proofs.Answering.{number-is}
-use Rattle.words.specs.Forms.{degreeIn}
 use Rattle.words.specs.Refusals.{checkCode, codeRows, degreeRows}
 use Rattle.words.specs.declared.CodeAnswer.{CodeAnswer}
 use Rattle.net.specs.Refusals.{oneToThreeRows}
@@ -36,10 +35,8 @@ module _ (s : SmallCode) (k : ℕ) where
     pub cross-same : refuseNumbered (largeOf s) k ≡ refuseSmallCross s k
     unfolding refuseSmallCross checkSmall refuseNumbered checkCode
     cross-same =
-        let passes = large-code s h .passes in
-        refusal-append order order (codeRows (largeOf s)) (oneToThreeRows k) tt tt
-        ∙ (λ i. (passes ∙ sym h) i or inTurn (oneToThreeRows k))
-        ∙ sym (refusal-append harbourOrder harbourOrder (smallRows s) (oneToThreeRows k) tt tt)
+        sym (refuse-rest order order order (codeRows (largeOf s)) (oneToThreeRows k) tt tt tt (large-code s h .passes))
+        ∙ refuse-rest harbourOrder order harbourOrder (smallRows s) (oneToThreeRows k) tt tt tt h
 
     pub cross-number : (a : StepAnswer) → CrossAnswer (largeOf s) k a → a .refusal ≡ refuseSmallCross s k
     cross-number a x = number-is (λ (r : StepAnswer). r .refusal) refl (λ r g. g .number) x ∙ cross-same
@@ -60,11 +57,10 @@ module _ (n : ℕ) (d : Direction) where
     pub file-same : refuseFile n d ≡ refuseSmallFile n d
     unfolding refuseSmallFile refuseFile
     file-same =
-        let l = le-ltb 24 n (omega arith) in
-        let a : firstOf order (degreeRows n) ≡ 0 = none-so order (degreeRows n) tt .1 (l, tt) in
-        refusal-append order order (degreeRows n) (directionRows d) tt tt
-        ∙ (λ i. (a ∙ sym (depth-passes n .1 h)) i or inTurn (directionRows d))
-        ∙ sym (refusal-append harbourOrder harbourOrder (depthRows n) (directionRows d) tt tt)
+        let low : firstOf order (degreeRows n) ≡ 0 =
+        none-so order (degreeRows n) tt .1 (le-ltb 24 n (omega arith), tt) in
+        sym (refuse-rest order order order (degreeRows n) (directionRows d) tt tt tt low)
+        ∙ refuse-rest harbourOrder order harbourOrder (depthRows n) (directionRows d) tt tt tt (depth-passes n .1 h)
 
     pub file-number : (a : CodeAnswer) → FileAnswer n d a → a .refusal ≡ refuseSmallFile n d
     file-number a x = number-is (λ (r : CodeAnswer). r .refusal) refl (λ r g. g .number) x ∙ file-same

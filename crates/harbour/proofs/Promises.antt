@@ -3,12 +3,11 @@ use mathlib.Core.Path.{_≡_, _∙_, refl, sym, ap, subst}
 use mathlib.Core.Bool.{Bool, true, false, not, _&&_, true≢false}
 use mathlib.Core.Logic.{_↔_, ⊎-elim}
 use mathlib.Core.List.{List, [], _∷_, _++_}
-use Prim.Native.Nat.{ℕ, zero, suc, _+_, _-_, _*_, _/_, _%_, _^_, _≤_}
+use Prim.Native.Nat.{ℕ, zero, suc, _+_, _-_, _*_, _/_, _%_, _^_, _≤_, _<_}
 use native.Mathlib.Omega.{arith}
 use lib.Dec.{T, ltb, leb, eqb}
 use lib.Pow.{shr-shr}
-use borrow.Author.Tests.{ltb-true, leb-true, eqb-false, le-ltb, eq-eqb, ne-eqb}
-use Rattle.frame.specs.Answers.{Answer}
+use borrow.Author.Tests.{ltb-true, leb-true, eqb-false, not-true, le-ltb, eq-eqb, ne-eqb}
 use Rattle.frame.specs.Refusals.{Row, _when_, _either_, firstOf}
 use Rattle.frame.proofs.Refusing.{here, next, inOrder, inTurn, numbers, _or_, refuse-first, refuse-after, given-so}
 use Rattle.frame.proofs.Refusing.{not-given, either-none, none-after, refusal-append}
@@ -27,15 +26,18 @@ use Rattle.corners.proofs.OneAnswer.{cross-one, cross-some}
 use Rattle.directions.specs.Answers.{Filed, FileAnswer}
 use Rattle.directions.proofs.OneFiling.{file-one, file-some}
 use Rattle.harbour.specs.Small.{small, smallCode, largeOf, smallOf}
-use Rattle.harbour.specs.Refusals.{harbourOrder, depthRows, smallRows, checkSmall, refuseWrite}
+use Rattle.harbour.specs.Refusals.{harbourOrder, depthRows, smallRows, lastBitRows, writeRows, checkSmall}
+use Rattle.harbour.specs.Refusals.{refuseWrite}
 use Rattle.harbour.specs.Refusals.{refuseSmallCross, refuseSmallFile}
 use Rattle.harbour.specs.Answers.{smallAnswer, smallStep, noSmall, noSmallStep, smallOfStep, smallOfCode}
-use Rattle.harbour.specs.Answers.{SmallFormOf, ReadAnswer, SmallCrossAnswer, SmallFileAnswer}
+use Rattle.harbour.specs.Answers.{SmallFormOf, ReadAnswer, SmallCrossed, SmallCrossAnswer, SmallFiled}
+use Rattle.harbour.specs.Answers.{SmallFileAnswer}
 use Rattle.harbour.specs.Promises.{OneAnswer, BetweenForms, Refusing, SmallCalls}
 use Rattle.harbour.specs.declared.SmallCode.{SmallCode}
 use Rattle.harbour.specs.declared.SmallAnswer.{SmallAnswer}
 use Rattle.harbour.specs.declared.SmallStepAnswer.{SmallStepAnswer}
-use Rattle.harbour.proofs.SmallWords.{deep, small-passes, write-passes, low-degree, large-code, there-back}
+use Rattle.harbour.proofs.SmallWords.{deep, write-passes, low-degree, large-code, same-side, same-digits}
+use Rattle.harbour.proofs.SmallWords.{there-back}
 use Rattle.harbour.proofs.SmallWords.{write-again, small-code, back-there, small-fits, same-order}
 use Rattle.harbour.proofs.LargeCalls.{cross-code, cross-same, neighbour-small, file-degree, file-same}
 use Rattle.harbour.proofs.LargeCalls.{filed-small}
@@ -43,7 +45,8 @@ use Rattle.harbour.proofs.LargeCalls.{filed-small}
 -- ---- one answer
 
 -- where the large call answers one thing, its small form is one
-pub formed-one : {A B : Type 0} {Large : A → Type 0} {formed : A → B} {r r′ : B} → ((a b : A) → Large a → Large b → a ≡ b)
+pub formed-one : {A B : Type 0} {Large : A → Type 0} {formed : A → B} {r r′ : B}
+    → ((a b : A) → Large a → Large b → a ≡ b)
     → SmallFormOf Large formed r → SmallFormOf Large formed r′ → r ≡ r′
 formed-one {formed = formed} one x y =
     x .is ∙ ap formed (one (x .answer) (y .answer) (x .large) (y .large)) ∙ sym (y .is)
@@ -54,7 +57,8 @@ crossed-one s k z a b x y =
     let e = cross-same s k (cross-code s k z) ∙ z in
     cross-one (largeOf s) k a b (answering e x) (answering e y)
 
-pub filed-one : (n : ℕ) (d : Direction) → refuseSmallFile n d ≡ 0 → (a b : CodeAnswer) → Filed n d a → Filed n d b → a ≡ b
+pub filed-one : (n : ℕ) (d : Direction) → refuseSmallFile n d ≡ 0 → (a b : CodeAnswer) → Filed n d a → Filed n d b
+    → a ≡ b
 filed-one n d z a b x y =
     let e = file-same n d (file-degree n d z) ∙ z in file-one n d a b (answering e x) (answering e y)
 
@@ -63,13 +67,15 @@ one-answer = record {
   check = λ s. keeps-is (checkSmall s) refl (λ n. refl);
   read = λ s. keeps-known (checkSmall s) _ _ (λ r. r .refusal) refl refl;
   write = λ t. keeps-known (refuseWrite t) _ _ (λ r. r .refusal) refl refl;
-  cross = λ s k. keeps (λ r. r .refusal) refl (λ r g. ap (λ (x : SmallStepAnswer). x .refusal) (g .is) ∙ g .large .number)
+  cross = λ s k.
+      keeps (λ r. r .refusal) refl (λ r g. ap (λ (x : SmallStepAnswer). x .refusal) (g .is) ∙ g .large .number)
       (answer-some (refuseSmallCross s k) _ noSmallStep (λ z.
       let a = cross-some (largeOf s) k in
       let x = a .1 .answered (cross-same s k (cross-code s k z) ∙ z) in
       (smallOfStep (a .0), record { answer = a .0; large = x; is = refl })))
       (λ r r′ a b. answer-one (λ z x y. formed-one (crossed-one s k z) x y) a b);
-  file = λ n d. keeps (λ r. r .refusal) refl (λ r g. ap (λ (x : SmallAnswer). x .refusal) (g .is) ∙ g .large .number)
+  file = λ n d.
+      keeps (λ r. r .refusal) refl (λ r g. ap (λ (x : SmallAnswer). x .refusal) (g .is) ∙ g .large .number)
       (answer-some (refuseSmallFile n d) _ noSmall (λ z.
       let a = file-some n d in
       let x = a .1 .answered (file-same n d (file-degree n d z) ∙ z) in
@@ -85,6 +91,8 @@ between-forms = record {
   writeRead = λ t h. answering (small-code t h) (ap (codeAnswer 0) (sym (back-there t h)));
   isCode = λ s h. (large-code s h, low-degree s h);
   isSmall = λ t c h. small-code t (write-passes t .1 (c, h));
+  sameSide = same-side;
+  sameDigits = same-digits;
   fits = small-fits;
   sameOrder = same-order;
 }
@@ -102,7 +110,10 @@ module _ (s : SmallCode) (k : ℕ) (r : SmallStepAnswer) (a : StepAnswer) (x : S
       let f = refuseSmallCross s k in
       let e = cross-same s k h in
       ⊎-elim
-      (λ z. formed-one (crossed-one s k z) (x .answered z) (record { answer = a; large = y .answered (e ∙ z); is = refl }))
+      (λ z.
+      let own : SmallCrossed s k (smallOfStep a) =
+      record { answer = a; large = y .answered (e ∙ z); is = refl } in
+      formed-one (crossed-one s k z) (x .answered z) own)
       (λ n.
       let zeros : smallOfStep (noStep f) ≡ noSmallStep f = λ i. smallStep f (zero-small i) 0 0 0 in
       let b : a ≡ noStep f = y .refused (λ z. n (sym e ∙ z)) ∙ ap noStep e in
@@ -122,7 +133,10 @@ module _ (n : ℕ) (d : Direction) (r : SmallAnswer) (a : CodeAnswer) (x : Small
       let f = refuseSmallFile n d in
       let e = file-same n d h in
       ⊎-elim
-      (λ z. formed-one (filed-one n d z) (x .answered z) (record { answer = a; large = y .answered (e ∙ z); is = refl }))
+      (λ z.
+      let own : SmallFiled n d (smallOfCode a) =
+      record { answer = a; large = y .answered (e ∙ z); is = refl } in
+      formed-one (filed-one n d z) (x .answered z) own)
       (λ m.
       let zeros : smallOfCode (codeAnswer f (codeOf 0)) ≡ noSmall f = λ i. smallAnswer f (zero-small i) in
       let b : a ≡ codeAnswer f (codeOf 0) =
@@ -162,16 +176,15 @@ deep-so n rest t h l =
 
 deep-field : (s : SmallCode) → (checkSmall s ≡ 30) ↔ (12 ≤ degreeIn small (s .0))
 unfolding checkSmall
-deep-field s = (
-  λ e. was-deep (degreeIn small (s .0)) (given-so harbourOrder (smallRows s) 29 e) .0,
-  λ h. deep-so (degreeIn small (s .0)) (fieldRows small (s .0) ++ (31 when not (eqb (lowIn small (s .0)) 0) ∷ [])) tt h
-      (omega arith),
+deep-field s = let n = degreeIn small (s .0) in (
+  λ e. was-deep n (given-so harbourOrder (smallRows s) 29 e) .0,
+  λ h. deep-so n (fieldRows small (s .0) ++ lastBitRows s) tt h (omega arith),
 )
 
 deep-code : (t : TriangleCode) → (refuseWrite t ≡ 30) ↔ ((12 ≤ degreeOf (t .0)) × (degreeOf (t .0) ≤ 24))
 unfolding refuseWrite
 deep-code t = let n = degreeOf (t .0) in (
-  λ e. was-deep n (given-so harbourOrder (depthRows n ++ fieldRows large (t .0) ++ codeLowRows t) 29 e),
+  λ e. was-deep n (given-so harbourOrder (writeRows t) 29 e),
   λ h. deep-so n (fieldRows large (t .0) ++ codeLowRows t) tt (h .0) (h .1),
 )
 
@@ -182,15 +195,23 @@ deep-argument n d = (
   λ h. deep-so n (directionRows d) tt (h .0) (h .1),
 )
 
+-- no degree of four bits is above 24
+never : (s : SmallCode) → (checkSmall s ≡ 1 → ⊥) × (checkSmall s ≡ 4 → ⊥)
+unfolding checkSmall
+never s = (
+  λ e.
+      let n = degreeIn small (s .0) in
+      let l : 24 < n = ltb-true 24 n (sym (either-none _) ∙ given-so harbourOrder (smallRows s) 0 e) in
+      omega (arith, l),
+  not-given harbourOrder (smallRows s) 3 tt,
+)
+
 -- the rows before that of 31, by the fields that they look at
 abbrev before : (n a b : ℕ) → List Row
 before n a b = depthRows n ++ (2 when (eqb a 0 either ltb 5 a) ∷ 3 when not (eqb b 0) ∷ [])
 
 abbrev beforeLast : ℕ → List Row
 beforeLast w = before (degreeIn small w) (aIn small w) (beyondIn small w (degreeIn small w))
-
-abbrev last : ℕ → List Row
-last w = 31 when not (eqb (lowIn small w) 0) ∷ []
 
 module _ (w : ℕ) (odd : w % 2 ≡ 1) where
   half : (w - 1) / 2 ≡ w / 2
@@ -209,32 +230,37 @@ last-bit : (s : SmallCode) → (checkSmall s ≡ 31) ↔ ((s .0 % 2 ≡ 1) × (c
 unfolding checkSmall
 last-bit s =
     let w = s .0 in
-    let H = harbourOrder in (
+    let H = harbourOrder in
+    let last = lastBitRows s in
+    let last′ = lastBitRows (smallCode (w - 1)) in (
       λ e.
           let so = sym (either-none _) ∙ given-so H (smallRows s) 30 e in
           let odd : w % 2 ≡ 1 = let n = eqb-false (lowIn small w) 0 (not-true _ so) in omega (arith, n) in
           let none : firstOf H (beforeLast w) ≡ 0 =
-          first-none (firstOf H (beforeLast w)) (inTurn (last w)) (not-given H (beforeLast w) 30 tt)
-          (sym (refusal-append H H (beforeLast w) (last w) tt tt) ∙ e) in
+          first-none (firstOf H (beforeLast w)) (inTurn last) (not-given H (beforeLast w) 30 tt)
+          (sym (refusal-append H H (beforeLast w) last tt tt) ∙ e) in
           let none′ = ap (firstOf H) (same-before w odd) ∙ none in
-          let even : not (eqb (lowIn small (w - 1)) 0) ≡ false = ap not (eq-eqb (lowIn small (w - 1)) 0 (omega (arith, odd))) in
-          (odd, none-after H H (beforeLast (w - 1)) (last (w - 1)) tt tt .1 (none′, (even, tt))),
+          let even : not (eqb (lowIn small (w - 1)) 0) ≡ false =
+          ap not (eq-eqb (lowIn small (w - 1)) 0 (omega (arith, odd))) in
+          (odd, none-after H H (beforeLast (w - 1)) last′ tt tt .1 (none′, (even, tt))),
       λ p.
-          let none = none-after H H (beforeLast (w - 1)) (last (w - 1)) tt tt .0 (p .1) .0 in
+          let none = none-after H H (beforeLast (w - 1)) last′ tt tt .0 (p .1) .0 in
           let none′ = sym (ap (firstOf H) (same-before w (p .0))) ∙ none in
-          let so : not (eqb (lowIn small w) 0) ≡ true = ap not (ne-eqb (lowIn small w) 0 (λ z. omega (arith, z, p .0))) in
-          sym (refuse-after H H (beforeLast w) (last w) tt tt none′ (here so)),
+          let so : not (eqb (lowIn small w) 0) ≡ true =
+          ap not (ne-eqb (lowIn small w) 0 (λ z. omega (arith, z, p .0))) in
+          sym (refuse-after H H (beforeLast w) last tt tt none′ (here so)),
     )
   where
-    not-true : (b : Bool) → not b ≡ true → b ≡ false
-    not-true true e = absurd (true≢false (sym e))
-    not-true false e = refl
-
     -- 31 came from the later rows
     first-none : (f m : ℕ) → (f ≡ 31 → ⊥) → f or m ≡ 31 → f ≡ 0
     first-none zero m n e = refl
     first-none (suc f) m n e = absurd (n e)
 
 pub refusing : Refusing
-refusing =
-    record { deepField = deep-field; deepCode = deep-code; deepArgument = deep-argument; lastBit = last-bit }
+refusing = record {
+  deepField = deep-field;
+  deepCode = deep-code;
+  deepArgument = deep-argument;
+  never = never;
+  lastBit = last-bit;
+}

@@ -8,17 +8,18 @@ use native.Mathlib.Omega.{arith}
 use lib.Dec.{ltb, leb, lit<}
 use borrow.Author.Tests.{ltb-false, eqb-true, not-false, le-ltb, lt-ltb, le-leb, eq-eqb}
 use Rattle.frame.specs.Refusals.{firstOf, order}
-use Rattle.frame.proofs.Refusing.{_or_, inTurn, none-so, refusal-append}
-use Rattle.words.specs.Forms.{degreeIn, sideIn, carried}
-use Rattle.words.specs.Words.{large, degreeOf, sideOf}
+use Rattle.frame.proofs.Refusing.{none-so, none-after, refuse-rest}
+use Rattle.words.specs.Forms.{degreeIn, firstDigits, sideIn}
+use Rattle.words.specs.Words.{large, degreeOf, digits, sideOf}
 use Rattle.words.specs.Refusals.{degreeRows, fieldRows, codeLowRows, checkCode, IsCode}
 use Rattle.words.specs.Family.{codeOf}
 use Rattle.words.specs.declared.TriangleCode.{TriangleCode}
 use Rattle.words.proofs.WordLayout.{Roomy, side-top}
-use Rattle.words.proofs.Digits.{large-roomy}
-use Rattle.words.proofs.FormCodes.{Fields, CodeIn, rows-pass}
-use Rattle.words.proofs.Carrying.{carried-code, carried-degree, carried-back, carried-order, carried-up, carried-down}
-use Rattle.words.proofs.Codes.{code-passes, low-zero}
+use Rattle.words.proofs.Digits.{large-roomy, digits-in, path-injective}
+use Rattle.words.proofs.FormCodes.{CodeIn, rows-pass, fields-below}
+use Rattle.words.proofs.Carrying.{carried-code, carried-side, carried-degree, carried-path, carried-back, carried-order}
+use Rattle.words.proofs.Carrying.{carried-up, carried-down}
+use Rattle.words.proofs.Codes.{code-passes}
 use Rattle.harbour.specs.Small.{small, smallCode, largeOf, smallOf}
 use Rattle.harbour.specs.Refusals.{harbourOrder, depthRows, smallRows, checkSmall, refuseWrite}
 use Rattle.harbour.specs.declared.SmallCode.{SmallCode}
@@ -67,36 +68,25 @@ small-passes s =
           (le-ltb 24 n (omega (arith, d)), (not-deep n d, (r .0, (r .1 .0, (ap not (eq-eqb _ _ (c .1)), tt))))),
     )
 
-pub write-passes : (t : TriangleCode) → (refuseWrite t ≡ 0) ↔ ((checkCode t ≡ 0) × (degreeOf (t .0) ≤ 11))
-unfolding refuseWrite
-write-passes t =
-    let w = t .0 in
-    let n = degreeOf w in
-    let rows = depthRows n ++ fieldRows large w ++ codeLowRows t in (
-      λ e.
-          let r = none-so harbourOrder rows tt .0 e in
-          let d = shallow n (r .0) (r .1 .0) in
-          let fields = rows-pass large w (omega (arith, d)) .0 (r .1 .1 .0, (r .1 .1 .1 .0, tt)) in
-          (code-passes t .1 (fields, low-zero w .0 (r .1 .1 .1 .1 .0)), d),
-      λ p.
-          let c = code-passes t .0 (p .0) in
-          let r = rows-pass large w (c .0 .degree) .1 (c .0) in
-          none-so harbourOrder rows tt .1 (
-            le-ltb 24 n (c .0 .degree),
-            (not-deep n (p .1), (r .0, (r .1 .0, (low-zero w .1 (c .1), tt)))),
-          ),
-    )
-
 -- a code of degree 11 or less is refused as by checking it
 pub write-same : (t : TriangleCode) → degreeOf (t .0) ≤ 11 → checkCode t ≡ refuseWrite t
 unfolding checkCode refuseWrite
 write-same t h =
     let n = degreeOf (t .0) in
     let rest = fieldRows large (t .0) ++ codeLowRows t in
-    let l = le-ltb 24 n (omega arith) in
-    let a : firstOf order (degreeRows n) ≡ 0 = none-so order (degreeRows n) tt .1 (l, tt) in
-    refusal-append order order (degreeRows n) rest tt tt ∙ (λ i. (a ∙ sym (depth-passes n .1 h)) i or inTurn rest)
-    ∙ sym (refusal-append harbourOrder harbourOrder (depthRows n) rest tt tt)
+    let low : firstOf order (degreeRows n) ≡ 0 = none-so order (degreeRows n) tt .1 (le-ltb 24 n (omega arith), tt) in
+    sym (refuse-rest order order order (degreeRows n) rest tt tt tt low)
+    ∙ refuse-rest harbourOrder order harbourOrder (depthRows n) rest tt tt tt (depth-passes n .1 h)
+
+write-low : (t : TriangleCode) → refuseWrite t ≡ 0 → degreeOf (t .0) ≤ 11
+unfolding refuseWrite
+write-low t e =
+    let n = degreeOf (t .0) in
+    depth-passes n .0 (none-after harbourOrder harbourOrder (depthRows n) _ tt tt .0 e .0)
+
+pub write-passes : (t : TriangleCode) → (refuseWrite t ≡ 0) ↔ ((checkCode t ≡ 0) × (degreeOf (t .0) ≤ 11))
+write-passes t =
+    (λ e. let d = write-low t e in (write-same t d ∙ e, d), λ p. sym (write-same t (p .1)) ∙ p .0)
 
 -- ---- from the small form to the large one, and back
 
@@ -115,6 +105,15 @@ module _ (s : SmallCode) (h : checkSmall s ≡ 0) where
     passes = code-passes (largeOf s) .1 (carried-code small large large-roomy code n≤);
     degreeIs = carried-degree small large large-roomy code n≤;
   }
+
+  pub same-side : sideOf (largeOf s .0) ≡ sideIn small (s .0)
+  same-side = carried-side small large large-roomy code n≤
+
+  pub same-digits : let n = degreeIn small (s .0) in digits (largeOf s .0) n ≡ firstDigits small (s .0) n
+  same-digits =
+      let n = degreeIn small (s .0) in
+      path-injective (digits-in large (largeOf s .0) n) (digits-in small (s .0) n)
+      (carried-path small large large-roomy code n≤)
 
   pub there-back : smallOf (largeOf s) ≡ s
   there-back = let e = carried-back small large large-roomy code n≤ in λ i. smallCode (e i)
@@ -152,7 +151,7 @@ module _ (t : TriangleCode) (h : refuseWrite t ≡ 0) where
   back-there = let e = carried-back large small small-roomy code′ shallow-code in λ i. codeOf (e i)
 
   pub small-fits : smallOf t .0 < 2 ^ 32
-  small-fits = omega (arith, small-in .0 .aHigh)
+  small-fits = fields-below small (small-in .0)
 
   -- the small word as it is computed
   pub small-number : sideOf (t .0) * 134217728 + degreeOf (t .0) * 8388608 + t .0 % 18014398509481984 / 2147483648

@@ -11,14 +11,10 @@ use Rattle.harbour.specs.Small.{small, smallCode}
 use Rattle.harbour.specs.Refusals.{checkSmall, refuseWrite, refuseSmallCross, refuseSmallFile}
 use Rattle.harbour.specs.Answers.{smallAnswer, smallStep, noSmall, noSmallStep}
 use Rattle.harbour.specs.Answers.{ReadAnswer, WriteAnswer, SmallCrossAnswer, SmallFileAnswer}
-use Rattle.harbour.specs.declared.SmallCode.{SmallCode}
 
--- the small word with the side 100, the degree n and digits that are all 0; and one with any degree field
+-- the small word with the side 100, the degree n and digits that are all 0
 abbrev pub smallZeros : (n : ℕ) → ℕ
 smallZeros n = wordIn small (side 1 0 0) n 0
-
-abbrev pub withDegree : (n : ℕ) → SmallCode
-withDegree n = smallCode (side 1 0 0 * 2 ^ 27 + n * 2 ^ 23)
 
 pub record Examples : Type 0 where
   -- 100, 1001, and 511 with eleven digits 3
@@ -38,9 +34,9 @@ pub record Examples : Type 0 where
 
 pub record Bounds : Type 0 where
   -- 30: degree 11 accepted and 12 refused, as field and as argument; 25 is 1
-  pub degree-11 : checkSmall (withDegree 11) ≡ 0
-  pub degree-12 : checkSmall (withDegree 12) ≡ 30
-  pub degree-15 : checkSmall (withDegree 15) ≡ 30
+  pub degree-11 : checkSmall (smallCode (smallZeros 11)) ≡ 0
+  pub degree-12 : checkSmall (smallCode (smallZeros 12)) ≡ 30
+  pub degree-15 : checkSmall (smallCode (smallZeros 15)) ≡ 30
   pub write-11 : refuseWrite (codeOf (zeroDigits 11)) ≡ 0
   pub write-12 : refuseWrite (codeOf (zeroDigits 12)) ≡ 30
   pub write-24 : refuseWrite (codeOf (zeroDigits 24)) ≡ 30
@@ -60,11 +56,12 @@ pub record Bounds : Type 0 where
   pub edge-0 : refuseSmallCross (smallCode (smallZeros 0)) 0 ≡ 5
   pub edge-3 : refuseSmallCross (smallCode (smallZeros 0)) 3 ≡ 0
   pub edge-4 : refuseSmallCross (smallCode (smallZeros 0)) 4 ≡ 5
-  -- "30 directly after 1 and 31 directly after 4": 1 before 2, 30 before 2, 2 before 3, 3 before 4 and 31, these before 5
+  -- "30 directly after 1 and 31 directly after 4": 1 and 30 before 2, 2 before 3, 3 before 4 and 31, 31 before 5
   pub order-1-2 : refuseWrite (codeOf (25 * 2 ^ 54)) ≡ 1
   pub order-30-2 : checkSmall (smallCode (2 ^ 32 - 1)) ≡ 30
   pub order-30-4 : refuseWrite (codeOf (zeroDigits 12 + 1)) ≡ 30
   pub order-2-3 : checkSmall (smallCode 2) ≡ 2
+  pub order-3-4 : refuseWrite (codeOf (zeroDigits 10 + 2 ^ 32 + 1)) ≡ 3
   pub order-3-31 : checkSmall (smallCode (smallZeros 10 + 3)) ≡ 3
   pub order-31-5 : refuseSmallCross (smallCode (smallZeros 0 + 1)) 4 ≡ 31
   -- and before 8 and 7
@@ -73,8 +70,8 @@ pub record Bounds : Type 0 where
 
 -- Wrong programs, each by an answer of its own.
 pub record Mistakes : Type 0 where
-  -- keeps the large form's five degree bits
-  pub five-bits : WriteAnswer (written 1001) (smallAnswer 0 (smallCode (4 * 2 ^ 27 + 2 ^ 22 + 2 ^ 20))) → ⊥
+  -- writes the degree a bit too low, as if it had five bits
+  pub five-bits : WriteAnswer (written 1001) (smallAnswer 0 (smallCode 0x20600000)) → ⊥
   -- cuts the large word to its upper 32 bits
   pub upper-half : WriteAnswer (written 1001) (smallAnswer 0 (smallCode 0x20500000)) → ⊥
   -- cuts off the digits beyond the eleventh

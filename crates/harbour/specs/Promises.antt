@@ -3,8 +3,8 @@ use mathlib.Core.Path.{_≡_}
 use mathlib.Core.Logic.{_↔_}
 use Prim.Native.Nat.{ℕ, _-_, _%_, _≤_, _<_, _^_}
 use Rattle.frame.specs.Promises.{Keeps}
-use Rattle.words.specs.Forms.{degreeIn}
-use Rattle.words.specs.Words.{degreeOf}
+use Rattle.words.specs.Forms.{degreeIn, firstDigits, sideIn}
+use Rattle.words.specs.Words.{degreeOf, digits, sideOf}
 use Rattle.words.specs.Refusals.{IsCode, checkCode}
 use Rattle.words.specs.Family.{codeAnswer, noCode}
 use Rattle.words.specs.declared.TriangleCode.{TriangleCode}
@@ -40,6 +40,10 @@ pub record BetweenForms : Type 0 where
   pub isCode : (s : SmallCode) → checkSmall s ≡ 0
       → IsCode (degreeIn small (s .0)) (largeOf s) × (degreeIn small (s .0) ≤ 11)
   pub isSmall : (t : TriangleCode) → checkCode t ≡ 0 → degreeOf (t .0) ≤ 11 → checkSmall (smallOf t) ≡ 0
+  -- of the same side and digits
+  pub sameSide : (s : SmallCode) → checkSmall s ≡ 0 → sideOf (largeOf s .0) ≡ sideIn small (s .0)
+  pub sameDigits : (s : SmallCode) → checkSmall s ≡ 0
+      → let n = degreeIn small (s .0) in digits (largeOf s .0) n ≡ firstDigits small (s .0) n
   -- "in 32-bit words"
   pub fits : (t : TriangleCode) → refuseWrite t ≡ 0 → smallOf t .0 < 2 ^ 32
   -- codes of one degree are in the same order in both forms
@@ -51,6 +55,8 @@ pub record Refusing : Type 0 where
   pub deepField : (s : SmallCode) → (checkSmall s ≡ 30) ↔ (12 ≤ degreeIn small (s .0))
   pub deepCode : (t : TriangleCode) → (refuseWrite t ≡ 30) ↔ ((12 ≤ degreeOf (t .0)) × (degreeOf (t .0) ≤ 24))
   pub deepArgument : (n : ℕ) (d : Direction) → (refuseSmallFile n d ≡ 30) ↔ ((12 ≤ n) × (n ≤ 24))
+  -- no small word is refused by 1 or by 4
+  pub never : (s : SmallCode) → (checkSmall s ≡ 1 → ⊥) × (checkSmall s ≡ 4 → ⊥)
   -- a word that would be a small code without its last bit
   pub lastBit : (s : SmallCode)
       → (checkSmall s ≡ 31) ↔ ((s .0 % 2 ≡ 1) × (checkSmall (smallCode (s .0 - 1)) ≡ 0))

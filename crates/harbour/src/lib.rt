@@ -71,7 +71,7 @@ fn check_word(w: u64) -> u64
     if w % words::power(23 - 2 * n) == 0 {
         return 0;
     }
-    if w / 2 % words::power(22 - 2 * n) == 0 {
+    if words::bits_of(w, 1, 22 - 2 * n) == 0 {
         return 31;
     }
     3

@@ -86,7 +86,8 @@ abbrev count-byte : ℕ → ℕ × (Lists × List ℕ) → ℕ
 count-byte i x = getD (x .1 .1) i 0
 
 offence-told : CheckBytes inside (replicate 16 9) leaves (0, replicate 7 0 ++ (4 ∷ replicate 7 0) ++ (1 ∷ []))
-unfolding firstOf some firstPlace below bytes readEach firstDigits path checkCode spelled sooner begins lessThan insideOf
+unfolding firstOf some firstPlace below bytes readEach firstDigits path checkCode spelled sooner begins lessThan
+    insideOf
     reasonAt checked refuseCheck
 offence-told = known-gives refl
 

@@ -1,6 +1,6 @@
 -- Document 02, 2026-11 and 2026-01: the complete answer of each exported call on the small form, for every input: what
--- the contracts cite. `out` is the lent bytes as they come, `new` as they are left. (Check has no bytes: its contract is
--- an equation, at the function.) Assumes nothing.
+-- the contracts cite. `out` is the lent bytes as they come, `new` as they are left. (Check has no bytes: its contract
+-- is an equation, at the function.) Assumes nothing.
 use mathlib.Core.Path.{_≡_}
 use mathlib.Core.List.{List, [], _∷_, _++_}
 use Prim.Native.Nat.{ℕ}

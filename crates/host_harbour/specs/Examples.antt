@@ -1,8 +1,8 @@
 -- Document 02, 2026-11, over bytes: what a stranger would try, each refusal at its bound, and wrong answers. Assumes
 -- nothing.
 use mathlib.Core.Path.{_≡_}
-use mathlib.Core.List.{List, [], _∷_, _++_}
-use Prim.Native.Nat.{ℕ, _+_}
+use mathlib.Core.List.{[], _∷_, _++_}
+use Prim.Native.Nat.{_+_}
 use lib.IntN.{pos}
 use lib.ListN.{replicate}
 use Rattle.frame.specs.Promises.{_leaves_}

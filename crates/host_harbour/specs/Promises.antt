@@ -1,7 +1,7 @@
 -- Document 02, 2026-11 and 2026-01: what is promised of the exported calls on the small form. Assumes nothing.
 use mathlib.Core.Path.{_≡_}
-use mathlib.Core.List.{List, [], _∷_, _++_}
-use Prim.Native.Nat.{ℕ, _^_, _<_}
+use mathlib.Core.List.{List, [], _∷_}
+use Prim.Native.Nat.{ℕ}
 use lib.ListN.{take, drop}
 use Rattle.frame.specs.Promises.{Keeps, KeepsLent}
 use Rattle.octets.specs.Bytes.{bytes, numberOf}
@@ -46,10 +46,14 @@ pub record AsTheHarbour : Type 0 where
       → SmallFileAnswer n d a → FileSmallBytes n d out r new
       → Delivered (a .refusal) (bytes 4 (a .code .0 ∷ [])) 4 out r new
 
--- What a host reads in such bytes: the numbers.
-pub record ReadBack : Type 0 where
-  pub four : (w : ℕ) (rest : List ℕ) → w < 2 ^ 32 → numberOf (take 4 (bytes 4 (w ∷ []) ++ rest)) ≡ w
-  pub eight : (w : ℕ) (rest : List ℕ) → w < 2 ^ 64 → numberOf (take 8 (bytes 8 (w ∷ []) ++ rest)) ≡ w
-  pub both : (w k : ℕ) (rest : List ℕ) → w < 2 ^ 32 → k < 2 ^ 64
-      → let bs = fourAndEight (w ∷ k ∷ []) ++ rest in
-      (numberOf (take 4 bs) ≡ w) × (numberOf (take 8 (drop 4 bs)) ≡ k)
+-- What a host reads in the bytes of a call that is answered: what the harbour's call answers.
+pub record HostReads : Type 0 where
+  pub small : (t : TriangleCode) (a : SmallAnswer) (out : List ℕ) (r : ℕ) (new : List ℕ)
+      → WriteAnswer t a → SmallBytes t out r new → r ≡ 0 → numberOf (take 4 new) ≡ a .code .0
+  pub large : (s : SmallCode) (a : CodeAnswer) (out : List ℕ) (r : ℕ) (new : List ℕ)
+      → ReadAnswer s a → LargeBytes s out r new → r ≡ 0 → numberOf (take 8 new) ≡ a .code .0
+  pub crossSmall : (s : SmallCode) (k : ℕ) (a : SmallStepAnswer) (out : List ℕ) (r : ℕ) (new : List ℕ)
+      → SmallCrossAnswer s k a → CrossSmallBytes s k out r new → r ≡ 0
+      → (numberOf (take 4 new) ≡ a .code .0) × (numberOf (take 8 (drop 4 new)) ≡ a .edge)
+  pub fileSmall : (n : ℕ) (d : Direction) (a : SmallAnswer) (out : List ℕ) (r : ℕ) (new : List ℕ)
+      → SmallFileAnswer n d a → FileSmallBytes n d out r new → r ≡ 0 → numberOf (take 4 new) ≡ a .code .0

@@ -1,5 +1,5 @@
-// Which numbers of a table of soundings are readings and which are owners, what a number says, and what a deed leaves in
-// its place (document 02, 2026-03 and 2026-07). What these mean is said in the crate tables.
+// Which numbers of a table of soundings are readings and which are owners, what a number says, and what a deed leaves
+// in its place (document 02, 2026-03 and 2026-07). What these mean is said in the crate tables.
 use tables::Deed;
 use tables::Sounding;
 ghost use mathlib.Core.Path.{_≡_};

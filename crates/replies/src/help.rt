@@ -3,12 +3,12 @@ use crate::arguments;
 ghost use Prim.Native.Nat.{_≤_};
 ghost use lib.ListN.{length};
 
-const HELP: [u8; 8101] = *b"The grid of the globe: one call to a line, and one line for its answer.
+const HELP: [u8; 8109] = *b"The grid of the globe: one call to a line, and one line for its answer.
 
   WORD     0x and 1 to 16 hexadecimal digits
   CODE     a triangle code, as 10003 for side 100 and digits 0 and 3; or a WORD
   NAME     a corner name, as a WORD
-  SMALL    a small word: 0x and 1 to 8 hexadecimal digits
+  SMALL    a small word, of 32 bits: 0x and 1 to 8 hexadecimal digits
   X Y Z    a direction: three whole numbers
   PLACES   0 to 16: how many places the lent list has. They hold 1, 2, 3 and so on before the call,
            and stand after the answer as the call leaves them
@@ -96,13 +96,13 @@ mend-cells MENDED WORDS REASONS [CODE]..
   mend-cells 1 1 1 600              words 0, changes 1 | 0x0000000000000001 | 0xC000000000000000 | 1
   mend-cells 4 4 4 1003 1001 1000 1002  words 1, changes 1 | 0x2000000000000000 0x0000000000000002 ..
 
-small CODE                          the small word of a code of degree 11 or less, in 32 bits
+small CODE                          a code of degree 11 or less as a small word
   small 1001                        1001 0x20A00000
 
-large SMALL                         the code of a small word
+large SMALL                         the code of which it is the small word
   large 0x20A00000                  1001 0x2050000000000000
 
-check-small SMALL                   whether the word is a small word of a code
+check-small SMALL                   whether it is the small word of a code
   check-small 0x20A00000            ok
 
 cross-small SMALL EDGE              cross on small words

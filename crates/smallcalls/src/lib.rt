@@ -1,10 +1,9 @@
-// The console's calls on the small form of a code (document 02, 2026-11), each by its row of the table of calls; 0 where
-// the arguments cannot be read.
+// The console's calls on the small form of a code (document 02, 2026-11), each by its row of the table of calls; 0
+// where the arguments cannot be read.
 use grid::TriangleCode;
 use harbour::SmallAnswer;
 use harbour::SmallCode;
 use harbour::SmallStepAnswer;
-use lines::Number;
 use replies::answers;
 use replies::arguments;
 ghost use Prim.Native.Nat.{_+_, _≤_};
@@ -19,34 +18,17 @@ struct FoundSmall {
 
 // ---- reading
 
-// The number of at most eight digits is below 2^32.
-fn small_of(n: Number) -> SmallCode {
-    match n {
-        Number::Value(value) => SmallCode((value % 4294967296) as u32),
-        Number::Wrong => SmallCode(0),
-    }
-}
-
-fn is_read(n: Number) -> bool {
-    match n {
-        Number::Value(value) => true,
-        Number::Wrong => false,
-    }
-}
-
-// 0x and 1 to 8 hexadecimal digits.
+// 0x and 1 to 8 hexadecimal digits, whose number is below 2^32.
 fn small_at(line: &[u8], at: usize) -> FoundSmall
     requires { ⌜ at ≤ length (now line) ⌝ }
     ensures { λ r. ⌜ r .next ≤ length (now (line .entry)) ⌝ }
 {
+    let n = arguments::name_at(line, at);
     let w = lines::next_word(line, at);
-    let from = w.from;
-    let end = w.end;
-    let n = lines::read_hexadecimal(&line[from..end]);
     FoundSmall {
-        read: is_read(n) & (end - from <= 10),
-        word: small_of(n),
-        next: end,
+        read: n.read & (w.end - w.from <= 10),
+        word: SmallCode((n.value % 4294967296) as u32),
+        next: n.next,
     }
 }
 

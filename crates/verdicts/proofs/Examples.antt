@@ -19,7 +19,8 @@ use Rattle.verdicts.specs.Program.{badLengthText, tooLongText, verdictTe
 use Rattle.verdicts.specs.Examples.{Examples, Bounds, Mistakes}
 
 pub examples : Examples
-unfolding firstOf some firstPlace below bytes readEach firstDigits path wordIn checkCode decimals written glyph lastDecimals
+unfolding firstOf some firstPlace below bytes readEach firstDigits path wordIn checkCode decimals written glyph
+    lastDecimals
     decimal spelled sooner begins lessThan insideOf reasonAt checked verdictText text
 examples = record { none = refl; one = refl; same = refl; twelfth = refl; seven = refl; nine = refl }
 
@@ -45,7 +46,8 @@ differ : {xs ys : List ℕ} (i : ℕ) → eqb (getD xs i 0) (getD ys i 0) ≡ fa
 differ i d e = eqb-false _ _ d (ap (λ (l : List ℕ). getD l i 0) e)
 
 pub mistakes : Mistakes
-unfolding firstOf some firstPlace below bytes readEach firstDigits path wordIn checkCode decimals written glyph lastDecimals
+unfolding firstOf some firstPlace below bytes readEach firstDigits path wordIn checkCode decimals written glyph
+    lastDecimals
     decimal spelled sooner begins lessThan insideOf reasonAt checked verdictText text
 mistakes = record {
   last-first = differ 6 refl;

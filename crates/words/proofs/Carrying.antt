@@ -1,7 +1,7 @@
 -- A code carried from one form to another, where that has the degree: it keeps its side, its degree, its digits and its
 -- place in the order, and carried back it is itself. Assumes nothing.
 use mathlib.Core.Path.{_≡_, _∙_, refl, sym, ap}
-use mathlib.Core.Logic.{_↔_, _⊎_, inl, inr, ⊎-elim}
+use mathlib.Core.Logic.{_↔_, inl, inr, ⊎-elim}
 use Prim.Native.Nat.{ℕ, _+_, _-_, _*_, _/_, _%_, _^_, _≤_, _<_}
 use native.Mathlib.Nat.{mul-assoc, mul-div-cancel}
 use native.Mathlib.Omega.{arith}
@@ -9,7 +9,7 @@ use lib.Pow.{pow-add, pow-pos}
 use Rattle.words.specs.Forms.{Form, belowDegree, belowSide, degreeIn, firstDigits, sideIn, path, wordIn, carried}
 use Rattle.words.proofs.WordLayout.{unit, Roomy, side-is, degree-is, tail-is}
 use Rattle.words.proofs.Digits.{digits-in, path-lt, path-made}
-use Rattle.words.proofs.FormCodes.{Fields, CodeIn, side-low, side-high, word-made, made-code, codes-order}
+use Rattle.words.proofs.FormCodes.{CodeIn, side-low, side-high, word-made, made-code, codes-order}
 
 carried-is : (f g : Form) (w : ℕ)
     → carried f g w ≡ wordIn g (sideIn f w) (degreeIn f w) (path (firstDigits f w (degreeIn f w)))

@@ -13,7 +13,7 @@ use lib.Pow.{shr-shr}
 use borrow.Author.Tests.{ltb-false, eqb-true, eqb-false, not-false, le-ltb, eq-eqb, ne-eqb}
 use Rattle.frame.specs.Refusals.{_either_, refusal, order}
 use Rattle.frame.proofs.Refusing.{none-so, none-after, either-false}
-use Rattle.words.specs.Words.{large, aOf, degreeOf, digits, beyond, zeroBits, cornerNumber, sideOf, path}
+use Rattle.words.specs.Words.{large, degreeOf, digits, beyond, zeroBits, cornerNumber, sideOf, path}
 use Rattle.words.specs.Words.{wordOf, inside}
 use Rattle.words.specs.Refusals.{wordRows, checkCode, checkNameFields, IsCode}
 use Rattle.words.specs.Family.{codeOf}
@@ -21,7 +21,8 @@ use Rattle.words.specs.declared.TriangleCode.{TriangleCode}
 use Rattle.words.specs.declared.CornerName.{CornerName}
 use Rattle.words.proofs.WordLayout.{side-top, side-is, degree-is}
 use Rattle.words.proofs.Digits.{AreDigits, path-lt, large-roomy, digits-made}
-use Rattle.words.proofs.FormCodes.{Fields, rows-pass, side-low, side-high, word-made, made-code}
+use Rattle.words.proofs.FormCodes.{Fields, CodeIn, rows-pass, side-low, side-high, fields-below, word-made}
+use Rattle.words.proofs.FormCodes.{made-code}
 
 -- refusals 1 to 3, which both kinds of word share, are not given
 pub word-passes : (w : ℕ) → (refusal (wordRows w) ≡ 0) ↔ Fields large w
@@ -49,7 +50,7 @@ low-zero w = (
   ),
 )
 
-pub code-passes : (t : TriangleCode) → (checkCode t ≡ 0) ↔ (Fields large (t .0) × (t .0 % 64 ≡ 0))
+pub code-passes : (t : TriangleCode) → (checkCode t ≡ 0) ↔ CodeIn large (t .0)
 unfolding checkCode
 code-passes t =
     let w = t .0 in (
@@ -159,7 +160,7 @@ module _ {n : ℕ} {t : TriangleCode} (code : IsCode n t) where
   code-side = (side-low large code-fields, side-high large code-fields)
 
   pub code-below : t .0 < 2 ^ 64
-  code-below = omega (arith, code-fields .aHigh)
+  code-below = fields-below large code-fields
 
   -- a code is the word of its side, degree and digits
   pub code-word : t .0 ≡ wordOf (sideOf (t .0)) n (path (digits (t .0) n))

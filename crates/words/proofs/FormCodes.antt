@@ -1,14 +1,15 @@
 -- Which words of a form are codes: those with the right fields. Such a word is made of its side, its degree and its
 -- digits, and each word that is made so is one. Assumes nothing.
-use mathlib.Core.Path.{_≡_, _∙_, refl, sym, ap}
+use mathlib.Core.Path.{_≡_, _∙_, ap}
 use mathlib.Core.Logic.{_↔_, _⊎_}
 use mathlib.Core.Bool.{not}
-use Prim.Native.Nat.{ℕ, _+_, _*_, _/_, _%_, _^_, _≤_, _<_}
-use native.Mathlib.Nat.{pos-of-ne-zero}
+use Prim.Native.Nat.{ℕ, _+_, _*_, _^_, _≤_, _<_}
+use native.Mathlib.Nat.{pos-of-ne-zero, div-lt-iff-lt-mul}
 use native.Mathlib.Omega.{arith}
+use lib.Pow.{pow-add, pow-pos}
 use borrow.Author.Tests.{ltb-false, eqb-true, eqb-false, not-false, le-ltb, eq-eqb, ne-eqb}
 use Rattle.frame.proofs.Refusing.{NoneSo, either-false}
-use Rattle.words.specs.Forms.{Form, aIn, degreeIn, firstDigits, beyondIn, lowIn, sideIn, path, wordIn}
+use Rattle.words.specs.Forms.{Form, belowSide, aIn, degreeIn, firstDigits, beyondIn, lowIn, sideIn, path, wordIn}
 use Rattle.words.specs.Refusals.{fieldRows}
 use Rattle.words.proofs.WordLayout.{Roomy, side-is, degree-is, beyond-is, low-is, word-is, word-order}
 use Rattle.words.proofs.Digits.{digits-in, path-in, path-lt}
@@ -48,6 +49,14 @@ module _ (f : Form) where
 
     pub side-high : sideIn f w < 24
     side-high = omega (arith, g .aHigh)
+
+    -- a has three bits, p and q one each
+    pub fields-below : w < 2 ^ (belowSide f + 5)
+    fields-below =
+        let k = belowSide f + 2 in
+        let e : belowSide f + 5 ≡ k + 3 = omega arith in
+        let l : w < 8 * 2 ^ k = div-lt-iff-lt-mul (pow-pos k) .0 (omega (arith, g .aHigh)) in
+        rw (e, pow-add 2 k 3) (omega (arith, l))
 
   -- a code is the word of its side, degree and digits
   pub word-made : {w : ℕ} → CodeIn f w → (n : ℕ) → degreeIn f w ≡ n

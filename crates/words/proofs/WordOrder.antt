@@ -8,7 +8,7 @@ use Rattle.words.specs.Words.{large, digits, sideOf, path}
 use Rattle.words.specs.Refusals.{IsCode}
 use Rattle.words.specs.declared.TriangleCode.{TriangleCode}
 use Rattle.words.proofs.WordLayout.{lex}
-use Rattle.words.proofs.Digits.{AreDigits, none, more, digits-are, path-lt, path-injective, large-roomy}
+use Rattle.words.proofs.Digits.{AreDigits, none, more, digits-are, path-injective, large-roomy}
 use Rattle.words.proofs.FormCodes.{codes-order}
 use Rattle.words.proofs.Codes.{code-passes}
 

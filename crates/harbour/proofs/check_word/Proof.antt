@@ -1,21 +1,21 @@
 -- Row by row; and all that stands below the digits at once, as in checking a large word (WordLayout). Assumes nothing.
 use mathlib.Core.Path.{_≡_, _∙_, sym, ap}
 use mathlib.Core.Bool.{false, not}
-use mathlib.Core.List.{[], _∷_, _++_}
+use mathlib.Core.List.{_++_}
 use Prim.Native.Nat.{ℕ, _-_, _*_, _/_, _%_, _^_, _≤_}
 use native.Mathlib.Nat.{pos-of-ne-zero}
 use native.Mathlib.Omega.{arith}
 use lib.Dec.{ltb, eqb}
 use lib.Pow.{pow-pos}
 use borrow.Author.Tests.{le-ltb, lt-ltb, eq-eqb, ne-eqb}
-use Rattle.frame.specs.Refusals.{_when_, _either_, firstOf}
+use Rattle.frame.specs.Refusals.{_either_, firstOf}
 use Rattle.frame.proofs.Refusing.{First, here, next, refuse-before, refuse-after, either-left, either-right}
 use Rattle.frame.proofs.Refusing.{either-false}
 use Rattle.words.specs.Forms.{aIn, degreeIn, beyondIn, lowIn}
 use Rattle.words.specs.Refusals.{fieldRows}
 use Rattle.words.proofs.WordLayout.{below-zero}
 use Rattle.harbour.specs.Small.{small, smallCode}
-use Rattle.harbour.specs.Refusals.{harbourOrder, depthRows, checkSmall}
+use Rattle.harbour.specs.Refusals.{harbourOrder, depthRows, lastBitRows, checkSmall}
 use Rattle.harbour.proofs.SmallWords.{depth-passes, small-passes}
 use borrow.Author.Needs.{needs}
 use Rattle.harbour.proofs.check_word.Statement.{statement}
@@ -24,8 +24,7 @@ use Rattle.harbour.proofs.check_word.Tie as tie
 -- ---- the rows after 30
 
 module _ (w : ℕ) (l : degreeIn small w ≤ 11) where
-  after-30 : {k : ℕ} → First (fieldRows small w ++ (31 when not (eqb (lowIn small w) 0) ∷ [])) k
-      → k ≡ checkSmall (smallCode w)
+  after-30 : {k : ℕ} → First (fieldRows small w ++ lastBitRows (smallCode w)) k → k ≡ checkSmall (smallCode w)
   unfolding checkSmall
   after-30 f =
       let n = degreeIn small w in
@@ -105,25 +104,21 @@ returns-4 c =
     let z = below-zero small w (degreeIn small w) l .0 (sym (below-is p) ∙ c .if4 .taken) in
     is-code w l (e .before .if2 .left) (e .if3 .left) (z .0) (z .1)
 
-mul-power-2 : tie.Need-mul-power-2
-mul-power-2 c = search needs
+mul-bits-of : tie.Need-mul-bits-of
+mul-bits-of c = search needs
 
-sub-power-2 : tie.Need-sub-power-2
-sub-power-2 c = omega (arith, low (c .before .before))
+sub-bits-of : tie.Need-sub-bits-of
+sub-bits-of c = omega (arith, low (c .before .before))
 
-power-requires-2 : tie.Need-power-requires-2
-power-requires-2 c κs = search needs
+bits-of-requires : tie.Need-bits-of-requires
+bits-of-requires c κs = search needs
 
-rem-if5 : tie.Need-rem-if5
-rem-if5 c = rw (c .power2 .ensures) (pow-pos _)
-
-beyond-is : (c : tie.After-power2) → let e = c .before .before .before in
+beyond-is : (c : tie.After-bits-of) → let e = c .before .before .before in
     let w = e .before .before .before .before .before .args .w in
-    w / 2 % c .power2 .result ≡ beyondIn small w (degreeIn small w)
+    c .bits-of .result ≡ beyondIn small w (degreeIn small w)
 beyond-is c =
     let d = c .before .before .before .before .before .before .before in
-    ap (λ (p : ℕ). d .before .args .w / 2 % p)
-    (c .power2 .ensures ∙ ap (λ (n : ℕ). 2 ^ (22 - 2 * n)) (d .degree-in .ensures))
+    c .bits-of .ensures ∙ ap (λ (n : ℕ). d .before .args .w / 2 % 2 ^ (22 - 2 * n)) (d .degree-in .ensures)
 
 returns-5 : tie.Need-returns-5
 returns-5 c =
@@ -133,7 +128,8 @@ returns-5 c =
     let n = degreeIn small w in
     let l = shallow (e .before .before) in
     let b : beyondIn small w n ≡ 0 = sym (beyond-is (c .before)) ∙ c .if5 .taken in
-    let some : lowIn small w ≡ 0 → ⊥ = λ z. c .before .before .if4 .left (below-is p ∙ below-zero small w n l .1 (b, z)) in
+    let some : lowIn small w ≡ 0 → ⊥ =
+    λ z. c .before .before .if4 .left (below-is p ∙ below-zero small w n l .1 (b, z)) in
     after-30 w l (next (a-good w l (e .before .if2 .left) (e .if3 .left))
     (next (ap not (eq-eqb (beyondIn small w n) 0 b)) (here (ap not (ne-eqb (lowIn small w) 0 some)))))
 
@@ -159,9 +155,8 @@ check-word-spec =
     power-requires
     rem-if4
     returns-4
-    mul-power-2
-    sub-power-2
-    power-requires-2
-    rem-if5
+    mul-bits-of
+    sub-bits-of
+    bits-of-requires
     returns-5
     returns-6)

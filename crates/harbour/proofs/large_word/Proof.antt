@@ -1,10 +1,9 @@
 -- The side, the degree and the tail, moved up (SmallWords). Assumes nothing.
-use mathlib.Core.Path.{_≡_, _∙_, sym, ap}
+use mathlib.Core.Path.{_≡_, _∙_, ap}
 use Prim.Native.Nat.{ℕ, _+_, _*_, _/_, _%_, _^_, _<_}
 use native.Mathlib.Omega.{arith}
-use Rattle.words.specs.Forms.{degreeIn}
 use Rattle.words.proofs.Codes.{code-below}
-use Rattle.harbour.specs.Small.{small, smallCode, largeOf}
+use Rattle.harbour.specs.Small.{smallCode, largeOf}
 use Rattle.harbour.proofs.SmallWords.{large-code, large-number}
 use borrow.Author.Needs.{needs}
 use Rattle.harbour.proofs.large_word.Statement.{statement}

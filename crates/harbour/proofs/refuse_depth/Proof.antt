@@ -3,7 +3,6 @@ use borrow.Author.Tests.{le-ltb, lt-ltb}
 use Rattle.frame.proofs.Refusing.{here, next, nothing, refuse-first}
 use Rattle.harbour.specs.Refusals.{harbourOrder, depthRows}
 use Rattle.harbour.proofs.SmallWords.{deep, not-deep}
-use borrow.Author.Needs.{needs}
 use Rattle.harbour.proofs.refuse_depth.Statement.{statement}
 use Rattle.harbour.proofs.refuse_depth.Tie as tie
 

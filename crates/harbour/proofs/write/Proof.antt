@@ -1,5 +1,5 @@
 -- What is refused, or the small word. Assumes nothing.
-use mathlib.Core.Path.{_≡_, _∙_, sym, ap, subst}
+use mathlib.Core.Path.{_∙_, sym, subst}
 use Rattle.frame.proofs.Answering.{answering, refusing}
 use Rattle.harbour.specs.Small.{smallCode}
 use Rattle.harbour.specs.Answers.{smallAnswer, WriteAnswer}

@@ -46,8 +46,9 @@ returns-3 c =
     let e = p .before .before in
     let a = e .before .before .before .cross .result in
     cross-returns _ _ _ (e .before .before .before .cross .ensures) .sent (e .before .if1 .left) (omega arith)
-    (two-parts (now (e .before .before .before .before .before .args .out)) (p .put4 .last .1 .0) (q .put8 .last .1 .0) (bytesOf 4 (a .code .0)) (bytes 8 (a .edge ∷ [])) 4
-    (bytes-of-long 4 (a .code .0)) (p .put4 .ensures) (q .put8 .ensures ∙ laid-one 8 _ _))
+    (two-parts (now (e .before .before .before .before .before .args .out)) (p .put4 .last .1 .0)
+    (q .put8 .last .1 .0) (bytesOf 4 (a .code .0)) (bytes 8 (a .edge ∷ [])) 4 (bytes-of-long 4 (a .code .0))
+    (p .put4 .ensures) (q .put8 .ensures ∙ laid-one 8 _ _))
 
 pub grid-cross-small-spec : {M : Type 1} → statement M
 grid-cross-small-spec =

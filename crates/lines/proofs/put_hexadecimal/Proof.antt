@@ -21,7 +21,10 @@ same-length c = search needs
 
 returns : tie.Need-returns
 unfolding hexadecimal
-returns c = wrote-after refl (omega arith) (omega arith) (c .before .before .before .before .before .before .put-bytes .ensures) (c .before .before .put-digits .ensures)
+returns c =
+    let d = c .before .before in
+    wrote-after refl (omega arith) (omega arith) (d .before .before .before .before .put-bytes .ensures)
+    (d .put-digits .ensures)
 
 pub put-hexadecimal-spec : {M : Type 1} → statement M
 put-hexadecimal-spec =

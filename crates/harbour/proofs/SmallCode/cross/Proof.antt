@@ -1,6 +1,5 @@
 -- What the word refuses, then what the large call does; or the small form of what it answers. Assumes nothing.
-use mathlib.Core.Path.{_≡_, _∙_, sym, ap, subst}
-use Rattle.frame.specs.Refusals.{order}
+use mathlib.Core.Path.{_≡_, _∙_, sym, subst}
 use Rattle.frame.proofs.Refusing.{refuse-before}
 use Rattle.frame.proofs.Answering.{answering, refusing}
 use Rattle.net.specs.Refusals.{oneToThreeRows}

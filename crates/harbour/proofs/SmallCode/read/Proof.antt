@@ -1,5 +1,5 @@
 -- What is refused, or the large word. Assumes nothing.
-use mathlib.Core.Path.{_≡_, _∙_, sym}
+use mathlib.Core.Path.{_∙_, sym}
 use Rattle.frame.proofs.Answering.{answering, refusing}
 use Rattle.words.specs.Family.{codeOf, codeAnswer}
 use borrow.Author.Needs.{needs}

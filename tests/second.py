@@ -49,10 +49,10 @@ and the report too.
 
 For the small words of request 2026-11 the 32 bits are spelled out, field after field; crossing and filing are those of
 the code. The console's calls are made with every code to degree 4: written small, checked and read back; over each edge
-to degree 3, and of a share of degree 4; with words of degree 5 to 24; with each bit turned over, each value that a
-field must not have, and each two such; and with a share of the directions that are filed. The test bench's are lent
-slices of every length too. Each answer is then compared with what check, cross and file answer for the code, which is
-moved from one form to the other by shifts.
+to degree 3, and for a share of degree 4; with codes of degree 5 to 24; with words that have one bit turned over, a
+value that a field must not have, or two such; and with a share of the directions that are filed. The test bench's are
+lent slices of every length too. Each answer is then compared with what check, cross and file answer for the code, which
+is moved from one form to the other by shifts.
 
     second.py CALLS ANSWERS           writes the calls, one a line, and the answers that the console must give to them
     second.py --answer                answers the call lines of standard input, all but help, from no open table on
@@ -452,11 +452,12 @@ def holds(triangle, d):
 
 @lru_cache(maxsize=None)
 def whole_walls(n):
-    """All that differ, and each triangle with the places of its three among them: edges on one line have one wall."""
-    places = {}
-    three_of = {code: [places.setdefault(wall, len(places)) for wall in walls(triangle)]
-                for code, triangle in whole_degree(n).items()}
-    return list(places), [(code, *three) for code, three in three_of.items()]
+    """All that differ, and each triangle with the places of its three among them. Edges on one line have one wall, and
+    it is asked once."""
+    places, triangles = {}, []
+    for code, triangle in whole_degree(n).items():
+        triangles.append((code, *(places.setdefault(wall, len(places)) for wall in walls(triangle))))
+    return list(places), triangles
 
 
 def full_holders(n, d):
@@ -679,9 +680,9 @@ def back_refusals(n, weights):
 
 # "It holds one reading for each triangle of one degree from 0 to 6, in a lent list of signed numbers". "Each triangle
 # gets an owner: 0 nobody, 1 ice, 2 pilotage, in a lent list of the same length." "for each triangle one degree up, the
-# count and sum of its present readings .. in lent lists beside the table". `bad` and `others` tell what numbers the
-# first two lists hold: a call writes only a reading, -1 or an owner, and only where no other number is, so that both
-# stay true from the line that lays the list.
+# count and sum of its present readings .. in lent lists beside the table". `bad` are the places of bad numbers among
+# the readings, `others` the numbers among the owners that are none, as the lists are laid: no call changes them, since
+# it is refused where there are any, and writes none.
 Table = namedtuple("Table", "degree places owners counts sums bad others")
 TABLE_DEEPEST = 6
 NOTHING = -1  # "-1 means no reading"
@@ -1005,12 +1006,8 @@ def small_refusals(small):
     # "a set last bit is 31; the rest as in 01". A degree of 4 bits is at most 15, and so not above 24, for 1; the four
     # zero bits and the corner number of 4 are not there.
     side, degree, digits, last = small_fields(small)
-    return (
-        small_degree_refusals(degree)
-        | when(2, side[0] in (0, 6, 7))
-        | when(3, any(digits[degree:]))
-        | when(31, last != 0)
-    )
+    r = small_degree_refusals(degree) | when(2, side[0] in (0, 6, 7))
+    return r | when(3, any(digits[degree:])) | when(31, last != 0)
 
 
 def writer_refusals(code):
@@ -1423,6 +1420,7 @@ SMALL_HEX = re.compile("0x([0-9A-Fa-f]{1,8})")
 TRIANGLE = re.compile("[0-7][01][01][0-3]{0,24}")
 WHOLE_NUMBER = re.compile("[0-9]+")
 SIGNED_NUMBER = re.compile("-?[0-9]+")
+PART = re.compile("[^ \t\r]+")  # "words separated by spaces, tabs or carriage returns"
 MOST_PLACES, MOST_NUMBERS, MOST_LENT = 16, 48, 64
 
 
@@ -1599,9 +1597,6 @@ def read_arguments(kinds, given):
     return [READERS.get(kind, read_number)(x) for kind, x in zip(kinds, given)]
 
 
-PART = re.compile("[^ \t\r]+")
-
-
 def parts_of(line):
     return PART.findall(line)
 
@@ -1667,7 +1662,7 @@ def check_degree(n):
 
 def check_child_codes():
     """The code of each child has the digit in addition, and the child's parent is the code."""
-    chance = random.Random(17)
+    chance = random.Random(140)
     for n, digit in itertools.product(range(DEEPEST), (0, 1, 2, 3)):
         for code in {random_code(chance, n) for _ in range(9)}:
             child = child_code(code, digit)
@@ -4242,11 +4237,12 @@ class Soundings:
         """A list of owners; `desk` has those that are not 0, as far as there are codes for them."""
         self.many_owners = len(owners)
         self.right_owners = self.has_right_length(owners)
-        self.others = [place for place, x in enumerate(owners) if x > 2] if max(owners, default=0) > 2 else []
+        kinds = set(owners)
+        self.others = [place for place, x in enumerate(owners) if x > 2] if max(kinds, default=0) > 2 else []
         self.desk = {}
-        if self.n <= TABLE_DEEPEST and any(owners):
+        if self.n <= TABLE_DEEPEST and any(kinds):
             self.desk = {code: x for code, x in zip(codes_of(self.n), owners) if x}
-        kinds = {x for x in set(owners) if x <= 2}
+        kinds = {x for x in kinds if x <= 2}
         self.only_kind = kinds.pop() if len(kinds) == 1 else None
 
     def lay_parents(self, kind, numbers):
@@ -4254,9 +4250,10 @@ class Soundings:
         no four readings come to any of them."""
         self.many_parents[kind] = len(numbers)
         self.stored[kind] = {}
-        if self.n <= TABLE_DEEPEST and any(numbers):
+        kinds = set(numbers)
+        if self.n <= TABLE_DEEPEST and any(kinds):
             self.stored[kind] = {code: x for code, x in zip(parents_of(self.n), numbers) if x}
-        self.beyond[kind] = numbers != [] and min(numbers) > {"counts": 4, "sums": 4 * 100_000}[kind]
+        self.beyond[kind] = min(kinds, default=0) > {"counts": 4, "sums": 4 * 100_000}[kind]
 
     def right_parents(self):
         return self.n <= TABLE_DEEPEST and set(self.many_parents.values()) == {len(parents_of(self.n))}
@@ -6493,12 +6490,16 @@ def damaged_small_fields(small):
     yield small | 1
 
 
-def bounds_of_fields():
-    """Small words and words without digits, with each a and degree about a bound, and with the last bit set or not."""
-    for a, n, last in itertools.product((0, 1, 5, 6, 7), (0, 1, 10, 11, 12, 13, 14, 15), (0, 1)):
-        yield a << 29 | n << 23 | last, None
-    for a, n, last in itertools.product((0, 1, 5, 6, 7), (0, 1, 10, 11, 12, 13, 15, 16, 23, 24, 25, 26, 31), (0, 1)):
-        yield None, a << 61 | n << 54 | last
+def small_bounds():
+    """Small words without digits: with each a and degree about a bound, the last bit set or not."""
+    some = itertools.product((0, 1, 5, 6, 7), (0, 1, 10, 11, 12, 13, 14, 15), (0, 1))
+    return [a << 29 | n << 23 | last for a, n, last in some]
+
+
+def word_bounds():
+    """Such words."""
+    some = itertools.product((0, 1, 5, 6, 7), (0, 1, 10, 11, 12, 13, 15, 16, 23, 24, 25, 26, 31), (0, 1))
+    return [a << 61 | n << 54 | last for a, n, last in some]
 
 
 def any_small_crossing(chance, small, edges=(1, 2, 3)):
@@ -6537,7 +6538,7 @@ def damaged_smalls():
             small = broken(small_of(random_code(chance, n)), breaks, chance)
             yield from small_calls(chance, small)
             yield any_small_crossing(chance, small, OUTSIDE_EDGES)
-    for small in (small for small, _ in bounds_of_fields() if small is not None):
+    for small in small_bounds():
         yield from two_small_calls(chance, small)
     for edge in OUTSIDE_EDGES:
         yield any_small_crossing(chance, small_of(random_code(chance, chance.randint(0, 11))), [edge])
@@ -6559,9 +6560,9 @@ def any_smalls():
 
 
 def words_to_write(chance, degrees, turned):
-    """For the writer: the bounds of the fields; codes with each value that a field must not have; at these degrees with
-    each field broken, alone and in pairs; at the others with each bit turned over; and any 64 bits."""
-    yield from (word for _, word in bounds_of_fields() if word is not None)
+    """For the writer: the bounds of the fields; codes with each value that a field must not have; of the first degrees
+    with each field broken, alone and in pairs, of the others with each bit turned over; and any 64 bits."""
+    yield from word_bounds()
     for n in (0, 11, 12, 24):
         yield from damaged_fields(random_code(chance, n))
     for n in degrees:
@@ -6947,6 +6948,7 @@ HOST_ANSWERS = {
 HOST_FORMS = {form.split()[0]: (form.split()[1:], call) for form, call in HOST_ANSWERS.items()}
 
 
+@lru_cache(maxsize=1 << 12)
 def read_decimal(text):
     # "EDGE and DEGREE are decimal, 0 to 2^64 - 1."
     if not WHOLE_NUMBER.fullmatch(text):
@@ -6981,7 +6983,7 @@ LENT = {"OUT": LONGEST, "CODES": LONGEST_SWEEP, **dict.fromkeys(LENT_LISTS, LONG
 def lent_bytes(length, start):
     # "before the call the slice has LENGTH bytes, the first of which is FIRST and each later one is one more than the
     # byte before it, 255 being followed by 0"
-    return bytes((start + at) % 256 for at in range(length))
+    return (bytes(range(256)) * (length // 256 + 2))[start : start + length]
 
 
 def read_lent(kind, words):
@@ -7848,8 +7850,7 @@ def host_damaged_smalls():
     for edge in OUTSIDE_EDGES:
         for n in (0, 2, 11):
             yield host_small_crossing(chance, small_of(random_code(chance, n)), edge)
-    some = [small for small, _ in bounds_of_fields() if small is not None]
-    for small in [*some, *any_small_words(chance, 40)]:
+    for small in [*small_bounds(), *any_small_words(chance, 40)]:
         yield from host_two_small_calls(chance, small)
 
 

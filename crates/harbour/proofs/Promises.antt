@@ -8,6 +8,8 @@ use native.Mathlib.Omega.{arith}
 use lib.Dec.{T, ltb, leb, eqb}
 use lib.Pow.{shr-shr}
 use borrow.Author.Tests.{ltb-true, leb-true, eqb-false, not-true, le-ltb, eq-eqb, ne-eqb}
+use Rattle.frame.specs.Answers.{Answer}
+use Rattle.frame.specs.Promises.{Keeps}
 use Rattle.frame.specs.Refusals.{Row, _when_, _either_, firstOf}
 use Rattle.frame.proofs.Refusing.{here, next, inOrder, inTurn, numbers, _or_, refuse-first, refuse-after, given-so}
 use Rattle.frame.proofs.Refusing.{not-given, either-none, none-after, refusal-append}
@@ -20,7 +22,7 @@ use Rattle.words.specs.declared.TriangleCode.{TriangleCode}
 use Rattle.words.specs.declared.CodeAnswer.{CodeAnswer}
 use Rattle.filing.specs.Refusals.{directionRows}
 use Rattle.filing.specs.declared.Direction.{Direction}
-use Rattle.corners.specs.Answers.{Crossed, CrossAnswer, noStep}
+use Rattle.corners.specs.Answers.{Crossed, CrossAnswer}
 use Rattle.corners.specs.declared.StepAnswer.{StepAnswer}
 use Rattle.corners.proofs.OneAnswer.{cross-one, cross-some}
 use Rattle.directions.specs.Answers.{Filed, FileAnswer}
@@ -29,8 +31,8 @@ use Rattle.harbour.specs.Small.{small, smallCode, largeOf, smallOf}
 use Rattle.harbour.specs.Refusals.{harbourOrder, depthRows, smallRows, lastBitRows, writeRows, checkSmall}
 use Rattle.harbour.specs.Refusals.{refuseWrite}
 use Rattle.harbour.specs.Refusals.{refuseSmallCross, refuseSmallFile}
-use Rattle.harbour.specs.Answers.{smallAnswer, smallStep, noSmall, noSmallStep, smallOfStep, smallOfCode}
-use Rattle.harbour.specs.Answers.{SmallFormOf, ReadAnswer, SmallCrossed, SmallCrossAnswer, SmallFiled}
+use Rattle.harbour.specs.Answers.{smallAnswer, smallStep, smallOfStep, smallOfCode}
+use Rattle.harbour.specs.Answers.{SmallFormOf, ReadAnswer, SmallCrossAnswer}
 use Rattle.harbour.specs.Answers.{SmallFileAnswer}
 use Rattle.harbour.specs.Promises.{OneAnswer, BetweenForms, Refusing, SmallCalls}
 use Rattle.harbour.specs.declared.SmallCode.{SmallCode}
@@ -62,25 +64,30 @@ pub filed-one : (n : ℕ) (d : Direction) → refuseSmallFile n d ≡ 0 → (a b
 filed-one n d z a b x y =
     let e = file-same n d (file-degree n d z) ∙ z in file-one n d a b (answering e x) (answering e y)
 
+-- a call that answers the small form of what the large one does, where that is one and has the number 0
+module _ {A B : Type 0} {f : ℕ} {Large : A → Type 0} {formed : A → B} {zeros : ℕ → B} (number : B → ℕ) where
+  formed-keeps : number (zeros f) ≡ f → ((a : A) → Large a → number (formed a) ≡ 0) → (f ≡ 0 → (a : A) × Large a)
+      → (f ≡ 0 → (a b : A) → Large a → Large b → a ≡ b)
+      → Keeps f (Answer f (SmallFormOf Large formed) zeros) number zeros
+  formed-keeps z answered some one =
+      keeps number z (λ r g. ap number (g .is) ∙ answered (g .answer) (g .large))
+      (answer-some f (SmallFormOf Large formed) zeros (λ e.
+      let a = some e in (formed (a .0), record { answer = a .0; large = a .1; is = refl })))
+      (λ r r′ a b. answer-one (λ e x y. formed-one (one e) x y) a b)
+
 pub one-answer : OneAnswer
 one-answer = record {
   check = λ s. keeps-is (checkSmall s) refl (λ n. refl);
   read = λ s. keeps-known (checkSmall s) _ _ (λ r. r .refusal) refl refl;
   write = λ t. keeps-known (refuseWrite t) _ _ (λ r. r .refusal) refl refl;
   cross = λ s k.
-      keeps (λ r. r .refusal) refl (λ r g. ap (λ (x : SmallStepAnswer). x .refusal) (g .is) ∙ g .large .number)
-      (answer-some (refuseSmallCross s k) _ noSmallStep (λ z.
-      let a = cross-some (largeOf s) k in
-      let x = a .1 .answered (cross-same s k (cross-code s k z) ∙ z) in
-      (smallOfStep (a .0), record { answer = a .0; large = x; is = refl })))
-      (λ r r′ a b. answer-one (λ z x y. formed-one (crossed-one s k z) x y) a b);
+      formed-keeps (λ r. r .refusal) refl (λ a g. g .number)
+      (λ z. let a = cross-some (largeOf s) k in (a .0, a .1 .answered (cross-same s k (cross-code s k z) ∙ z)))
+      (crossed-one s k);
   file = λ n d.
-      keeps (λ r. r .refusal) refl (λ r g. ap (λ (x : SmallAnswer). x .refusal) (g .is) ∙ g .large .number)
-      (answer-some (refuseSmallFile n d) _ noSmall (λ z.
-      let a = file-some n d in
-      let x = a .1 .answered (file-same n d (file-degree n d z) ∙ z) in
-      (smallOfCode (a .0), record { answer = a .0; large = x; is = refl })))
-      (λ r r′ a b. answer-one (λ z x y. formed-one (filed-one n d z) x y) a b);
+      formed-keeps (λ r. r .refusal) refl (λ a g. g .number)
+      (λ z. let a = file-some n d in (a .0, a .1 .answered (file-same n d (file-degree n d z) ∙ z)))
+      (filed-one n d);
 }
 
 -- ---- between the forms
@@ -103,52 +110,43 @@ zero-small : smallOf (codeOf 0) ≡ smallCode 0
 unfolding carried firstDigits path wordIn
 zero-small = refl
 
+-- where both calls refuse the same, f, the small answer is the small form of the large one, refused or not
+formed-answers : {A B : Type 0} {f g : ℕ} {Large : A → Type 0} {formed : A → B} {zeros : ℕ → A} {small : ℕ → B}
+    {r : B} {a : A} → g ≡ f → (f ≡ 0 → (a b : A) → Large a → Large b → a ≡ b) → formed (zeros f) ≡ small f
+    → Answer f (SmallFormOf Large formed) small r → Answer g Large zeros a → r ≡ formed a
+formed-answers {f = f} {formed = formed} {zeros = zeros} e one same x y =
+    ⊎-elim
+    (λ z. let h = x .answered z in h .is ∙ ap formed (one z (h .answer) _ (h .large) (y .answered (e ∙ z))))
+    (λ n. x .refused n ∙ sym same ∙ ap formed (sym (y .refused (λ z. n (sym e ∙ z)) ∙ ap zeros e)))
+    (answers-or-not f)
+
+-- what has the small form of a code reads as the code
+reads-as : {s : SmallCode} {t : TriangleCode} → s ≡ smallOf t → refuseWrite t ≡ 0 → ReadAnswer s (codeAnswer 0 t)
+reads-as {t = t} e p = subst (λ (c : SmallCode). ReadAnswer c (codeAnswer 0 t)) (sym e) (between-forms .writeRead t p)
+
 module _ (s : SmallCode) (k : ℕ) (r : SmallStepAnswer) (a : StepAnswer) (x : SmallCrossAnswer s k r)
     (y : CrossAnswer (largeOf s) k a) where
   crosses : checkSmall s ≡ 0 → r ≡ smallOfStep a
   crosses h =
-      let f = refuseSmallCross s k in
-      let e = cross-same s k h in
-      ⊎-elim
-      (λ z.
-      let own : SmallCrossed s k (smallOfStep a) =
-      record { answer = a; large = y .answered (e ∙ z); is = refl } in
-      formed-one (crossed-one s k z) (x .answered z) own)
-      (λ n.
-      let zeros : smallOfStep (noStep f) ≡ noSmallStep f = λ i. smallStep f (zero-small i) 0 0 0 in
-      let b : a ≡ noStep f = y .refused (λ z. n (sym e ∙ z)) ∙ ap noStep e in
-      x .refused n ∙ sym zeros ∙ ap smallOfStep (sym b)) (answers-or-not f)
+      formed-answers (cross-same s k h) (crossed-one s k)
+      (λ i. smallStep (refuseSmallCross s k) (zero-small i) 0 0 0) x y
 
   crossed : refuseSmallCross s k ≡ 0 → ReadAnswer (r .code) (codeAnswer 0 (a .code))
   crossed z =
       let h = cross-code s k z in
-      let p = neighbour-small s k h a (y .answered (cross-same s k h ∙ z)) in
-      subst (λ (c : SmallCode). ReadAnswer c (codeAnswer 0 (a .code)))
-      (sym (ap (λ (q : SmallStepAnswer). q .code) (crosses h))) (between-forms .writeRead (a .code) p)
+      reads-as (ap (λ (q : SmallStepAnswer). q .code) (crosses h))
+      (neighbour-small s k h a (y .answered (cross-same s k h ∙ z)))
 
 module _ (n : ℕ) (d : Direction) (r : SmallAnswer) (a : CodeAnswer) (x : SmallFileAnswer n d r)
     (y : FileAnswer n d a) where
   files : n ≤ 11 → r ≡ smallOfCode a
   files h =
-      let f = refuseSmallFile n d in
-      let e = file-same n d h in
-      ⊎-elim
-      (λ z.
-      let own : SmallFiled n d (smallOfCode a) =
-      record { answer = a; large = y .answered (e ∙ z); is = refl } in
-      formed-one (filed-one n d z) (x .answered z) own)
-      (λ m.
-      let zeros : smallOfCode (codeAnswer f (codeOf 0)) ≡ noSmall f = λ i. smallAnswer f (zero-small i) in
-      let b : a ≡ codeAnswer f (codeOf 0) =
-      y .refused (λ z. m (sym e ∙ z)) ∙ ap (λ (g : ℕ). codeAnswer g (codeOf 0)) e in
-      x .refused m ∙ sym zeros ∙ ap smallOfCode (sym b)) (answers-or-not f)
+      formed-answers (file-same n d h) (filed-one n d) (λ i. smallAnswer (refuseSmallFile n d) (zero-small i)) x y
 
   filed : refuseSmallFile n d ≡ 0 → ReadAnswer (r .code) (codeAnswer 0 (a .code))
   filed z =
       let h = file-degree n d z in
-      let p = filed-small n d h a (y .answered (file-same n d h ∙ z)) in
-      subst (λ (c : SmallCode). ReadAnswer c (codeAnswer 0 (a .code)))
-      (sym (ap (λ (q : SmallAnswer). q .code) (files h))) (between-forms .writeRead (a .code) p)
+      reads-as (ap (λ (q : SmallAnswer). q .code) (files h)) (filed-small n d h a (y .answered (file-same n d h ∙ z)))
 
 pub small-calls : SmallCalls
 small-calls = record {

@@ -26,7 +26,7 @@ use Rattle.net.specs.Means.Seams.{flip, seamKept, seamSide}
 use Rattle.net.specs.Means.States.{Move, cross, inside, outside}
 use Rattle.net.specs.Means.Walks.{Arrival, Place, around, arrival, arrived, edgeThere, leastName, lesser}
 use Rattle.net.specs.Means.Walks.{nameAt}
-use Rattle.net.specs.Means.Walks.{overSeam, placeAt, ringAt, stepOf, wordAt}
+use Rattle.net.specs.Means.Walks.{overSeam, placeAt, renumbered, ringAt, stepOf, wordAt}
 use Rattle.net.specs.Sides.{IsSide, OneToThree, next}
 use Rattle.net.proofs.CodePlaces.{code-for, codeFor, digitsIn, in-digits, in-length}
 use Rattle.net.proofs.Flips.{each-digits, each-length, flip-digit, flip-digits, flip-prev, flip-three}
@@ -188,7 +188,7 @@ pub spanned : (w unit k : ℕ) → bitAnd (bitXor (3 * flags (other k) w) (3 * f
 unfolding spanOf ones
 spanned w unit k = refl
 
--- ---- for the code: over a seam
+-- ---- for the code: renumbered
 
 -- the word on another side
 side-changed : (s t : ℕ) {n : ℕ} {ds : List ℕ} → IsSide s → n ≤ 24 → AreDigits n ds → (i : ℕ)
@@ -201,12 +201,9 @@ side-changed s t {n} {ds} hs low are i hi =
     let y : (n * 2 ^ 54 + path ds * 2 ^ (54 - 2 * n)) % 64 ≡ 0 = unfold wordIn in omega (arith, z) in
     omega (arith, b, y)
 
-module _ (r k : ℕ) (e : checkNameFields (nameOf r) ≡ 0) (hk : OneToThree k) where
+module _ (r : ℕ) (e : checkNameFields (nameOf r) ≡ 0) where
   abbrev here : Place
   here = placeAt r
-
-  abbrev c : ℕ
-  c = seamKept (here .side) k
 
   pub side-here : sideOf r ≡ here .side
   side-here = sym (inside-side r)
@@ -214,27 +211,23 @@ module _ (r k : ℕ) (e : checkNameFields (nameOf r) ≡ 0) (hk : OneToThree k) 
   pub side-is : IsSide (sideOf r)
   side-is = rw side-here (at-place r e .a-side)
 
-  hc : OneToThree c
-  hc = seam-kept (here .side) (at-place r e .a-side) k hk
-
   pub word-here : r ≡ wordOf (here .side) (degreeOf r) (path (here .digits)) + here .number
   word-here = place-name r e ∙ name-word (at-place r e) (low-degree r e)
 
-  pub seam-word : bitXor r (c * flags (other c) r) % 2 ^ 59 + 2 ^ 59 * seamSide (here .side) k ≡ nameAt
-      (overSeam k here)
+  pub renumbered-word : (c s : ℕ) → OneToThree c
+      → bitXor r (c * flags (other c) r) % 2 ^ 59 + 2 ^ 59 * s ≡ nameAt (renumbered c s here)
   unfolding nameAt wordAt
-  seam-word =
+  renumbered-word c s hc =
       let a = at-place r e in
       let low = low-degree r e in
       let are = digits-are-n a low in
       let i = here .number in
       let hi : i < 4 = omega (arith, a .a-number .1) in
       let f = flipped (here .side) low are i hi c hc in
-      ap (λ (w : ℕ). w % 2 ^ 59 + 2 ^ 59 * seamSide (here .side) k)
-      (ap (λ (w : ℕ). bitXor w (c * flags (other c) w)) word-here ∙ f)
-      ∙ side-changed (here .side) (seamSide (here .side) k) (a .a-side) low (flip-digits c hc are) (flip c i)
+      ap (λ (w : ℕ). w % 2 ^ 59 + 2 ^ 59 * s) (ap (λ (w : ℕ). bitXor w (c * flags (other c) w)) word-here ∙ f)
+      ∙ side-changed (here .side) s (a .a-side) low (flip-digits c hc are) (flip c i)
       (omega (arith, flip-digit c i hc (omega arith)))
-      ∙ ap (λ (m : ℕ). wordOf (seamSide (here .side) k) m (path (each (flip c) (here .digits))) + flip c i)
+      ∙ ap (λ (m : ℕ). wordOf s m (path (each (flip c) (here .digits))) + flip c i)
       (sym (each-length (flip c) (here .digits) ∙ a .degree))
 
 -- ---- for the code: across an edge of a code
@@ -331,7 +324,7 @@ module _ (r : ℕ) (e : checkNameFields (nameOf r) ≡ 0) {k x : ℕ} (f : k ≡
   unfolding around
   around-inside h =
       let i = cornerNumber r in
-      let s = step-inside (q .side) low are i hi k edge (word-here r k e edge) g h k (omega (arith, edge .1)) in
+      let s = step-inside (q .side) low are i hi k edge (word-here r e) g h k (omega (arith, edge .1)) in
       let m : k * (x + 1) ≡ k * x + k = omega arith in
       let n : bitXor i k ≡ next (stepOf k (q .side) (q .digits) .edge) = ap (bitXor i) f ∙ third i (a .a-number)
       ∙ ap next (sym (s .1 ∙ f)) in
@@ -345,7 +338,7 @@ module _ (r : ℕ) (e : checkNameFields (nameOf r) ≡ 0) {k x : ℕ} (f : k ≡
   around-over h =
       let i = cornerNumber r in
       let c = seamKept (q .side) k in
-      let s = step-outside (q .side) low are i hi k edge (word-here r k e edge) g h in
+      let s = step-outside (q .side) low are i hi k edge (word-here r e) g h in
       let hc = seam-kept (q .side) (a .a-side) k edge in
       let n : flip c i ≡ next (flip c k) =
       ap (flip c) (sym (prev-next i (a .a-number))) ∙ flip-prev c hc (next i) (next-three i (a .a-number))

@@ -3,13 +3,13 @@ use crate::Edge;
 use crate::seams;
 use words::TriangleCode;
 ghost use mathlib.Core.Path.{_≡_};
-ghost use Prim.Native.Nat.{_^_, _≤_};
+ghost use Prim.Native.Nat.{_^_, _<_, _≤_};
 ghost use Rattle.words.specs.Refusals.{checkCode, checkNameFields};
 ghost use Rattle.net.specs.Sides.{OneToThree};
 ghost use Rattle.net.specs.Corners.{nameOf};
 ghost use Rattle.net.specs.Means.Spreads.{sign};
 ghost use Rattle.net.specs.Means.Flags.{other, flags, spanOf};
-ghost use Rattle.net.specs.Means.Walks.{stepFrom, edgeThere, placeAt, overSeam, nameAt};
+ghost use Rattle.net.specs.Means.Walks.{stepFrom, edgeThere, placeAt, renumbered, overSeam, nameAt};
 
 // 1 at each of the 27 pairs of bits below a word's degree: its digits, two pairs of zero bits, the corner number.
 const ONES: u64 = 0x15_5555_5555_5555;
@@ -52,15 +52,23 @@ pub fn span_of(w: u64, unit: u64, k: u64) -> u64
 
 // ---- steps
 
-// Over the seam of edge k: on the side across it, with every digit, and the number in the lowest bits, renumbered.
+// On another side s, with c kept and the other two of 1, 2, 3 exchanged, in every digit and in the number in the lowest
+// bits.
+pub fn renumbered(r: u64, c: u64, s: u64) -> u64
+    requires { ⌜ (checkNameFields (nameOf r) ≡ 0) × OneToThree c × (s < 24) ⌝ }
+    ensures { λ q. ⌜ q ≡ nameAt (renumbered c s (placeAt r)) ⌝ }
+{
+    let w = r ^ (c * others_of(r, c));
+    w % SIDE + SIDE * s
+}
+
+// Over the seam of edge k: on the side across it, renumbered.
 pub fn over_seam(r: u64, k: u64) -> u64
     requires { ⌜ (checkNameFields (nameOf r) ≡ 0) × OneToThree k ⌝ }
     ensures { λ q. ⌜ q ≡ nameAt (overSeam k (placeAt r)) ⌝ }
 {
     let s = words::side_of(r);
-    let c = seams::seam_kept(s, k);
-    let w = r ^ (c * others_of(r, c));
-    w % SIDE + SIDE * seams::seam_side(s, k)
+    renumbered(r, seams::seam_kept(s, k), seams::seam_side(s, k))
 }
 
 impl Edge {

@@ -19,11 +19,13 @@ pub record Place : Type 0 where
   pub digits : List ℕ
   pub number : ℕ
 
+-- on another side, with c kept and the other two of 1, 2, 3 exchanged, in every digit and in the number
+abbrev pub renumbered : (c s : ℕ) → Place → Place
+renumbered c s q = record { side = s; digits = each (flip c) (q .digits); number = flip c (q .number) }
+
 -- over the seam of edge k every digit, and the number, is renumbered
 abbrev pub overSeam : ℕ → Place → Place
-overSeam k q =
-    let c = seamKept (q .side) k in
-    record { side = seamSide (q .side) k; digits = each (flip c) (q .digits); number = flip c (q .number) }
+overSeam k q = renumbered (seamKept (q .side) k) (seamSide (q .side) k) q
 
 -- where a step arrives: a triangle, and the number of the shared edge there
 pub record Arrival : Type 0 where

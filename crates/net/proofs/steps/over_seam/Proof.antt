@@ -1,78 +1,47 @@
--- `net::steps::over_seam` meets its contract: the word renumbered, and its side exchanged (WordSteps). Assumes nothing.
+-- `net::steps::over_seam` meets its contract: renumbered, on the side across the seam. Assumes nothing.
 use borrow.Author.Needs.{needs}
 use mathlib.Core.Path.{_∙_, ap}
-use native.Mathlib.Omega.{arith}
-use Prim.Native.Nat.{ℕ, _+_, _*_, _%_, _^_, _<_}
-use lib.Bits.{bitXor}
-use Rattle.net.specs.Sides.{OneToThree}
-use Rattle.net.specs.Means.Flags.{flags, other}
+use Prim.Native.Nat.{ℕ}
+use Rattle.net.specs.Sides.{IsSide}
 use Rattle.net.specs.Means.Seams.{seamKept, seamSide}
+use Rattle.net.specs.Means.Walks.{nameAt, placeAt, renumbered}
 use Rattle.net.proofs.SharedVertices.{seam-kept, seam-side}
-use Rattle.net.proofs.WordSteps.{others-small, seam-word, side-here, side-is, times-fit}
+use Rattle.net.proofs.WordSteps.{side-here, side-is}
 use Rattle.net.proofs.steps.over_seam.Statement.{statement}
 use Rattle.net.proofs.steps.over_seam.Tie as tie
 
 side-of-requires : tie.Need-side-of-requires
 side-of-requires c κs = search needs
 
+a-side : (c : tie.After-side-of) → IsSide (c .side-of .result)
+a-side c = rw (c .side-of .ensures) (side-is (c .before .args .r) (c .before .pre .0))
+
 seam-kept-requires : tie.Need-seam-kept-requires
 seam-kept-requires c κs = search needs
 
--- the number that is kept
-kept : (c : tie.After-seam-kept) → OneToThree (c .seam-kept .result)
-kept c =
-    let s = c .before .before in
-    rw (c .seam-kept .ensures, c .before .side-of .ensures) (seam-kept _
-    (side-is (s .args .r) (s .args .k) (s .pre .0) (s .pre .1)) (s .args .k) (s .pre .1))
-
-others-of-requires : tie.Need-others-of-requires
-others-of-requires c κs = kept c
-
-mul-w : tie.Need-mul-w
-mul-w c =
-    let k = c .before .seam-kept .result in
-    let m : c .others-of .result < 2 ^ 54 =
-    rw (c .others-of .ensures) (others-small k (kept (c .before)) (c .before .before .before .args .r)) in
-    omega (arith, times-fit {x = c .others-of .result} (kept (c .before)) (omega (arith, m)))
-
 seam-side-requires : tie.Need-seam-side-requires
-seam-side-requires c κs =
-    let s = c .before .before .before in
-    rw (c .before .before .side-of .ensures) (side-is (s .args .r) (s .args .k) (s .pre .0) (s .pre .1) .1)
+seam-side-requires c κs = a-side (c .before) .1
 
--- the side across the seam
-low : (c : tie.After-seam-side) → c .seam-side .result < 24
-low c =
-    let s = c .before .before .before .before in
-    rw (c .seam-side .ensures, c .before .before .before .side-of .ensures)
-    (seam-side _ (side-is (s .args .r) (s .args .k) (s .pre .0) (s .pre .1)) (s .args .k) (s .pre .1) .1)
-
-mul-result : tie.Need-mul-result
-mul-result c = omega (arith, low c)
-
-add-result : tie.Need-add-result
-add-result c = omega (arith, low c)
+renumbered-requires : tie.Need-renumbered-requires
+renumbered-requires c κs =
+    let s = c .before .before in
+    let k = s .before .args .k in
+    let p = s .before .pre in (
+      p .0,
+      rw (c .before .seam-kept .ensures) (seam-kept _ (a-side s) k (p .1)),
+      rw (c .seam-side .ensures) (seam-side _ (a-side s) k (p .1) .1),
+    )
 
 returns : tie.Need-returns
 returns c =
-    let k = c .before .before in
-    let s = k .before .before in
-    let r = s .args .r in
-    let e = k .before .side-of .ensures ∙ side-here r (s .args .k) (s .pre .0) (s .pre .1) in
-    let f = k .seam-kept .ensures ∙ ap (λ (n : ℕ). seamKept n (s .args .k)) e in
-    let g = c .before .others-of .ensures ∙ ap (λ (n : ℕ). flags (other n) r) f in
-    let h = c .seam-side .ensures ∙ ap (λ (n : ℕ). seamSide n (s .args .k)) e in
-    (λ i. bitXor r (f i * g i) % 2 ^ 59 + 2 ^ 59 * h i) ∙ seam-word r (s .args .k) (s .pre .0) (s .pre .1)
+    let s = c .before .before .before in
+    let r = s .before .args .r in
+    let k = s .before .args .k in
+    let e = s .side-of .ensures ∙ side-here r (s .before .pre .0) in
+    let f = c .before .before .seam-kept .ensures ∙ ap (λ (n : ℕ). seamKept n k) e in
+    let g = c .before .seam-side .ensures ∙ ap (λ (n : ℕ). seamSide n k) e in
+    c .renumbered .ensures ∙ (λ i. nameAt (renumbered (f i) (g i) (placeAt r)))
 
 pub over-seam-spec : {M : Type 1} → statement M
 over-seam-spec =
-    tie.close
-    (tie.spec
-    side-of-requires
-    seam-kept-requires
-    others-of-requires
-    mul-w
-    seam-side-requires
-    mul-result
-    add-result
-    returns)
+    tie.close (tie.spec side-of-requires seam-kept-requires seam-side-requires renumbered-requires returns)

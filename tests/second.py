@@ -2,16 +2,16 @@
 """A second program for the grid of document 01, "The grid, its words and its rules", written from that paper and the
 requests of document 02 alone.
 
-It answers by literal search, in whole numbers: corners by the division rule on twelve weights; neighbours, names and
-rings by comparing corners over the triangles of the degree; holders by the three determinants. A corner is compared
-with those of every triangle of its degree to degree 5, a direction is tried in every triangle to degree 3. Below that
-the search comes down from all twenty sides, and leaves out only triangles that can not have the corner, or do not hold
-the direction. There are no rules for steps, seams or names here.
+It answers by literal search, in whole numbers: corners by the division rule on twelve weights; neighbours, names,
+rings and opposites by comparing corners over the triangles of the degree; holders by the three determinants. A corner
+is compared with those of every triangle of its degree to degree 5, a direction is tried in every triangle to degree 3.
+Below that the search comes down from all twenty sides, and leaves out only triangles that can not have the corner, or
+do not hold the direction. There are no rules for steps, seams, names or opposites here.
 
-It calls for "every triangle to degree 5": check and parent; child, as far as degree 5 is the answer; cross, name,
-weights, exact, t, drawn and bits with each number; file and list for a direction in its middle, and for one on each
-edge and each corner that has a whole direction at all. Likewise every call on a name for every corner to degree 5. The
-calls below that, and those to be refused, are a choice.
+It calls for "every triangle to degree 5": check, parent and opposite; child, as far as degree 5 is the answer; cross,
+name, weights, exact, t, drawn and bits with each number; file and list for a direction in its middle, and for one on
+each edge and each corner that has a whole direction at all. Likewise every call on a name for every corner to degree 5.
+The calls below that, and those to be refused, are a choice.
 
 For the table of soundings of requests 2026-03, 2026-07 and 2026-08 the console has a state: the one open table, which
 is four lists, of readings and of owners, and of counts and of sums for the triangles one degree up. A code's place is
@@ -53,6 +53,15 @@ to degree 3, and for a share of degree 4; with codes of degree 5 to 24; with wor
 value that a field must not have, or two such; and with a share of the directions that are filed. The test bench's are
 lent slices of every length too. Each answer is then compared with what check, cross and file answer for the code, which
 is moved from one form to the other by shifts.
+
+For the opposites of request 2026-12 the triangle is searched that has the three opposite corners, the second and the
+third exchanged, and the least that has a name's opposite corner. The console's calls are made with every triangle and
+every corner to degree 5; with some of degree 6 to 24, with what lies across their edges, and with all that hold some
+directions and the negated ones; with words that have one bit turned over, a value that a field must not have, or two
+such; and with other words for a corner than its name. The test bench's are made with every triangle to degree 4 and
+every corner to degree 3, and are lent slices of every length too. Each answer is then compared with the request's
+sentences: with the opposite of the opposite; with the exact coordinates, and the digits; with what cross answers on
+either side, and what file and list answer to both directions; and with what check and check-name answer.
 
     second.py CALLS ANSWERS           writes the calls, one a line, and the answers that the console must give to them
     second.py --answer                answers the call lines of standard input, all but help, from no open table on
@@ -1018,6 +1027,23 @@ def small_direction_refusals(n, d):
     return direction_refusals(n, d) | small_degree_refusals(n)
 
 
+# ==== Document 02, 2026-12, "The opposite triangle"
+
+
+@lru_cache(maxsize=1 << 15)
+def opposite_code(code):
+    # "keeps corner and edge 1, and exchanges 2 and 3"
+    one, two, three = map(opposite, corners(code))
+    found = [other for other, _ in having(degree_of(code), one) if corners(other) == (one, three, two)]
+    must(len(found) == 1, "one opposite triangle", code, found)
+    return found[0]
+
+
+def opposite_name(name):
+    # "the opposite name is canonical and has the coordinates negated"
+    return canonical(degree_of(name), opposite(named_corner(name)))
+
+
 # ==== The console's answers
 
 
@@ -1234,6 +1260,14 @@ def call_cross_small(small, edge):
 
 def call_file_small(n, x, y, z):
     return either(small_direction_refusals(n, (x, y, z)), lambda: small_text(min(holders(n, (x, y, z)))))
+
+
+def call_opposite(code):
+    return either(code_refusals(code), lambda: code_text(opposite_code(code)))
+
+
+def call_opposite_name(name):
+    return either(name_refusals(name), lambda: name_text(opposite_name(name)))
 
 
 # ==== The console's table: docs/CONSOLE.md, "A table of soundings"
@@ -1515,6 +1549,8 @@ ANSWERS = {
     "check-small SMALL": call_check_small,
     "cross-small SMALL EDGE": call_cross_small,
     "file-small DEGREE X Y Z": call_file_small,
+    "opposite CODE": call_opposite,
+    "opposite-name NAME": call_opposite_name,
 }
 TABLE_ANSWERS = {
     "table DEGREE [LENGTH FILL [PLACE VALUE]..]": call_table,
@@ -1832,20 +1868,20 @@ def internal_checks():
     check_mend_lines()
     check_least()
     check_small_lines()
+    check_opposite_lines()
 
 
 # ==== Internal checks of what file and list are answered to degree 5
 
 
 def directions_answered(calls, answers):
-    """The codes answered to file and to list, each by degree and direction, for degrees to 5."""
+    """The codes answered to file and to list, each by degree and direction."""
     found = {"file": {}, "list": {}}
     for line, text in zip(calls, answers):
         if line.startswith(("file ", "list ")) and not text.startswith(("refused", "error")):
             call, n, x, y, z = line.split()[:5]
-            if read_number(n) <= WHOLE:
-                codes = [int(word, 16) for word in re.findall("0x[0-9A-F]{16}", text.split("|")[0])]
-                found[call][read_number(n), (read_signed(x), read_signed(y), read_signed(z))] = codes
+            codes = [int(word, 16) for word in re.findall("0x[0-9A-F]{16}", text.split("|")[0])]
+            found[call][read_number(n), (read_signed(x), read_signed(y), read_signed(z))] = codes
     return found["file"], found["list"]
 
 
@@ -1878,8 +1914,7 @@ def check_edges(n, filed, listed):
         must({(code, edge) for code in listed[n, d] for edge in zeros(code, d)} <= known, "on other edges", n, d)
 
 
-def check_answers(calls, answers):
-    filed, listed = directions_answered(calls, answers)
+def check_answers(filed, listed):
     for n in range(WHOLE + 1):
         check_middles(n, filed, listed)
         check_edges(n, filed, listed)
@@ -1942,7 +1977,7 @@ def other_words():
                 if n <= 2 or at % 9 == 0:
                     yield f"check-name {word_text(code | number)}"
                 if at % 401 == 0:
-                    for call in ("name-weights", "name-exact", "name-t", "name-drawn", "name-bits", "ring"):
+                    for call in list(NAME_CALLS)[1:]:  # all but check-name
                         yield f"{call} {word_text(code | number)}"
 
 
@@ -2231,6 +2266,7 @@ CODE_CALLS = {
     "t": [" 3", " 0", " 4", f" {MOST}"],
     "drawn": [" 1", " 0", " 4", f" {MOST}"],
     "bits": [" 2", " 0", " 4", f" {MOST}"],
+    "opposite": [""],
 }
 NAME_CALLS = {
     "check-name": [""],
@@ -2240,6 +2276,7 @@ NAME_CALLS = {
     "name-drawn": [""],
     "name-bits": [""],
     "ring": ["", " 5", " 6", " 7", " 0"],
+    "opposite-name": [""],
 }
 
 
@@ -2332,7 +2369,7 @@ def fixed_words():
     words += [0x2600000000000000 | i for i in range(4)] + [0x2640000000000000 | i for i in range(4)]
     words += [0xB800000000000000 | i for i in range(4)] + [0x2000000000000000 | 1 << k for k in range(64)]
     for word in dict.fromkeys(words):
-        for call in ("check", "check-name", "parent", "ring"):
+        for call in ("check", "check-name", "parent", "ring", "opposite", "opposite-name"):
             yield f"{call} {word_text(word)}"
 
 
@@ -2492,7 +2529,7 @@ def unreadable_calls():
     """Every call with arguments missing, one too many, and each argument unreadable."""
     chance = random.Random(9)
     with_all = ["check", "check-name", "child", "file", "list", "ring", "sweep", "check-cells", "mend-cells"]
-    with_all += SMALL_CALLS
+    with_all += SMALL_CALLS + OPPOSITE_CALLS
     for call, (_, kinds, _) in GRID_FORMS.items():
         good = good_arguments(kinds)
         least = len(kinds) - (kinds[-1] in ("[PLACES]", "WEIGHTS", "[NUMBER]..", "[CODE].."))
@@ -2527,6 +2564,16 @@ UNKNOWN = """
     file_small 2 0 0 1; filesmall 2 0 0 1; file-smal 2 0 0 1; File-small 2 0 0 1; small-file 2 0 0 1; file-large 2 0 0 1
     list-small 2 0 0 1; name-small 0x20000000 1; parent-small 0x20A00000; child-small 0x20000000 1; ring-small 0x2000001
     sweep-small 2 0; -small 100; small-; large-; file-; cross-; small#; large#; check-small#; 0x20A00000; harbour 100
+    Opposite 100; OPPOSITE 100; opposit 100; opposites 100; oposite 100; opposite100; opposite: 100; opposite, 100
+    opposite\u00a0100; opposite#; opposite-; -opposite 100; opposite-code 100; opposite-triangle 100; opposite- 100
+    opposite-100; opposite-corner 100 1; opposite-small 0x20000000; small-opposite 0x20000000; parent-opposite 1001
+    opposite_name 0x2000000000000001; oppositename 0x2000000000000001; opposite-names 0x2000000000000001
+    opposite-nam 0x2000000000000001; Opposite-name 0x2000000000000001; opposite-Name 0x2000000000000001
+    OPPOSITE-NAME 0x2000000000000001; name-opposite 0x2000000000000001; opposit-name 0x2000000000000001
+    opposites-name 0x2000000000000001; opposite-name: 0x2000000000000001; opposite-name\u00a00x2000000000000001
+    opposite--name 0x2000000000000001; opposite-name- 0x2000000000000001; opposite-name#; -opposite-name; opposite.name
+    check-opposite 100; cross-opposite 1001 2; file-opposite 2 0 0 1; list-opposite 2 0 0 1; ring-opposite 0x2000000001
+    opposite-opposite 100; antipode 100; antipodal 100; negate 100; negated 2 0 0 1; antenna 100
     drawn-name 100 1; exact-name 100 1; name-; -name; name-name 1; check#; check, 100; chéck 100; check\u00a0100
     \u2003check 100; \ufeffcheck 100; φ
 """
@@ -2541,6 +2588,8 @@ def unknown_calls():
     yield from ["check-cells\x0b100", "check-cells\x00", "\x0ccheck-cells 100", "check-cells\xff"]
     yield from ["mend-cells\x0b1 1 1", "mend-cells\x00 1 1 1", "\x0cmend-cells 1 1 1", "mend-cells\xff"]
     yield from ["small\x0b100", "large\x000x20000000", "\x0ccheck-small 0x20000000", "cross-small\xff"]
+    yield from ["opposite\x0b100", "opposite\x00", "\x0copposite 100", "opposite\x0c-name 0x2000000000000001"]
+    yield from ["opposite-name\x0b0x2000000000000001", "\x00opposite-name 0x2000000000000001", "opposite-name\xff"]
     yield as_bytes("check 100\u00a0")
 
 
@@ -6401,13 +6450,13 @@ SMALL_TEXT = """
 """
 
 
-def small_example(line):
+def in_words(line):
     """A line, and its answer with the refusal in words."""
     call, text = line.strip().split(" -> ")
     return call, refused(int(text.split()[1])) if text.startswith("refused ") else text
 
 
-SMALL_EXAMPLES = dict(map(small_example, SMALL_TEXT.strip().split("\n")))
+SMALL_EXAMPLES = dict(map(in_words, SMALL_TEXT.strip().split("\n")))
 
 
 # ==== The calls: small words of every code to degree 4, and of some below
@@ -6559,23 +6608,23 @@ def any_smalls():
         yield from two_small_calls(chance, small)
 
 
-def words_to_write(chance, degrees, turned):
-    """For the writer: the bounds of the fields; codes with each value that a field must not have; of the first degrees
+def words_of_all_kinds(chance, degrees, turned, make=random_code, breaks=tuple(CODE_BREAKS)):
+    """The bounds of the fields; words that are made, with each value that a field must not have; of the first degrees
     with each field broken, alone and in pairs, of the others with each bit turned over; and any 64 bits."""
     yield from word_bounds()
     for n in (0, 11, 12, 24):
-        yield from damaged_fields(random_code(chance, n))
+        yield from damaged_fields(make(chance, n))
     for n in degrees:
-        yield from (broken(random_code(chance, n), some, chance) for some in alone_and_in_pairs(CODE_BREAKS))
+        yield from (broken(make(chance, n), some, chance) for some in alone_and_in_pairs(breaks))
     for n in turned:
-        code = random_code(chance, n)
-        yield from (code ^ 1 << bit for bit in range(64))
+        word = make(chance, n)
+        yield from (word ^ 1 << bit for bit in range(64))
     yield from (chance.getrandbits(64) for _ in range(50))
 
 
 def written_small():
     chance = random.Random(146)
-    for word in words_to_write(chance, (0, 1, 4, 7, 10, 11, 12, 13, 18, 23, 24), (11, 12)):
+    for word in words_of_all_kinds(chance, (0, 1, 4, 7, 10, 11, 12, 13, 18, 23, 24), (11, 12)):
         yield f"small {cell_form(chance, word)}"
 
 
@@ -6801,6 +6850,417 @@ def check_small_lines():
         must(answer(line) == "error: write it as " + FORMS[line.split(" ")[0]][0], "unreadable", line)
 
 
+# ==== The calls: opposites, examples with the answers written out by hand
+
+OPPOSITE_CALLS = ["opposite", "opposite-name"]
+# By the table of directions V(00) and V(01) are opposite, and so are V(10) and V(31), V(20) and V(41), V(30) and V(51),
+# V(40) and V(11), V(50) and V(21). Side 100 is V(00), V(10), V(20); opposite to its corners 1, 3, 2 are V(01), V(41),
+# V(31): 310. Side 101 is V(11), V(20), V(10); opposite to its corners 1, 3, 2 are V(40), V(31), V(41): 311. And so on,
+# with the next a for all. Where the corners of the opposite triangle are B1, B2, B3, and the middles of its edges N1,
+# N2, N3, the corners A1, A2, A3 are opposite to B1, B3, B2, and the middles M1, M2, M3 to N1, N3, N2. Then child 2, M3,
+# A2, M1, has its corners 1, 3, 2 opposite to N2, N1, B3: child 3; and child 0 has them opposite to N1, N2, N3.
+#
+# The holders of (0, 0, 1) at degree 2 are the six triangles at the middle of V(00) and V(10), three in each of sides
+# 100 and 500; those of (0, 0, -1) are three in each of 310 and 210. E3 and E7 file them in the least: 10003 and 21003.
+# The opposite of 10003 is 31002, which holds (0, 0, -1) too; 21003 is the opposite of 50002. (1, 0, 0) is held by six
+# in sides 111 and 201, (-1, 0, 0) by six in 401 and 411: E6's 11102 and its opposite are the least. E4 and E5 are held
+# by one triangle each.
+#
+# The least side with V(01) is 110, with V(31) 210, with V(11) 101, and with V(41), V(51), V(21) 310, 410, 110; and the
+# least with V(00), V(10), V(20) is 100, with V(30), V(40), V(50) 200, 300, 400. So corner 1 of 100 is not named by the
+# opposite triangle 310, and corner 3 is.
+OPPOSITE_TEXT = """
+    opposite 100 -> 310 0x7000000000000000
+    opposite 200 -> 410 0x9000000000000000
+    opposite 300 -> 510 0xB000000000000000
+    opposite 400 -> 110 0x3000000000000000
+    opposite 500 -> 210 0x5000000000000000
+    opposite 101 -> 311 0x7800000000000000
+    opposite 201 -> 411 0x9800000000000000
+    opposite 301 -> 511 0xB800000000000000
+    opposite 401 -> 111 0x3800000000000000
+    opposite 501 -> 211 0x5800000000000000
+    opposite 110 -> 400 0x8000000000000000
+    opposite 210 -> 500 0xA000000000000000
+    opposite 310 -> 100 0x2000000000000000
+    opposite 410 -> 200 0x4000000000000000
+    opposite 510 -> 300 0x6000000000000000
+    opposite 111 -> 401 0x8800000000000000
+    opposite 211 -> 501 0xA800000000000000
+    opposite 311 -> 101 0x2800000000000000
+    opposite 411 -> 201 0x4800000000000000
+    opposite 511 -> 301 0x6800000000000000
+    opposite 1000 -> 3100 0x7040000000000000
+    opposite 1001 -> 3101 0x7050000000000000
+    opposite 1002 -> 3103 0x7070000000000000
+    opposite 1003 -> 3102 0x7060000000000000
+    file 2 0 0 1 -> 10003 0x208C000000000000
+    file 2 0 0 -1 -> 21003 0x508C000000000000
+    opposite 10003 -> 31002 0x7088000000000000
+    opposite 0x208C000000000000 -> 31002 0x7088000000000000
+    opposite 31002 -> 10003 0x208C000000000000
+    opposite 21003 -> 50002 0xA088000000000000
+    opposite 50002 -> 21003 0x508C000000000000
+    list 0 0 0 1 -> 2: 100 0x2000000000000000, 500 0xA000000000000000
+    list 0 0 0 -1 -> 2: 210 0x5000000000000000, 310 0x7000000000000000
+    opposite 200000 -> 410000 0x90C0000000000000
+    opposite 410000 -> 200000 0x40C0000000000000
+    opposite 11102 -> 40103 0x888C000000000000
+    file 2 -1 0 0 -> 40103 0x888C000000000000
+    opposite 10001230123 -> 31001320132 0x7207878000000000
+    opposite 100111111111111111111111111 -> 310111111111111111111111111 0x7615555555555540
+    opposite 511333333333333333333333333 -> 301222222222222222222222222 0x6E2AAAAAAAAAAA80
+    opposite 0xBE3FFFFFFFFFFFC0 -> 301222222222222222222222222 0x6E2AAAAAAAAAAA80
+    opposite 301222222222222222222222222 -> 511333333333333333333333333 0xBE3FFFFFFFFFFFC0
+    opposite 0x2640000000000000 -> refused 1
+    opposite 0xC640000000000001 -> refused 1
+    opposite 000 -> refused 2
+    opposite 600 -> refused 2
+    opposite 0x0 -> refused 2
+    opposite 0xC010000000000001 -> refused 2
+    opposite 0x2010000000000000 -> refused 3
+    opposite 0x2050000000000040 -> refused 3
+    opposite 0x2010000000000001 -> refused 3
+    opposite 0x2050000000000004 -> refused 4
+    opposite 0x2000000000000001 -> refused 4
+    opposite-name 0x2000000000000001 -> 0x3000000000000001 corner 1 of 110
+    opposite-name 0x3000000000000001 -> 0x2000000000000001 corner 1 of 100
+    opposite-name 0x2000000000000002 -> 0x5000000000000002 corner 2 of 210
+    opposite-name 0x5000000000000002 -> 0x2000000000000002 corner 2 of 100
+    opposite-name 0x2000000000000003 -> 0x7000000000000002 corner 2 of 310
+    opposite-name 0x7000000000000002 -> 0x2000000000000003 corner 3 of 100
+    opposite-name 0x4000000000000003 -> 0x9000000000000002 corner 2 of 410
+    opposite-name 0x9000000000000002 -> 0x4000000000000003 corner 3 of 200
+    opposite-name 0x6000000000000003 -> 0x2800000000000001 corner 1 of 101
+    opposite-name 0x2800000000000001 -> 0x6000000000000003 corner 3 of 300
+    opposite-name 0x8000000000000003 -> 0x3000000000000002 corner 2 of 110
+    opposite-name 0x3000000000000002 -> 0x8000000000000003 corner 3 of 400
+    opposite-name 0x2040000000000001 -> 0x7040000000000001 corner 1 of 3100
+    opposite-name 0x2040000000000003 -> 0x5040000000000003 corner 3 of 2100
+    opposite-name 0x208C000000000003 -> 0x508C000000000003 corner 3 of 21003
+    opposite-name 0x2080000000000001 -> 0x7080000000000001 corner 1 of 31000
+    opposite-name 0x2080000000000002 -> 0x7080000000000003 corner 3 of 31000
+    opposite-name 0x2615555555555541 -> 0x3615555555555541 corner 1 of 110111111111111111111111111
+    opposite-name 0x262AAAAAAAAAAA82 -> 0x562AAAAAAAAAAA82 corner 2 of 210222222222222222222222222
+    opposite-name 0x263FFFFFFFFFFFC3 -> 0x762AAAAAAAAAAA82 corner 2 of 310222222222222222222222222
+    opposite-name 0x2640000000000001 -> refused 1
+    opposite-name 0xC640000000000000 -> refused 1
+    opposite-name 0x0 -> refused 2
+    opposite-name 0x3 -> refused 2
+    opposite-name 0xC010000000000000 -> refused 2
+    opposite-name 0x2010000000000001 -> refused 3
+    opposite-name 0x2010000000000000 -> refused 3
+    opposite-name 0x2000000000000000 -> refused 4
+    opposite-name 0x2000000000000005 -> refused 4
+    opposite-name 0x4000000000000005 -> refused 4
+    opposite-name 0x4000000000000001 -> refused 10
+    opposite-name 0x4000000000000002 -> refused 10
+    opposite-name 0x7000000000000001 -> refused 10
+    opposite-name 0x7000000000000003 -> refused 10
+    opposite-name 0x7040000000000002 -> refused 10
+    opposite-name 0xBE3FFFFFFFFFFFC3 -> refused 10
+"""
+OPPOSITE_EXAMPLES = dict(map(in_words, OPPOSITE_TEXT.strip().split("\n")))
+
+
+# ==== The calls: opposites of every triangle and every corner to degree 5, and of some below
+
+
+def every_opposite():
+    for n in range(WHOLE + 1):
+        yield from (f"opposite {some_form(code, at)}" for at, code in enumerate(whole_degree(n)))
+        yield from (f"opposite-name 0x{canonical(n, p):016{'xX'[at % 2]}}" for at, p in enumerate(whole_index(n)))
+
+
+def deep_opposites():
+    """A triangle and its opposite. Of both the triangles across the edges, and the corners."""
+    chance = random.Random(161)
+    for n in range(WHOLE + 1, DEEPEST + 1):
+        for at in range(6):
+            code = (random_code, random_code, seam_code)[at % 3](chance, n)
+            for one in (code, opposite_code(code)):
+                yield f"opposite {any_form(chance, one)}"
+                for edge in (1, 2, 3):
+                    yield f"cross {any_form(chance, one)} {edge}"
+                    yield f"opposite {any_form(chance, neighbour(one, edge)[0])}"
+                yield from (f"opposite-name {some_word(chance, canonical(n, p))}" for p in corners(one))
+
+
+def opposite_directions():
+    """Directions, on edges and corners among them, and the negated ones, below degree 5: all that hold them."""
+    chance = random.Random(162)
+    on_no_corner = [d for d in edge_directions(WHOLE) if d not in corner_directions(WHOLE)]
+    for n in range(WHOLE + 1, DEEPEST + 1):
+        some = chance.sample(all_directions(), 3) + chance.sample(on_no_corner, 2) + [chance.choice(on_corners())]
+        for d in itertools.chain.from_iterable(map(both_ways, some)):
+            yield from file_and_list(n, [d])
+            yield from (f"opposite {any_form(chance, code)}" for code in holders(n, d))
+
+
+# ==== The calls: opposites that are refused
+
+# What makes a good word for each call, and what breaks it.
+OPPOSITE_KINDS = {"opposite": (random_code, CODE_BREAKS), "opposite-name": (random_name, NAME_BREAKS)}
+
+
+def damaged_opposites():
+    chance = random.Random(163)
+    for call, (make, breaks) in OPPOSITE_KINDS.items():
+        form = cell_form if call == "opposite" else some_word
+        for word in words_of_all_kinds(chance, (0, 1, 5, 14, 23, 24), (0, 4, 24), make, breaks):
+            yield f"{call} {form(chance, word)}"
+
+
+def words_for_corners(chance, whole, many):
+    """Every word for a corner, its name first: for all corners to a degree, and so many of each degree below."""
+    for n in range(DEEPEST + 1):
+        some = whole_index(n) if n <= whole else [chance.choice(corners(random_code(chance, n))) for _ in range(many)]
+        yield from (code | number for p in some for code, number in having(n, p))
+
+
+def opposites_of_others():
+    chance = random.Random(164)
+    yield from (f"opposite-name {some_word(chance, word)}" for word in words_for_corners(chance, 2, 3))
+
+
+# ==== The calls: lines with opposites that cannot be read, and lines that can, just
+
+UNREADABLE_OPPOSITES = """
+    opposite; opposite-name; opposite x; opposite 1; opposite 10; opposite 800; opposite 1004; opposite 120
+    opposite 102; opposite 0x; opposite 0x20500000000000000; opposite 0X2050000000000000; opposite 2050000000000000
+    opposite -100; opposite +100; opposite 100,; opposite 100.; opposite 10O; opposite 100 1; opposite 100 101
+    opposite 100 100; opposite 100 # note; opposite #; opposite CODE; opposite NAME; opposite of 100; opposite - 100
+    opposite 1000000000000000000000000000; opposite name 0x2000000000000001; opposite -name 0x2000000000000001
+    opposite corner 100 1; opposite 100 2 3; opposite 0 0 1; opposite 2 0 0 1; opposite 600 1; opposite 0x0 0x0
+    opposite 0x2640000000000000 x; opposite 0x200000000000000g; opposite 0x2000_0000_0000_0000; opposite "100"
+    opposite 0x2000000000000000 0x2000000000000001; opposite 2305843009213693952; opposite opposite 100
+    opposite-name 100; opposite-name 10003; opposite-name 1; opposite-name 0; opposite-name 000; opposite-name 600
+    opposite-name 100 1; opposite-name 600 4; opposite-name x; opposite-name 0x; opposite-name 2000000000000001
+    opposite-name 0x20000000000000001; opposite-name 0x00000000000000001; opposite-name 0X2000000000000001
+    opposite-name -0x1; opposite-name +0x1; opposite-name 0x-1; opposite-name 0x1G; opposite-name 2305843009213693953
+    opposite-name 0x2000000000000001 1; opposite-name 0x2000000000000001 0x2000000000000001; opposite-name NAME
+    opposite-name 0x2000000000000001 # note; opposite-name #; opposite-name 0x2000000000000001,; opposite-name CODE
+    opposite-name 0x0 0; opposite-name 0x4000000000000001 x; opposite-name 0x2000000000000001 corner 1 of 100
+    opposite-name corner 1 of 110; opposite-name name; opposite-name V(00); opposite-name 00; opposite-name "0x1"
+    opposite ١٠٠; opposite φ; opposite −100; opposite 100\u00a0; opposite \u00a0100; opposite 100\u00a01
+    opposite-name 0x٢; opposite-name φ; opposite-name 0x2000000000000001\u00a0; opposite-name \u00a00x2000000000000001
+"""
+
+
+def unreadable_opposites():
+    """What can not be read is said before any refusal."""
+    yield from written(UNREADABLE_OPPOSITES)
+    yield from ["opposite 100\x00", "opposite \x0c100", "opposite 100\x0b", "opposite 0x0 \x00", "opposite \xff"]
+    yield from ["opposite-name 0x2000000000000001\x00", "opposite-name \x0b0x1", "opposite-name 0x1 \xff"]
+    yield from [filled("opposite 100", 998) + " 1", filled("opposite-name 0x2000000000000001", 998) + " x"]
+
+
+READABLE_OPPOSITES = """
+    opposite 0x2000000000000000; opposite 0xb800000000000000; opposite 0xB800000000000000; opposite 0x208c000000000000
+    opposite 0x208C000000000000; opposite 0x1; opposite 0x00; opposite 0x0000000000000000; opposite 0003; opposite 6001
+    opposite 711; opposite 711333333333333333333333333; opposite 511333333333333333333333333; opposite 0x20000000000000
+    opposite 0xaBcDeF0123456789; opposite 0xFFFFFFFFFFFFFFFF; opposite 0xffffffffffffffff; opposite 0xbe3FffFfffFFFFc0
+    opposite-name 0x1; opposite-name 0x00; opposite-name 0x0000000000000003; opposite-name 0x208c000000000003
+    opposite-name 0x263fffffffffffc3; opposite-name 0x263FFfffffffFFc3; opposite-name 0xbE00000000000003
+    opposite-name 0xaBcDeF0123456789; opposite-name 0x20000000000001; opposite-name 0xFFFFFFFFFFFFFFFF
+    opposite-name 0xffffffffffffffff; opposite-name 0xfffffffffffffff
+"""
+
+
+def spaced_opposites():
+    """Either case, tabs and carriage returns, and lines of 1000 bytes and more."""
+    yield from written(READABLE_OPPOSITES)
+    yield from ["\topposite\t1001\t", "opposite 10003\r", "  opposite   511  ", "\ropposite\r100"]
+    yield from ["\topposite-name\t0x2000000000000001\t", "opposite-name 0x2000000000000001\r", "\ropposite-name\r0x1"]
+    yield from ["  opposite-name   0x4000000000000001  ", "opposite \t\r 100 \r", "opposite-name \t\r 0x2000000000000000 \r"]
+    for length in (999, 1000, 1001, 2000):
+        yield filled("opposite 1001", length)
+        yield " " * (length - len("opposite 100")) + "opposite 100"
+        yield filled("opposite 0x2000000000000001", length, "\t")
+        yield filled("opposite-name 0x2000000000000001", length, "\r")
+        yield "opposite-name" + " " * (length - 31) + "0x4000000000000001"
+        yield "opposite 10003"
+
+
+def opposites_on_table():
+    """An opposite leaves the open table as it is, also one that is refused or can not be read."""
+    for line in ("table 1 80 -1 1 1250 79 0", "table 7 3 500"):
+        yield line
+        for other in ("opposite 1001", "opposite-name 0x2040000000000003", "opposite 600"):
+            yield from [other, "get 1001", "get 3101", "readings"]
+        for other in ("opposite-name 0x4000000000000001", "opposite", "opposite 1001 1", "opposite-name 1001"):
+            yield from [other, "readings"]
+
+
+# ==== Internal checks of what is answered to opposites
+
+OPPOSITE_LINE = re.compile(rf"[ \t\r]*({'|'.join(OPPOSITE_CALLS)})(?![^ \t\r])")
+OPPOSITE_NUMBERS = {"opposite": {1, 2, 3, 4}, "opposite-name": {1, 2, 3, 4, 10}}
+OppositeSeen = namedtuple("OppositeSeen", "call word held no other")
+CROSS_ANSWER = re.compile("[^ ]+ 0x([0-9A-F]{16}) edge ([123]) corners ([123]) ([123])")
+# "keeps corner and edge 1, and exchanges 2 and 3, in digits too". Digit 0 has none to be exchanged with.
+EXCHANGED = (0, 1, 3, 2)
+
+
+def check_opposite_triangle(code, other):
+    """A code of the degree; its corners, by their exact coordinates; and its digits."""
+    must(not code_refusals(other) and degree_of(other) == degree_of(code), "a code of the degree", code, other)
+    ours, theirs = ([exact(p) for p in corners(x)] for x in (code, other))
+    must(theirs == [negated(ours[EXCHANGED[k] - 1]) for k in (1, 2, 3)], "the negated corners", code, other)
+    must(digits_of(other) == [EXCHANGED[digit] for digit in digits_of(code)], "exchanged in digits too", code, other)
+
+
+def check_opposite_corner(name, other):
+    # "For every corner, the opposite name is canonical and has the coordinates negated."
+    must(call_check_name(other) == "ok" and degree_of(other) == degree_of(name), "a name of the degree", name, other)
+    must(exact(named_corner(other)) == negated(exact(named_corner(name))), "the coordinates negated", name, other)
+
+
+def checked_number(call, word):
+    """That with which the word is refused when it is checked, or 0."""
+    text = {"opposite": call_check, "opposite-name": call_check_name}[call](word)
+    return 0 if text == "ok" else int(re.match("refused ([0-9]+): ", text)[1])
+
+
+def seen_opposite(line, text):
+    call, *words = parts_of(line)
+    (word,) = read_arguments(FORMS[call][1], words)
+    held, no = (code_refusals if call == "opposite" else name_refusals)(word), checked_number(call, word)
+    if no:
+        must(text == refused(no), "refused as it is checked", line, text)
+        return OppositeSeen(call, word, held, no, None)
+    other = int(re.search("0x([0-9A-F]{16})", text)[1], 16)
+    if call == "opposite":
+        must(text == code_text(other), "a triangle", line, text)
+        check_opposite_triangle(word, other)
+    else:
+        must(text == name_text(other), "a corner", line, text)
+        check_opposite_corner(word, other)
+    return OppositeSeen(call, word, held, no, other)
+
+
+def check_twice(found):
+    """All to degree 3, and some of each degree below, are asked together with what is answered."""
+    # "Opposite twice is the identity"
+    for call, others in found.items():
+        met = Counter()
+        for word, other in others.items():
+            must(others.get(other, word) == word, "twice", call, word, other)
+            met[degree_of(word)] += other in others
+        for n in range(DEEPEST + 1):
+            every = 20 * 4**n if call == "opposite" else 10 * 4**n + 2
+            must(met[n] == every if n <= FULL else met[n] > 0, "twice at every degree", call, n, met[n])
+
+
+def check_opposite_whole(found):
+    """Every triangle and every corner to degree 5 is asked. The opposite of a triangle lies in that of its side. The
+    opposite corner's name is the least word that the opposites of the corner's triangles have for it; it is not always
+    the one that the opposite of the least of them has."""
+    triangles, names = found["opposite"], found["opposite-name"]
+    for code, other in triangles.items():
+        must(side_of(other) == side_of(triangles[make_code(side_of(code), [])]), "the opposite side", code, other)
+    for n in range(WHOLE + 1):
+        must(all(code in triangles for code in whole_degree(n)), "every triangle", n)
+        of_least = set()
+        for places in whole_index(n).values():
+            words = [triangles[code] | EXCHANGED[number] for code, number in places]
+            name = places[0][0] | places[0][1]
+            must(names.get(name) == min(words), "every corner, and the least", n, name)
+            of_least.add(names[name] == words[0])
+        must(of_least == {True, False}, "by the opposite of the least, and not", n)
+
+
+def crossings_answered(calls, answers):
+    """By code and edge: the code, the edge's number there, and the numbers there of its two corners."""
+    found = {}
+    for line, text in zip(calls, answers):
+        across = CROSS_ANSWER.fullmatch(text) if line.startswith("cross ") else None
+        if across:
+            _, code, edge = parts_of(line)
+            shared, one, two = map(int, across.group(2, 3, 4))
+            found[read_code(code), read_number(edge)] = int(across[1], 16), shared, (one, two)
+    return found
+
+
+def exchanged_crossing(edge, shared, turned):
+    """The edge, its number in the neighbour, and how the corners turned, with 2 and 3 exchanged here and there; the
+    corners are again in rising number."""
+    here = [k for k in (1, 2, 3) if k != edge]
+    pairs = sorted((EXCHANGED[x], EXCHANGED[there]) for x, there in zip(here, turned))
+    return EXCHANGED[edge], EXCHANGED[shared], tuple(there for _, there in pairs)
+
+
+def check_opposite_crossings(crossings, triangles):
+    """Every triangle to degree 5, and some of each degree below, over each edge."""
+    # "it carries neighbours to neighbours, keeps corner and edge 1, and exchanges 2 and 3"
+    met = Counter()
+    for (code, edge), (across, shared, turned) in crossings.items():
+        if code in triangles and across in triangles:
+            k, there, corners_there = exchanged_crossing(edge, shared, turned)
+            found = crossings.get((triangles[code], k))
+            must(found in (None, (triangles[across], there, corners_there)), "neighbours to neighbours", code, edge)
+            met[degree_of(code), edge] += found is not None
+    for n, edge in itertools.product(range(DEEPEST + 1), (1, 2, 3)):
+        must(met[n, edge] == 20 * 4**n if n <= WHOLE else met[n, edge] > 0, "over each edge", n, edge, met[n, edge])
+
+
+def check_opposite_holders(filed, listed, triangles):
+    """Of each degree directions with 1, 2 and 6 holders; and such that are filed in opposites, and that are not."""
+    met = set()
+    for (n, d), codes in listed.items():
+        beyond = (n, both_ways(d)[1])
+        if beyond in listed and all(code in triangles for code in codes):
+            # "The set of holders of the negated direction is the set of opposites of the holders."
+            must(listed[beyond] == sorted(triangles[code] for code in codes), "the opposites hold", n, d)
+            met.add((n, len(codes)))
+            if (n, d) in filed and beyond in filed:
+                # "The filed code need not be the opposite, ties going to the least code."
+                is_opposite = filed[beyond] == [triangles[codes[0]]]
+                must(filed[n, d] == codes[:1] and (is_opposite or len(codes) > 1), "filed", n, d)
+                met.add((n, is_opposite, "filed"))
+    for n in range(DEEPEST + 1):
+        # "at degree 0 there are 1 or 2"
+        must({(n, many) for many in ((1, 2, 6) if n > 0 else (1, 2))} <= met, "held by each count", n)
+        must({(n, true, "filed") for true in (True, False)} <= met, "filed in opposites, and not", n)
+
+
+def check_opposite_numbers(seen):
+    """Each refusal that a call can give is given, and no other, and each two that can hold at once do."""
+    for call, numbers in OPPOSITE_NUMBERS.items():
+        here = [x for x in seen if x.call == call]
+        must({x.no for x in here} == numbers | {0}, "just these refusals, and answers", call)
+        at_once = {frozenset(two) for x in here for two in itertools.combinations(x.held, 2)}
+        must(at_once == together(call, numbers), "just these at once", call, at_once)
+        for n in range(DEEPEST + 1):
+            nos = {x.no for x in here if degree_of(x.word) == n}
+            must(nos >= ({0, 10} if call == "opposite-name" else {0}), "at each degree", call, n, nos)
+
+
+def check_opposite_answers(calls, answers, filed, listed):
+    lines = [(line, text) for line, text in zip(calls, answers) if OPPOSITE_LINE.match(line)]
+    seen = [seen_opposite(line, text) for line, text in lines if not text.startswith(UNREAD)]
+    found = {call: {x.word: x.other for x in seen if x.call == call and x.no == 0} for call in OPPOSITE_CALLS}
+    check_twice(found)
+    check_opposite_whole(found)
+    check_opposite_crossings(crossings_answered(calls, answers), found["opposite"])
+    check_opposite_holders(filed, listed, found["opposite"])
+    check_opposite_numbers(seen)
+
+
+def check_opposite_lines():
+    """The answers by hand. Of those that hold E3's direction and E7's, each is opposite to one, and the least are not
+    opposite. And lines that can not be read are all answered by the call's form."""
+    for line, text in OPPOSITE_EXAMPLES.items():
+        must(answer(line) == text, "by hand", line, text, answer(line))
+    up, down = "10003 10012 10021 50002 50013 50031".split(), "31002 31013 31031 21003 21012 21021".split()
+    must(holders(2, (0, 0, 1)) == [read_triangle(x) for x in up], "the holders of E3's direction")
+    must(holders(2, (0, 0, -1)) == sorted(read_triangle(x) for x in down), "the holders of E7's direction")
+    for x, y in zip(up, down):
+        must(answer(f"opposite {x}") == code_text(read_triangle(y)), "opposite to the other", x, y)
+    for line in unreadable_opposites():
+        must(answer(line) == "error: write it as " + FORMS[line.split(" ")[0]][0], "unreadable", line)
+
+
 # ==== Document 02, 2026-01, "Plotter host in C": the answers
 
 # "It needs check, cross, file and list as calls exported to a C host, on plain numbers and byte slices." "cross writes
@@ -6810,10 +7270,11 @@ def check_small_lines():
 # tests/host/LINES.md: "check-cells writes 16 bytes of OUT, the reason and the place"; mend-cells "16 bytes of OUT, the
 # number of codes and of changes"; "small writes the small word (4 bytes of OUT), large the code (8), cross-small the
 # neighbour's small word and then the edge's number there (4 + 8 = 12 bytes; ..), file-small the small word (4);
-# check-small writes nothing".
+# check-small writes nothing"; "opposite writes the code (8 bytes of OUT), opposite-name the name (8)".
 NEEDED = {"check-triangle": 0, "check-name": 0, "cross": 16, "file": 8, "list": 56, "sweep": 24}
 NEEDED.update({"check-cells": 16, "mend-cells": 16})
 NEEDED.update({"small": 4, "large": 8, "check-small": 0, "cross-small": 12, "file-small": 4})
+NEEDED.update({"opposite": 8, "opposite-name": 8})
 LONGEST = 64
 LONGEST_SWEEP = 384
 LONGEST_LIST = 32_800
@@ -6905,6 +7366,14 @@ def host_file_small(n, *d):
     return small_direction_refusals(n, d), lambda: [[small_bytes(min(holders(n, d)))]]
 
 
+def host_opposite(code):
+    return code_refusals(code), lambda: [[opposite_code(code)]]
+
+
+def host_opposite_name(name):
+    return name_refusals(name), lambda: [[opposite_name(name)]]
+
+
 def least_lengths(call, arguments):
     """How long each slice must be that is lent to the call, if any is."""
     # Document 02, 2026-04: "or the code list is shorter than the number of directions".
@@ -6944,6 +7413,8 @@ HOST_ANSWERS = {
     "check-small SMALL": host_check_small,
     "cross-small SMALL EDGE OUT": host_cross_small,
     "file-small DEGREE X Y Z OUT": host_file_small,
+    "opposite CODE OUT": host_opposite,
+    "opposite-name WORD OUT": host_opposite_name,
 }
 HOST_FORMS = {form.split()[0]: (form.split()[1:], call) for form, call in HOST_ANSWERS.items()}
 
@@ -7285,6 +7756,37 @@ HOST_EXAMPLES = {
     "check-small 0x06000001": "30",
     "check-small 0x0": "2",
     "check-small 0x20000003": "3",
+    # The examples of the two calls for opposites. 10003, whose opposite is 31002; and V(00), which is corner 1 of 100
+    # and of 200, and whose opposite V(01) is corner 1 of 110.
+    "opposite 0x208C000000000000 8 0": "0 7088000000000000",
+    "opposite-name 0x2000000000000001 10 0": "0 30000000000000010809",
+    "opposite 0x208C000000000000 7 0": "9 00010203040506",
+    "opposite-name 0x4000000000000001 8 0": "10 0001020304050607",
+    # E7's 21003, whose opposite is 50002; 511 with 24 digits 3, and 301 with 24 digits 2. V(20), of E11, and V(41).
+    "opposite 0x508c000000000000 8 9": answered_bytes(0, "a0 88 00 00 00 00 00 00"),
+    "opposite 0xbe3fffffffffffc0 9 248": answered_bytes(0, "6e 2a aa aa aa aa aa 80 00"),
+    "opposite 0x6E2AAAAAAAAAAA80 8 0": answered_bytes(0, "be 3f ff ff ff ff ff c0"),
+    "opposite-name 0x2000000000000003 8 7": answered_bytes(0, "70 00 00 00 00 00 00 02"),
+    "opposite-name 0x7000000000000002 10 0": answered_bytes(0, "20 00 00 00 00 00 00 03 08 09"),
+    # One byte less than is needed, and none.
+    "opposite 0x2050000000000000 0 9": "9",
+    "opposite 0x2050000000000000 null": "9",
+    "opposite-name 0x2000000000000001 7 250": answered_bytes(9, "fa fb fc fd fe ff 00"),
+    "opposite-name 0x2000000000000001 null": "9",
+    # "Where several hold, the order is 1, 2, 3, 4, 10, 5, 6, 8, 7, 9, 11."
+    "opposite 0xc640000000000001 null": "1",
+    "opposite 0xc010000000000001 null": "2",
+    "opposite 0x2010000000000001 1 5": "3 05",
+    "opposite 0x2050000000000001 null": "4",
+    "opposite-name 0xc640000000000000 null": "1",
+    "opposite-name 0xc010000000000000 null": "2",
+    "opposite-name 0x2010000000000000 2 254": "3 feff",
+    "opposite-name 0x2000000000000000 null": "4",
+    "opposite-name 0x4000000000000005 null": "4",
+    "opposite-name 0x4000000000000001 null": "10",
+    "opposite-name 0x7000000000000001 3 7": "10 070809",
+    "opposite 0x0 null": "2",
+    "opposite-name 0x0 null": "2",
 }
 
 
@@ -7856,7 +8358,7 @@ def host_damaged_smalls():
 
 def host_written_small():
     chance = random.Random(154)
-    for word in words_to_write(chance, (0, 1, 5, 10, 11, 12, 13, 18, 24), (11,)):
+    for word in words_of_all_kinds(chance, (0, 1, 5, 10, 11, 12, 13, 18, 24), (11,)):
         yield f"small {some_word(chance, word)} {some_out(chance, 'small')}"
 
 
@@ -7879,11 +8381,14 @@ def smalls_to_lend():
     yield from (f"file-small {x}" for x in ("11 1 2 3", "25 1 2 3", "12 1 2 3", "0 0 -1000000001 0", "11 0 0 0"))
 
 
-def host_small_slices():
-    chance = random.Random(157)
-    for call in smalls_to_lend():
+def with_every_length(chance, calls):
+    for call in calls:
         yield from (f"{call} {out(chance, length)}" for length in range(LONGEST + 1))
         yield f"{call} null"
+
+
+def host_small_slices():
+    yield from with_every_length(random.Random(157), smalls_to_lend())
 
 
 def host_small_first():
@@ -7893,6 +8398,73 @@ def host_small_first():
         yield f"large 0x20A00001 9 {start}"
         yield f"cross-small 0x20A00000 2 11 {start}"
         yield from (f"file-small {n} 0 0 1 5 {start}" for n in (11, 12))
+
+
+# ==== The plotter host's calls: opposites
+
+
+def host_opposite_words():
+    """Every triangle to degree 4, and the name of every corner to degree 3."""
+    for n in range(HOST_WHOLE + 1):
+        yield from whole_degree(n)
+    for n in range(FULL + 1):
+        yield from (canonical(n, p) for p in whole_index(n))
+
+
+def opposite_call(word):
+    return "opposite-name" if corner_number(word) else "opposite"
+
+
+def host_opposites():
+    starts = itertools.cycle(range(256))
+    yield from (f"{opposite_call(word)} {word_text(word)} 8 {next(starts)}" for word in host_opposite_words())
+
+
+def host_opposite_line(chance, call, word):
+    return f"{call} {some_word(chance, word)} {some_out(chance, call)}"
+
+
+def host_deep_opposites():
+    """Triangles, corners, and their opposites; and every word for a corner."""
+    chance = random.Random(171)
+    for n in range(DEEPEST + 1):
+        for at in range(6):
+            code, name = (random_code, random_code, seam_code)[at % 3](chance, n), random_name(chance, n)
+            for word in (code, opposite_code(code), name, opposite_name(name)):
+                yield host_opposite_line(chance, opposite_call(word), word)
+    for word in words_for_corners(chance, 0, 2):
+        yield host_opposite_line(chance, "opposite-name", word)
+
+
+def host_damaged_opposites():
+    """With slices of any length, and of those about what is needed."""
+    chance = random.Random(172)
+    for call, (make, breaks) in OPPOSITE_KINDS.items():
+        for word in words_of_all_kinds(chance, (0, 1, 9, 24), (0, 13), make, breaks):
+            yield host_opposite_line(chance, call, word)
+        for n in (0, 6, 23):
+            for some in alone_and_in_pairs(breaks):
+                start = f"{call} {some_word(chance, broken(make(chance, n), some, chance))}"
+                yield from (f"{start} {x}" for x in tight_outs(chance, call))
+
+
+def opposites_to_lend():
+    """Answered ones, and each refusal."""
+    chance = random.Random(173)
+    for call, (make, breaks) in OPPOSITE_KINDS.items():
+        for some in [(), *((one,) for one in breaks)]:
+            yield f"{call} {word_text(broken(make(chance, 7), some, chance))}"
+
+
+def host_opposite_slices():
+    yield from with_every_length(random.Random(174), opposites_to_lend())
+
+
+def host_opposite_first():
+    """Slices filled in each of the 256 ways, answered and refused."""
+    for start in range(256):
+        yield from (f"opposite 0x208C000000000000 {length} {start}" for length in (7, 9))
+        yield from (f"opposite-name {word} 9 {start}" for word in ("0x2000000000000001", "0x4000000000000001"))
 
 
 # ==== Internal checks of the plotter host's answers
@@ -7910,6 +8482,7 @@ HOST_NUMBERS = {
     "check-cells": {9},
     "mend-cells": {9, 32},  # 1 to 4 are told as reason 1
     **{call: numbers | {9} if NEEDED[call] else numbers for call, numbers in SMALL_NUMBERS.items()},
+    **{call: numbers | {9} for call, numbers in OPPOSITE_NUMBERS.items()},
 }
 CELLS_CALLS = ("check-cells", "mend-cells")
 
@@ -7919,8 +8492,8 @@ def together(call, numbers):
     word after one above 11; it is not 12 to 24, for 30; a word that has one of 1 to 4 has no 10; and a coordinate of
     (0, 0, 0) is not outside, for 8."""
     two = (set(x) for x in itertools.combinations(numbers, 2))
-    never = [{1, 3}, {7, 8}, {1, 30}] + ([{3, 30}] if call != "small" else [])
-    return {frozenset(x) for x in two if x not in never and 10 not in x}
+    never = [{1, 3}, {7, 8}, {1, 30}] + ([{3, 30}] if call != "small" else []) + [{no, 10} for no in (1, 2, 3, 4)]
+    return {frozenset(x) for x in two if x not in never}
 
 
 def check_host_numbers(records):
@@ -7993,9 +8566,20 @@ def check_file_small_bytes(arguments, after_call):
     return 4
 
 
+def check_opposite_bytes(arguments, after_call):
+    check_opposite_triangle(*arguments, *numbers_in(after_call[:16]))
+    return 8
+
+
+def check_opposite_name_bytes(arguments, after_call):
+    check_opposite_corner(*arguments, *numbers_in(after_call[:16]))
+    return 8
+
+
 BYTE_CHECKS = {"cross": check_cross_bytes, "file": check_file_bytes, "list": check_list_bytes}
 BYTE_CHECKS.update({"small": check_small_bytes, "large": check_large_bytes})
 BYTE_CHECKS.update({"cross-small": check_cross_small_bytes, "file-small": check_file_small_bytes})
+BYTE_CHECKS.update({"opposite": check_opposite_bytes, "opposite-name": check_opposite_name_bytes})
 
 
 def check_host_bytes(records):
@@ -8093,8 +8677,9 @@ def check_host_degrees(records):
 
 def check_host_whole(records):
     """Every triangle to degree 4 is checked and crossed over each edge, every word for a corner there is checked; so
-    are the small words to degree 2, and written and read; the edges and degrees outside are refused as such; and slices
-    are filled in each of the 256 ways."""
+    are the small words to degree 2, and written and read; opposites are asked of every triangle to degree 4 and every
+    corner to degree 3; the edges and degrees outside are refused as such; and slices are filled in each of the 256
+    ways."""
     given = {(asked.call, *asked.arguments[:2], text.split(" ")[0]) for asked, text in records}
     for code in itertools.chain.from_iterable(map(whole_degree, range(HOST_WHOLE + 1))):
         must(("check-triangle", code, "0") in given, "every triangle", code)
@@ -8105,6 +8690,9 @@ def check_host_whole(records):
         small = shifted(code)
         calls = {("small", code, "0"), ("large", small, "0"), ("check-small", small, "0")}
         must(calls | {("cross-small", small, k, "0") for k in (1, 2, 3)} <= given, "every small word", code)
+    for word in host_opposite_words():
+        call = "opposite-name" if corner_number(word) else "opposite"
+        must((call, word, "0") in given, "every opposite", word)
     crossing = ("cross", "cross-small")
     refused_as = {(call, values[-1] if call in crossing else values[0], no) for call, *values, no in given}
     must(refused_as >= {(call, edge, "5") for call in crossing for edge in OUTSIDE_EDGES}, "the edges outside")
@@ -8253,6 +8841,19 @@ def check_host_smalls(records):
         must(text.split(" ")[0] == str(no), "refused", asked, text)
 
 
+def check_host_opposites(records):
+    """The refusals are those that check and check-name answer, and 9 after all; and twice is the identity."""
+    found = {call: {} for call in OPPOSITE_CALLS}
+    for asked, text in (x for x in records if x[0].call in OPPOSITE_CALLS):
+        (word,) = asked.arguments
+        short = sum(map(len, asked.lent)) < NEEDED[asked.call]
+        no = checked_number(asked.call, word) or 9 * short
+        must(text.split(" ")[0] == str(no), "refused", asked, text)
+        if no == 0:
+            found[asked.call][word] = numbers_in(text[2:18])[0]
+    check_twice(found)
+
+
 def check_host_examples():
     for line, text in HOST_EXAMPLES.items():
         must(host_answer(line) == text, "by hand", line, text, host_answer(line))
@@ -8269,6 +8870,7 @@ def check_host_answers(calls, records):
     check_host_cell_lists(calls, records)
     check_host_mends(calls, records)
     check_host_smalls(records)
+    check_host_opposites(records)
 
 
 # ==== The program ./sweep: docs/SWEEP.md, "Filing a file of directions"
@@ -9265,6 +9867,14 @@ SECTIONS = {
     "directions filed small": filed_small,
     "unreadable small words": unreadable_smalls,
     "spaced small words": spaced_smalls,
+    "opposites, examples": OPPOSITE_EXAMPLES.keys,
+    "opposites of every triangle and every corner to degree 5": every_opposite,
+    "opposites of degrees 6 to 24, and across the edges": deep_opposites,
+    "opposites of all that hold a direction": opposite_directions,
+    "opposites of damaged words": damaged_opposites,
+    "opposites of other words than names": opposites_of_others,
+    "unreadable opposites": unreadable_opposites,
+    "spaced opposites": spaced_opposites,
     "the last line without a table": last_without_table,
     "no table is open": before_any_table,
     "unreadable lines on a table": unreadable_on_table,
@@ -9296,6 +9906,7 @@ SECTIONS = {
     "lists of cells while a table is open": cells_on_table,
     "lists to be mended while a table is open": mends_on_table,
     "small words while a table is open": smalls_on_table,
+    "opposites while a table is open": opposites_on_table,
     "full tables": full_tables,
     "the last line": last_line,
 }
@@ -9321,13 +9932,15 @@ def write_files(calls_path, answers_path):
     internal_checks()
     calls = calls_of(SECTIONS)
     answers = answers_to(calls)
-    check_answers(calls, answers)
+    filed, listed = directions_answered(calls, answers)
+    check_answers(filed, listed)
     check_soundings(calls, answers)
     check_totals(calls, answers)
     check_sweeps(calls, answers)
     check_cell_lists(calls, answers)
     check_mend_lists(calls, answers)
     check_smalls(calls, answers)
+    check_opposite_answers(calls, answers, filed, listed)
     write_bytes(calls_path, "\n".join(calls))
     write_bytes(answers_path, "\n".join([*answers, ""]))
 
@@ -9377,6 +9990,11 @@ HOST_SECTIONS = {
     "directions filed small": host_filed_small,
     "small words and slices of every length": host_small_slices,
     "small words and slices filled in every way": host_small_first,
+    "opposites of every triangle to degree 4 and every corner to degree 3": host_opposites,
+    "opposites, degrees 0 to 24": host_deep_opposites,
+    "opposites of damaged and any words": host_damaged_opposites,
+    "opposites and slices of every length": host_opposite_slices,
+    "opposites and slices filled in every way": host_opposite_first,
 }
 
 

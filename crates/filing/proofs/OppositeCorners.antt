@@ -3,7 +3,7 @@
 use mathlib.Core.Path.{_≡_, _∙_, refl, sym, ap, subst}
 use mathlib.Core.List.{List}
 use mathlib.Core.Logic.{_↔_, ⊎-elim}
-use Prim.Native.Nat.{ℕ, zero, suc, _+_, _/_, _%_, _^_, _<_, _≤_}
+use Prim.Native.Nat.{ℕ, _+_, _^_, _<_, _≤_}
 use native.Mathlib.Omega.{arith}
 use lib.Dec.{eqb}
 use lib.IntN.{negℤ}
@@ -13,12 +13,12 @@ use borrow.Author.Tests.{eq-eqb, ne-eqb}
 use Rattle.golden.specs.Numbers.{negφ}
 use Rattle.golden.proofs.IntegerOrder.{difs, le-or-lt}
 use Rattle.golden.proofs.GoldenRing.{φ-path}
-use Rattle.words.specs.Words.{side, sideOf}
+use Rattle.words.specs.Words.{sideOf}
 use Rattle.words.specs.Refusals.{IsCode}
 use Rattle.words.specs.declared.TriangleCode.{TriangleCode}
 use Rattle.words.proofs.Codes.{code-degree, code-side}
 use Rattle.net.specs.Corners.{corner}
-use Rattle.net.specs.Sides.{IsSide, OneToThree, after, before, cornerVertex}
+use Rattle.net.specs.Sides.{IsSide, OneToThree, cornerVertex}
 use Rattle.net.specs.Division.{Weights, cornerOf, each, load, sum}
 use Rattle.net.specs.Means.Seams.{flip}
 use Rattle.net.specs.Means.Spreads.{spread, weightAt}
@@ -27,11 +27,12 @@ use Rattle.net.specs.declared.Point.{Point}
 use Rattle.net.specs.declared.State.{State}
 use Rattle.net.proofs.Table.{_and_, _then_, below, either-way, less, most, same, sides, sound, threes}
 use Rattle.net.proofs.Paths.{Digits, are-digits}
-use Rattle.net.proofs.CodePlaces.{codeFor, corner-at, digitsIn, for-code, for-corner, in-digits, in-length}
+use Rattle.net.proofs.CodePlaces.{corner-at, digitsIn, for-code, for-corner, for-digits, in-digits, in-length}
 use Rattle.net.proofs.Flips.{each-length, flip-digits, flip-three, turn-all, turn-corner, turnPoint}
 use Rattle.net.proofs.Loads.{at-vertex, corner-is}
 use Rattle.net.proofs.Demand3.{add-up}
 use Rattle.filing.specs.Coordinates.{exact, negated}
+use Rattle.filing.specs.Means.Opposites.{oppositeSide, oppositeOf}
 use Rattle.filing.specs.Means.Places.{balanceOf}
 use Rattle.filing.proofs.OnePoint.{opposite, opposite-small, same-place}
 use Rattle.filing.proofs.Parts.{coordinates-path}
@@ -39,21 +40,14 @@ use Rattle.filing.proofs.Weighted.{balances, corner-twelve, exact-is}
 
 -- ---- sides
 
--- a00 and (a+2)10 are opposite, and a01 and (a+2)11, a cyclic
-abbrev oppositeFrom : (p q a : ℕ) → ℕ
-oppositeFrom zero q a = side (after (after a)) 1 q
-oppositeFrom (suc p) q a = side (before (before a)) 0 q
-
-abbrev oppositeSide : (s : ℕ) → ℕ
-oppositeSide s = oppositeFrom (s / 2 % 2) (s % 2) (s / 4)
-
-opposite-side : (s : ℕ) → IsSide s → IsSide (oppositeSide s)
+pub opposite-side : (s : ℕ) → IsSide s → IsSide (oppositeSide s)
+unfolding oppositeSide
 opposite-side = sound (sides λ s. most 4 (oppositeSide s) and less (oppositeSide s) 24) refl
 
 -- a vertex is a corner there where the opposite one is a corner here, 2 and 3 exchanged
 opposite-vertex : (s : ℕ) → IsSide s → (v : ℕ) → v < 12 → (i : ℕ) → OneToThree i
     → (v ≡ cornerVertex (oppositeSide s) (flip 1 i)) ↔ (opposite v ≡ cornerVertex s i)
-unfolding cornerVertex
+unfolding cornerVertex oppositeSide
 opposite-vertex =
     sound
     (sides λ s. below 12 λ v. threes λ i.
@@ -128,9 +122,6 @@ opposite-coordinates p q f h k = exact-is q k ∙ opposite-balances p q f ∙ ap
 
 -- ---- codes
 
-abbrev pub oppositeOf : TriangleCode → TriangleCode
-oppositeOf t = codeFor (oppositeSide (sideOf (t .0))) (each (flip 1) (digitsIn t))
-
 one-power : (m n : ℕ) → 2 ^ m ≡ 2 ^ n → m ≡ n
 one-power m n e = ⊎-elim
     (λ a. ⊎-elim (λ b. omega arith) (λ b. absurd (omega (arith, pow-lt b))) (le-or-lt n m))
@@ -156,6 +147,9 @@ module _ {n : ℕ} {t : TriangleCode} (c : IsCode n t) where
   opposite-code =
       subst (λ (m : ℕ). IsCode m (oppositeOf t)) size
       (for-code (oppositeSide s) ds (opposite-side s (code-side c)) there long)
+
+  pub opposite-digits : digitsIn (oppositeOf t) ≡ ds
+  opposite-digits = for-digits (oppositeSide s) ds (opposite-side s (code-side c)) there long
 
   opposite-corner : (i : ℕ) → OneToThree i → Opposites (corner t i) (corner (oppositeOf t) (flip 1 i))
   opposite-corner i m =

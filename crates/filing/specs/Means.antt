@@ -4,3 +4,4 @@ pub mod Places
 pub mod Descent
 pub mod Sides
 pub mod Lists
+pub mod Opposites

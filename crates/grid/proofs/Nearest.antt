@@ -24,11 +24,12 @@ use Rattle.net.proofs.Demand3.{one-name-each}
 use Rattle.net.proofs.Flips.{flip-three}
 use Rattle.filing.specs.Coordinates.{exact, negated}
 use Rattle.filing.specs.Drawing.{AreTicks, IsPoint}
+use Rattle.filing.specs.Means.Opposites.{oppositeOf}
 use Rattle.filing.specs.Means.Places.{Small}
 use Rattle.filing.specs.declared.Coordinates.{Coordinates}
 use Rattle.filing.specs.declared.Point.{Point}
 use Rattle.filing.specs.declared.Ticks.{Ticks}
-use Rattle.filing.proofs.OppositeCorners.{opposite-code, opposite-degree, opposite-exact, oppositeOf}
+use Rattle.filing.proofs.OppositeCorners.{opposite-code, opposite-degree, opposite-exact}
 use Rattle.filing.proofs.Weighted.{corner-twelve, exact-small}
 use Rattle.corners.proofs.Refused.{numbered}
 use Rattle.points.specs.Answers.{Pointed, Ticked, noPoint, noTicks}

@@ -1977,8 +1977,8 @@ def other_words():
                 if n <= 2 or at % 9 == 0:
                     yield f"check-name {word_text(code | number)}"
                 if at % 401 == 0:
-                    for call in list(NAME_CALLS)[1:]:  # all but check-name
-                        yield f"{call} {word_text(code | number)}"
+                    calls = ("name-weights", "name-exact", "name-t", "name-drawn", "name-bits", "ring", "opposite-name")
+                    yield from (f"{call} {word_text(code | number)}" for call in calls)
 
 
 def every_drawing():
@@ -2255,6 +2255,7 @@ def deep_corner_calls(n, p, chance):
 
 # ==== The calls: refusals
 
+# The calls of 2026-11 and 2026-12 on a code or a name have their own, below.
 CODE_CALLS = {
     "check": [""],
     "parent": [""],
@@ -2266,7 +2267,6 @@ CODE_CALLS = {
     "t": [" 3", " 0", " 4", f" {MOST}"],
     "drawn": [" 1", " 0", " 4", f" {MOST}"],
     "bits": [" 2", " 0", " 4", f" {MOST}"],
-    "opposite": [""],
 }
 NAME_CALLS = {
     "check-name": [""],
@@ -2276,7 +2276,6 @@ NAME_CALLS = {
     "name-drawn": [""],
     "name-bits": [""],
     "ring": ["", " 5", " 6", " 7", " 0"],
-    "opposite-name": [""],
 }
 
 
@@ -6987,12 +6986,13 @@ def deep_opposites():
 
 
 def opposite_directions():
-    """Directions, on edges and corners among them, and the negated ones, below degree 5: all that hold them."""
+    """Directions and the negated ones, and the opposites of all that hold them: E3's direction, which is never filed in
+    an opposite, another one on a corner, two on edges, and any."""
     chance = random.Random(162)
     on_no_corner = [d for d in edge_directions(WHOLE) if d not in corner_directions(WHOLE)]
     for n in range(WHOLE + 1, DEEPEST + 1):
-        some = chance.sample(all_directions(), 3) + chance.sample(on_no_corner, 2) + [chance.choice(on_corners())]
-        for d in itertools.chain.from_iterable(map(both_ways, some)):
+        some = [(0, 0, 1), chance.choice(on_corners()), *chance.sample(on_no_corner, 2)]
+        for d in flat(map(both_ways, some + chance.sample(all_directions(), 3))):
             yield from file_and_list(n, [d])
             yield from (f"opposite {any_form(chance, code)}" for code in holders(n, d))
 
@@ -7072,7 +7072,7 @@ def spaced_opposites():
     yield from written(READABLE_OPPOSITES)
     yield from ["\topposite\t1001\t", "opposite 10003\r", "  opposite   511  ", "\ropposite\r100"]
     yield from ["\topposite-name\t0x2000000000000001\t", "opposite-name 0x2000000000000001\r", "\ropposite-name\r0x1"]
-    yield from ["  opposite-name   0x4000000000000001  ", "opposite \t\r 100 \r", "opposite-name \t\r 0x2000000000000000 \r"]
+    yield from ["  opposite-name   0x4000000000000001  ", "opposite \t\r 100 \r", "opposite-name \t\r 0x1 \r"]
     for length in (999, 1000, 1001, 2000):
         yield filled("opposite 1001", length)
         yield " " * (length - len("opposite 100")) + "opposite 100"
@@ -7129,7 +7129,9 @@ def seen_opposite(line, text):
     if no:
         must(text == refused(no), "refused as it is checked", line, text)
         return OppositeSeen(call, word, held, no, None)
-    other = int(re.search("0x([0-9A-F]{16})", text)[1], 16)
+    shown = re.search("0x([0-9A-F]{16})", text)
+    must(shown, "a word is answered", line, text)
+    other = int(shown[1], 16)
     if call == "opposite":
         must(text == code_text(other), "a triangle", line, text)
         check_opposite_triangle(word, other)
@@ -7208,14 +7210,14 @@ def check_opposite_holders(filed, listed, triangles):
     """Of each degree directions with 1, 2 and 6 holders; and such that are filed in opposites, and that are not."""
     met = set()
     for (n, d), codes in listed.items():
-        beyond = (n, both_ways(d)[1])
-        if beyond in listed and all(code in triangles for code in codes):
+        negative = (n, both_ways(d)[1])
+        if negative in listed and all(code in triangles for code in codes):
             # "The set of holders of the negated direction is the set of opposites of the holders."
-            must(listed[beyond] == sorted(triangles[code] for code in codes), "the opposites hold", n, d)
+            must(listed[negative] == sorted(triangles[code] for code in codes), "the opposites hold", n, d)
             met.add((n, len(codes)))
-            if (n, d) in filed and beyond in filed:
+            if (n, d) in filed and negative in filed:
                 # "The filed code need not be the opposite, ties going to the least code."
-                is_opposite = filed[beyond] == [triangles[codes[0]]]
+                is_opposite = filed[negative] == [triangles[codes[0]]]
                 must(filed[n, d] == codes[:1] and (is_opposite or len(codes) > 1), "filed", n, d)
                 met.add((n, is_opposite, "filed"))
     for n in range(DEEPEST + 1):
@@ -8671,7 +8673,7 @@ def check_host_degrees(records):
         must(all((call, n, "0") in found for call in calls), "answered", n)
         deep = {(call, n, "30") for call in ("small", "file-small")}
         must(deep <= found if n > SMALL_DEEPEST else deep.isdisjoint(found), "too deep for a small word", n)
-        must(("check-name", n, "10") in found, "not canonical", n)
+        must({(call, n, "10") for call in ("check-name", "opposite-name")} <= found, "not canonical", n)
         must((n, False) in found and ((n, True) in found) == (n > 0), "from side to side, and within one", n)
 
 

@@ -55,7 +55,8 @@ opposite-answers t z e =
     answering z (record { number = refl; is = rw e (opposite-is (is-code t z)) })
 
 pub name-answers : (q : CornerName) {u : TriangleCode} {j : ℕ} {r : CornerName} → checkName q ≡ 0
-    → u ≡ oppositeOf (codeInside q) → j ≡ exchanged (cornerNumber (q .0)) → r ≡ nameOf (leastName 5 (placeAt (u .0 + j)))
+    → u ≡ oppositeOf (codeInside q) → j ≡ exchanged (cornerNumber (q .0))
+    → r ≡ nameOf (leastName 5 (placeAt (u .0 + j)))
     → OppositeNameAnswer q (nameAnswer 0 r)
 name-answers q {u} {j} {r} z e f g =
     let x = name-means q .0 z .1 in

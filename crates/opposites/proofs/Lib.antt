@@ -4,3 +4,4 @@ pub mod FacingHolders
 pub mod FacingNames
 pub mod Calls
 pub mod Promises
+pub mod Examples

@@ -173,8 +173,7 @@ names = record {
   corners = λ n t t′ i q r c l o x a.
       let p = name-passes-all x in
       let y = a .answered (p .0) in
-      let b = subst (λ (m : ℕ). IsOppositeName m q (r .name)) (p .1) (y .is) in
-      (
+      let b = subst (λ (m : ℕ). IsOppositeName m q (r .name)) (p .1) (y .is) in (
         y .number,
         name-there (b .canonical) (o .code) (exchanged i) (exchanged-three i l)
             (b .facing ∙ ap (λ (w : List ℕ). negated (exact w)) (x .there) ∙ sym (o .facing i l)),

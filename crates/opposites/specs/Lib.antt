@@ -2,3 +2,4 @@
 pub mod Opposites
 pub mod Answers
 pub mod Promises
+pub mod Examples

@@ -57,10 +57,7 @@ pub fn opposite(t: TriangleCode) -> CodeAnswer
             code: TriangleCode(0),
         };
     }
-    let here = Numbered {
-        code: t,
-        number: 1,
-    };
+    let here = Numbered { code: t, number: 1 };
     let there = here.opposite();
     let code = there.code;
     CodeAnswer { refusal: 0, code }

@@ -40,7 +40,8 @@ code-is : (c : tie.After-opposite) → let q = c .before .before .before .before
     c .opposite .result .code ≡ oppositeOf (codeInside q)
 code-is c = c .opposite .ensures .0 ∙ ap oppositeOf (c .before .code-inside .ensures)
 
-passes : (c : tie.After-opposite) → (checkCode (c .opposite .result .code) ≡ 0) × OneToThree (c .opposite .result .number)
+passes : (c : tie.After-opposite)
+    → (checkCode (c .opposite .result .code) ≡ 0) × OneToThree (c .opposite .result .number)
 passes c =
     let x = name-means _ .0 (none (c .before .before)) .1 in
     (rw (code-is c) (opposite-code (x .code) .passes), rw (c .opposite .ensures .1) (exchanged-three _ (x .number)))

@@ -67,8 +67,8 @@ fn call_answer(call: u64, line: &[u8], at: usize, out: &mut [u8]) -> usize
     match call {
         // help
         0 => help::answer(line, at, out),
-        1..=2 => calls::of_code(call, line, at, out),
-        3..=7 => calls::of_name(call, line, at, out),
+        1..=2 | 41 => calls::of_code(call, line, at, out),
+        3..=7 | 42 => calls::of_name(call, line, at, out),
         8..=14 => calls::of_code_and_number(call, line, at, out),
         15..=18 => lists::answer(call, line, at, out),
         // file

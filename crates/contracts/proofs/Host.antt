@@ -18,4 +18,6 @@ contracts = record {
   checkSmalls = λ κs word r. says-itself;
   crossSmall = λ κs word edge out new r. says-itself;
   fileSmall = λ κs degree x y z out new r. says-itself;
+  opposite = λ κs code out new r. says-itself;
+  oppositeName = λ κs name out new r. says-itself;
 }

@@ -5,4 +5,5 @@ pub mod Soundings
 pub mod Cells
 pub mod Mending
 pub mod Harbour
+pub mod Opposites
 pub mod Verdicts

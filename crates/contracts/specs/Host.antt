@@ -1,4 +1,4 @@
--- Document 02, 2026-01, 2026-04, 2026-09, 2026-10 and 2026-11: what the exported functions themselves say, as
+-- Document 02, 2026-01, 2026-04 and 2026-09 to 2026-12: what the exported functions themselves say, as
 -- grid/specs/Contracts.antt has it of document 01's. Assumes nothing.
 use mathlib.Core.Path.{_≡_}
 use Prim.Native.Nat.{ℕ}
@@ -19,6 +19,7 @@ use Rattle.exports.specs.Answers.{CrossBytes, FileBytes, ListBytes}
 use Rattle.harbour.specs.Small.{smallCode}
 use Rattle.harbour.specs.Refusals.{checkSmall}
 use Rattle.host_harbour.specs.Answers.{SmallBytes, LargeBytes, CrossSmallBytes, FileSmallBytes}
+use Rattle.host_opposites.specs.Answers.{OppositeBytes, OppositeNameBytes}
 use Rattle.host.proofs.grid_check_triangle.Reads as grid_check_triangle
 use Rattle.host.proofs.grid_check_name.Reads as grid_check_name
 use Rattle.host.proofs.grid_cross.Reads as grid_cross
@@ -32,9 +33,11 @@ use Rattle.host.proofs.grid_large.Reads as grid_large
 use Rattle.host.proofs.grid_check_small.Reads as grid_check_small
 use Rattle.host.proofs.grid_cross_small.Reads as grid_cross_small
 use Rattle.host.proofs.grid_file_small.Reads as grid_file_small
+use Rattle.host.proofs.grid_opposite.Reads as grid_opposite
+use Rattle.host.proofs.grid_opposite_name.Reads as grid_opposite_name
 
--- The calls in the order of `OneAnswer`, of the crate exports and then of host_sweeps, of host_cells and of
--- host_harbour: for any plain numbers, any result, and bytes left with any contents.
+-- The calls in the order of `OneAnswer`, of the crate exports and then of host_sweeps, of host_cells, of host_harbour
+-- and of host_opposites: for any plain numbers, any result, and bytes left with any contents.
 pub record Contracts : Type 0 where
   pub checkTriangle : (κs : Lfts 0) (word : ℕ) (r : ℕ)
       → Says (grid_check_triangle.Asked κs (word, tt)) (grid_check_triangle.Learnt κs (word, tt) r (word, tt))
@@ -85,3 +88,11 @@ pub record Contracts : Type 0 where
       → Says (grid_file_small.Asked κs (degree, (x, (y, (z, (out, tt))))))
       (grid_file_small.Learnt κs (degree, (x, (y, (z, (out, tt))))) r (degree, (x, (y, (z, (new, tt))))))
       (FileSmallBytes degree (towards x y z) (now out) r (now new))
+  pub opposite : (κs : Lfts 1) (code : ℕ) (out new : Slice) (r : ℕ)
+      → Says (grid_opposite.Asked κs (code, (out, tt)))
+      (grid_opposite.Learnt κs (code, (out, tt)) r (code, (new, tt)))
+      (OppositeBytes (codeOf code) (now out) r (now new))
+  pub oppositeName : (κs : Lfts 1) (name : ℕ) (out new : Slice) (r : ℕ)
+      → Says (grid_opposite_name.Asked κs (name, (out, tt)))
+      (grid_opposite_name.Learnt κs (name, (out, tt)) r (name, (new, tt)))
+      (OppositeNameBytes (nameOf name) (now out) r (now new))

@@ -82,6 +82,57 @@ module _ (laid : List ℕ → List ℕ) {f g least : ℕ} (Good : List ℕ → T
         number : r ≡ g
         number = number-is (λ (x : ℕ × List ℕ). x .0) refl (λ x s. s .answered) p
 
+-- and what has it is the complete answer
+module _ (laid : List ℕ → List ℕ) {f g least : ℕ} (Good : List ℕ → Type 0) (ms : List ℕ) {out : List ℕ} {k r : ℕ}
+    {new : List ℕ} (nine : ThenNine f g least (length out)) (own : k ≡ f) (good : f ≡ 0 → Good ms)
+    (d : Delivered k (laid ms) least out r new) where
+  number-delivered : (g ≡ 0 → ⊥) → r ≡ g
+  number-delivered some =
+      ⊎-elim
+      (λ z. ⊎-elim (λ l. absurd (some (nine .passes .1 (sym own ∙ z, l))))
+      (λ l. d .short z l ∙ nine .nine (sym own ∙ z) l) (le-or-lt least (length out)))
+      (λ refused. d .refused refused ∙ nine .first own refused) (answers-or-not k)
+
+  pub from-delivered : ExportedAs laid g Good out r new
+  from-delivered = record {
+    answered = λ z.
+        let p = nine .passes .0 z in
+        let e = d .answered (own ∙ p .0) (p .1) in
+        record { numbers = ms; good = good (p .0); answered = e; put = d .written e };
+    refused = λ some.
+        let e = number-delivered some in
+        λ i. (e i, d .kept (λ z. some (sym e ∙ z)) i);
+  }
+
+-- a program that hands the refusal f on, else 9, else the bytes
+module _ {f : ℕ} (bs : List ℕ) {least : ℕ} {out : List ℕ} where
+  pub refused-on : (f ≡ 0 → ⊥) → Delivered f bs least out f out
+  refused-on some = record {
+    refused = λ n. refl;
+    short = λ z l. absurd (some z);
+    answered = λ z l. z;
+    written = λ z. absurd (some z);
+    kept = λ n. refl;
+  }
+
+  pub short-on : f ≡ 0 → length out < least → Delivered f bs least out 9 out
+  short-on z l = record {
+    refused = λ some. absurd (some z);
+    short = λ e h. refl;
+    answered = λ e h. absurd (omega (arith, l, h));
+    written = λ e. absurd (omega (arith, e));
+    kept = λ n. refl;
+  }
+
+  pub sent-on : {new : List ℕ} → f ≡ 0 → least ≤ length out → new ≡ over bs out → Delivered f bs least out 0 new
+  sent-on z l put = record {
+    refused = λ some. absurd (some z);
+    short = λ e h. absurd (omega (arith, l, h));
+    answered = λ e h. refl;
+    written = λ e. put;
+    kept = λ n. absurd (n refl);
+  }
+
 -- a call that is answered was not refused
 pub delivered-passed : {f least : ℕ} {bs out : List ℕ} {r : ℕ} {new : List ℕ} → Delivered f bs least out r new → r ≡ 0
     → f ≡ 0

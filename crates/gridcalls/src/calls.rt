@@ -13,6 +13,8 @@ use grid::name_back;
 use grid::name_of;
 use grid::ticks_of;
 use grid::ticks_of_name;
+use opposites::opposite;
+use opposites::opposite_name;
 use replies::answers;
 use replies::arguments;
 ghost use Prim.Native.Nat.{_≤_};
@@ -27,6 +29,8 @@ fn code_answer(call: u64, t: TriangleCode, out: &mut [u8]) -> usize
         1 => answers::check(t.check(), out),
         // parent
         2 => answers::code(t.parent(), out),
+        // opposite
+        41 => answers::code(opposite(t), out),
         _ => 0,
     }
 }
@@ -57,6 +61,8 @@ fn name_answer(call: u64, w: u64, out: &mut [u8]) -> usize
         6 => answers::drawn(w, ticks_of_name(CornerName(w)), out),
         // name-bits
         7 => answers::bits(drawn_of_name(CornerName(w)), out),
+        // opposite-name
+        42 => answers::name(opposite_name(CornerName(w)), out),
         _ => 0,
     }
 }

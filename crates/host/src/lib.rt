@@ -1,7 +1,7 @@
 // What is exported to a C host (document 02, 2026-01): plain numbers and lent bytes in, a refusal number out. Document
 // 01's calls are in the crates host_grid and host_filing, the sweep of 2026-04 in host_sweeps, those on a cell list
-// of 2026-09 and 2026-10 in host_cells, those on the small form of 2026-11 in host_harbour. A library for C has the
-// functions of one crate, and so they stand here once more, a line each.
+// of 2026-09 and 2026-10 in host_cells, those on the small form of 2026-11 in host_harbour, the opposites of 2026-12 in
+// host_opposites. A library for C has the functions of one crate, and so they stand here once more, a line each.
 ghost use mathlib.Core.Path.{_≡_};
 ghost use Rattle.words.specs.Family.{codeOf};
 ghost use Rattle.words.specs.Refusals.{checkCode};
@@ -15,6 +15,7 @@ ghost use Rattle.host_cells.specs.Answers.{CheckBytes, MendBytes};
 ghost use Rattle.harbour.specs.Small.{smallCode};
 ghost use Rattle.harbour.specs.Refusals.{checkSmall};
 ghost use Rattle.host_harbour.specs.Answers.{SmallBytes, LargeBytes, CrossSmallBytes, FileSmallBytes};
+ghost use Rattle.host_opposites.specs.Answers.{OppositeBytes, OppositeNameBytes};
 
 // Checking a word as a triangle code.
 #[no_mangle]
@@ -133,4 +134,20 @@ pub extern "C" fn grid_file_small(degree: u64, x: i32, y: i32, z: i32, out: &mut
     ensures { λ r. ⌜ FileSmallBytes degree (towards x y z) (now (out .entry)) r (now (out .exit)) ⌝ }
 {
     host_harbour::grid_file_small(degree, x, y, z, out)
+}
+
+// The opposite of a triangle: its code, in eight bytes.
+#[no_mangle]
+pub extern "C" fn grid_opposite(code: u64, out: &mut [u8]) -> u64
+    ensures { λ r. ⌜ OppositeBytes (codeOf code) (now (out .entry)) r (now (out .exit)) ⌝ }
+{
+    host_opposites::grid_opposite(code, out)
+}
+
+// The opposite of a corner: its name, in eight bytes.
+#[no_mangle]
+pub extern "C" fn grid_opposite_name(name: u64, out: &mut [u8]) -> u64
+    ensures { λ r. ⌜ OppositeNameBytes (nameOf name) (now (out .entry)) r (now (out .exit)) ⌝ }
+{
+    host_opposites::grid_opposite_name(name, out)
 }

@@ -3,7 +3,7 @@ use crate::arguments;
 ghost use Prim.Native.Nat.{_≤_};
 ghost use lib.ListN.{length};
 
-const HELP: [u8; 8109] = *b"The grid of the globe: one call to a line, and one line for its answer.
+const HELP: [u8; 8395] = *b"The grid of the globe: one call to a line, and one line for its answer.
 
   WORD     0x and 1 to 16 hexadecimal digits
   CODE     a triangle code, as 10003 for side 100 and digits 0 and 3; or a WORD
@@ -34,8 +34,14 @@ cross CODE EDGE                     the triangle across an edge, and there the n
                                     and of its two corners, the lower one of this triangle first
   cross 1001 2                      2001 0x4050000000000000 edge 3 corners 1 2
 
+opposite CODE                       the triangle opposite on the globe
+  opposite 10003                    31002 0x7088000000000000
+
 name CODE CORNER                    the name of a corner, 1 to 3
   name 200 2                        0x2000000000000003 corner 3 of 100
+
+opposite-name NAME                  the name of the corner opposite on the globe
+  opposite-name 0x2000000000000003  0x7000000000000002 corner 2 of 310
 
 back DEGREE WEIGHTS                 the name of the corner with these twelve weights
   back 0 0 0 0 1 0 0 0 0 0 0 0 0    0x2000000000000003 corner 3 of 100

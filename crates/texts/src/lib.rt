@@ -4,7 +4,7 @@ ghost use Prim.Native.Nat.{_+_, _≤_};
 ghost use lib.ListN.{length};
 
 // How each call is written. A call is known by the number of its row, from 0.
-const CALLS: [u8; 784] = *b"help
+const CALLS: [u8; 817] = *b"help
 check CODE
 parent CODE
 check-name NAME
@@ -44,7 +44,9 @@ small CODE
 large SMALL
 check-small SMALL
 cross-small SMALL EDGE
-file-small DEGREE X Y Z";
+file-small DEGREE X Y Z
+opposite CODE
+opposite-name NAME";
 
 // Document 01, 'Refusal numbers': when each is given, from 1.
 const REASONS: [u8; 559] = *b"a degree, as field or argument, is above 24
@@ -180,9 +182,9 @@ fn row_named(table: &[u8], rows: u64, word: &[u8]) -> u64 {
 
 // ---- what is told
 
-// The call that a word names; 41 where it names none.
+// The call that a word names; 43 where it names none.
 pub fn call_named(word: &[u8]) -> u64 {
-    row_named(&CALLS, 41, word)
+    row_named(&CALLS, 43, word)
 }
 
 // The form of a call.

@@ -88,7 +88,9 @@ enum grid_bytes {
     GRID_SMALL_BYTES = 4,
     GRID_LARGE_BYTES = 8,
     GRID_CROSS_SMALL_BYTES = 12,
-    GRID_FILE_SMALL_BYTES = 4
+    GRID_FILE_SMALL_BYTES = 4,
+    GRID_OPPOSITE_BYTES = 8,
+    GRID_OPPOSITE_NAME_BYTES = 8
 };
 
 /* The number in eight bytes, the most significant first: number k of an answer without a small word, from 0, is
@@ -204,6 +206,20 @@ uint64_t grid_cross_small(uint32_t word, uint64_t edge, uint8_t *out, size_t out
  * Writes: 4 bytes: the small word of the code that grid_file writes.
  * Refusals: 1, 30, 8, 7, 9. (9 where out_length is below GRID_FILE_SMALL_BYTES.) */
 uint64_t grid_file_small(uint64_t degree, int32_t x, int32_t y, int32_t z, uint8_t *out, size_t out_length);
+
+/* The triangle opposite on the globe: of the same degree, with the three opposite points for its corners. Its corner 1
+ * is opposite to corner 1, its 2 to 3 and its 3 to 2. The opposite of the opposite is the triangle again.
+ *
+ * Writes: 8 bytes: the code of the opposite triangle.
+ * Refusals: 1, 2, 3, 4, 9. (9 where out_length is below GRID_OPPOSITE_BYTES.) */
+uint64_t grid_opposite(uint64_t code, uint8_t *out, size_t out_length);
+
+/* The corner opposite on the globe, by its name. Its number in the name need not be that of grid_opposite, since a
+ * corner is named by the least triangle that has it.
+ *
+ * Writes: 8 bytes: the name of the opposite corner.
+ * Refusals: 1, 2, 3, 4, 10, 9. (9 where out_length is below GRID_OPPOSITE_NAME_BYTES.) */
+uint64_t grid_opposite_name(uint64_t name, uint8_t *out, size_t out_length);
 
 #ifdef __cplusplus
 }

@@ -250,7 +250,8 @@ def out_length(words):
     if words[0] in ("check-cells", "mend-cells"):
         given, (*lists, out) = given_length(words[1]), lent_lengths(words[2:])
         return out if given % 8 == 0 and all(given <= length for length in lists) else None
-    lent = {"cross": 3, "file": 5, "list": 5, "small": 2, "large": 2, "cross-small": 3, "file-small": 5}.get(words[0])
+    lent = {"cross": 3, "file": 5, "list": 5, "small": 2, "large": 2, "cross-small": 3, "file-small": 5}
+    lent = {**lent, "opposite": 2, "opposite-name": 2}.get(words[0])
     return lent_lengths(words[lent:])[0] if lent else None
 
 
@@ -382,6 +383,9 @@ PAIRS = [
     *((f"cross-small 0x{n} 1 12 0", f"{n} 00") for n in (0, 30, 2, 3, 31, 5)),
     *((f"file-small {n} 0 0 1 4 0", f"{n} 00") for n in (0, 1, 30, 8, 7)),
     *((f"{call} 0", "9 00") for call in ("small 0x1 3", "large 0x1 7", "cross-small 0x1 1 11", "file-small 1 0 0 1 3")),
+    *((f"opposite 0x{n} 8 0", f"{n} 00") for n in (0, 1, 2, 3, 4)),
+    *((f"opposite-name 0x{n} 8 0", f"{n} 00") for n in (0, 1, 2, 3, 4, 10)),
+    *((f"{call} 0", "9 00") for call in ("opposite 0x1 7", "opposite-name 0x1 7")),
 ]
 
 

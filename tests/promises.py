@@ -18,8 +18,8 @@ answers the second column has fields of records `Mistakes`, those of grid/specs/
 as places, all of them, and the last one must-fail edits, as `crate/edit`; a crate holds for the edits after it in its
 row. In the table by calls each call of document 01 (a method of words/src/lib.rt's TriangleCode, or what
 grid/src/lib.rt hands on), each call of a table, each of a sweep, each on a cell list, each on the small form (a method
-of harbour/src/lib.rt's SmallCode, or a function of that crate, which is written with its name) and each exported to C
-has its row, with two edits or more of code. Every edit stands in a row. Each of these calls has its row where contracts
+of harbour/src/lib.rt's SmallCode, or a function of that crate, which is written with its name), each of the opposites
+and each exported to C has its row, with two edits or more of code. Every edit stands in a row. Each of these calls has its row where contracts
 are held to promises, under the name that its promise has.
 
 The crates in the tables of README.md and ARCHITECTURE.md are the libraries of crates.txt, and the modules that
@@ -38,17 +38,18 @@ CRATES = ROOT / "crates"
 README, PROMISES, DECISIONS = "README.md", "docs/PROMISES.md", "docs/DECISIONS.md"
 ARCHITECTURE = "docs/ARCHITECTURE.md"
 DOCS = (README, PROMISES, DECISIONS, ARCHITECTURE, "docs/FILING.md", "docs/CONSOLE.md", "docs/CELLS.md")
-DOCS += ("docs/PERFORMANCE.md", "docs/HARBOUR.md")
+DOCS += ("docs/PERFORMANCE.md", "docs/HARBOUR.md", "docs/OPPOSITES.md")
 DEMANDS, MISTAKES = "grid/specs/Demands.antt", "grid/specs/Mistakes.antt"
 CONTRACTS, HOST_CONTRACTS = "crates/grid/specs/Contracts.antt", "crates/contracts/specs/Host.antt"
 HOST_PROMISES = ("exports/specs/Promises.antt", "host_sweeps/specs/Promises.antt", "host_cells/specs/Promises.antt")
-HOST_PROMISES += ("host_harbour/specs/Promises.antt",)
+HOST_PROMISES += ("host_harbour/specs/Promises.antt", "host_opposites/specs/Promises.antt")
 TABLE_CONTRACTS = "crates/contracts/specs/Soundings.antt"
 TABLE_PROMISES = ("tables/specs/Promises.antt", "coarse/specs/Promises.antt")
 SWEEP_CONTRACTS, SWEEP_PROMISES = "crates/contracts/specs/Sweeps.antt", "sweeps/specs/Promises.antt"
 CELLS_CONTRACTS, CELLS_PROMISES = "crates/contracts/specs/Cells.antt", "cells/specs/Promises.antt"
 MENDING_CONTRACTS, MENDING_PROMISES = "crates/contracts/specs/Mending.antt", "mending/specs/Promises.antt"
 HARBOUR_CONTRACTS, HARBOUR_PROMISES = "crates/contracts/specs/Harbour.antt", "harbour/specs/Promises.antt"
+OPPOSITE_CONTRACTS, OPPOSITE_PROMISES = "crates/contracts/specs/Opposites.antt", "opposites/specs/Promises.antt"
 ASKED = "The demands"
 WRONG_ANSWERS = "Wrong answers that are ruled out, as theorems"
 BY_CALL = "Wrong programs and definitions, call by call"
@@ -253,6 +254,13 @@ def on_small():
 
 
 @functools.cache
+def of_opposites():
+    """The opposites of a triangle and of a corner."""
+    lib = (CRATES / "opposites/src/lib.rt").read_text(encoding="utf-8")
+    return re.findall(r"^pub fn (\w+)\(", lib, re.MULTILINE)
+
+
+@functools.cache
 def contracts():
     """Where calls are held to their promises: the file with a row for each, the files that have the record of promises,
     a later one for calls that a request changed or brought, and the calls."""
@@ -264,6 +272,7 @@ def contracts():
         (CELLS_CONTRACTS, (CELLS_PROMISES,), "OneAnswer", of_cells()),
         (MENDING_CONTRACTS, (MENDING_PROMISES,), "OneAnswer", of_mending()),
         (HARBOUR_CONTRACTS, (HARBOUR_PROMISES,), "OneAnswer", on_small()),
+        (OPPOSITE_CONTRACTS, (OPPOSITE_PROMISES,), "OneAnswer", of_opposites()),
     )
 
 
@@ -407,7 +416,7 @@ class Documents:
 
     def check_promises(self):
         refuted, named, titles = set(), set(), set()
-        plain = calls() + of_table() + of_sweep() + of_cells() + of_mending() + on_small()
+        plain = calls() + of_table() + of_sweep() + of_cells() + of_mending() + on_small() + of_opposites()
         of_call = {c: set() for c in plain + exported()}
         for title, rows, other in self.sections(PROMISES):
             titles.add(title)
@@ -564,6 +573,8 @@ TAKEN = (
     ("a cell list's row", PROMISES, "`check`", "check has fewer than two"),
     ("a small call's contract", HARBOUR_CONTRACTS, "Says (write.Asked", "harbour::write has not one row"),
     ("a small call's row", PROMISES, "`SmallCode::read`", "SmallCode::read has fewer than two"),
+    ("an opposite's contract", OPPOSITE_CONTRACTS, "Says (opposite_name.Asked", "opposite_name has not one row"),
+    ("an opposite's row", PROMISES, "`opposite`", "opposite has fewer than two"),
     ("a mistake's row of another file", PROMISES, "Mistakes.reversed", "no row for Mistakes.reversed"),
 )
 

@@ -1,5 +1,5 @@
-/* The calls of document 01, of a table of soundings and of a cell list, as crates/bench exports them, and those of the
- * crate host: all of its own, and checking; and mending in C. */
+/* The calls of document 01, the opposites, those of a table of soundings and of a cell list, as crates/bench exports
+ * them, and those of the crate host: all of its own, and checking; and mending in C. */
 #include "../../include/dogrzewin.h"
 #include "directions.h"
 #include "driver.h"
@@ -11,8 +11,8 @@
 uint64_t bench_name(uint64_t code, uint64_t corner);
 uint64_t bench_file(uint64_t degree, int32_t x, int32_t y, int32_t z);
 uint64_t bench_weights(uint64_t code, uint64_t corner, uint64_t *out, size_t places);
-any_function bench_parent, bench_child, bench_cross, bench_back, bench_name_weights,
-    bench_ring, bench_exact, bench_name_exact, bench_t, bench_name_t, bench_drawn, bench_name_drawn,
+any_function bench_parent, bench_child, bench_opposite, bench_cross, bench_opposite_name, bench_back,
+    bench_name_weights, bench_ring, bench_exact, bench_name_exact, bench_t, bench_name_t, bench_drawn, bench_name_drawn,
     bench_list, bench_sweep, bench_get, bench_take, bench_set, bench_clear, bench_give, bench_work_out,
     bench_check_cells, bench_cells_line, bench_mend_cells;
 
@@ -133,6 +133,12 @@ static int give_direction_and_bytes(struct input *in, const char *kind, uint64_t
 static int give_code_and_bytes(struct input *in, const char *kind, uint64_t degree) {
     give_bytes(in, 1);
     return give_code(in, kind, degree);
+}
+
+static int give_name_and_bytes(struct input *in, const char *kind, uint64_t degree) {
+    int known = give_name(in, kind, degree);
+    give_bytes(in, 1);
+    return known;
 }
 
 /* The small word of a code of degree 11 or less: the digits begin 31 bits lower. */
@@ -483,8 +489,10 @@ const struct call calls[] = {
     {"check-name", (any_function *)grid_check_name, WORD, give_name},
     {"parent", bench_parent, WORD, give_code},
     {"child", bench_child, WORD, give_code_and_digit},
+    {"opposite", bench_opposite, WORD, give_code},
     {"cross", bench_cross, WORD, give_code_and_number},
     {"name", (any_function *)bench_name, WORD, give_code_and_number},
+    {"opposite-name", bench_opposite_name, WORD, give_name},
     {"back", bench_back, WORD, give_weights},
     {"weights", (any_function *)bench_weights, WEIGHTS, give_code_and_list},
     {"name-weights", bench_name_weights, WEIGHTS, give_name_and_list},
@@ -523,5 +531,7 @@ const struct call calls[] = {
     {"host-large", (any_function *)grid_large, WEIGHTS, give_small_and_bytes},
     {"host-cross-small", (any_function *)grid_cross_small, WEIGHTS, give_small_number_and_bytes},
     {"host-file-small", (any_function *)grid_file_small, WEIGHTS, give_direction_and_bytes},
+    {"host-opposite", (any_function *)grid_opposite, WEIGHTS, give_code_and_bytes},
+    {"host-opposite-name", (any_function *)grid_opposite_name, WEIGHTS, give_name_and_bytes},
 };
 const size_t calls_count = sizeof calls / sizeof calls[0];

@@ -250,6 +250,14 @@ static uint64_t file_small(const struct arguments *a, uint8_t *const at[MOST_SLI
     return grid_file_small(a->number[0], c[0], c[1], c[2], at[0], a->slice[0].length);
 }
 
+static uint64_t opposite(const struct arguments *a, uint8_t *const at[MOST_SLICES]) {
+    return grid_opposite(a->number[0], at[0], a->slice[0].length);
+}
+
+static uint64_t opposite_name(const struct arguments *a, uint8_t *const at[MOST_SLICES]) {
+    return grid_opposite_name(a->number[0], at[0], a->slice[0].length);
+}
+
 struct form {
     const char *name, *kinds;
     call_function *call;
@@ -269,6 +277,8 @@ static const struct form forms[] = {
     {"check-small", "s", check_small},
     {"cross-small", "sno", cross_small},
     {"file-small", "nccco", file_small},
+    {"opposite", "wo", opposite},
+    {"opposite-name", "wo", opposite_name},
 };
 
 static const struct form *read_form(const char *name) {

@@ -7,6 +7,7 @@ uint64_t call_all(uint8_t *out, size_t out_length) {
                        grid_sweep(1, out, 0, out, 0, out, out_length) | grid_check_cells(out, 0, out, out_length) |
                        grid_mend_cells(out, 0, out, 0, out, 0, out, 0, out, out_length) |
                        grid_small(1, out, out_length) | grid_large(1, out, out_length) | grid_check_small(1) |
-                       grid_cross_small(1, 1, out, out_length) | grid_file_small(1, 1, 1, 1, out, out_length);
+                       grid_cross_small(1, 1, out, out_length) | grid_file_small(1, 1, 1, 1, out, out_length) |
+                       grid_opposite(1, out, out_length) | grid_opposite_name(1, out, out_length);
     return refusal == GRID_ANSWERED ? grid_number(out) + grid_small_number(out) : refusal;
 }

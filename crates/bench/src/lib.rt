@@ -1,5 +1,5 @@
-// The calls of document 01, those of a table of soundings, and those of a cell list, exported to C, for `./bench` to
-// count; checking is the crate host's. Each is thin: it hands the numbers on, and answers one number that depends on
+// The calls of document 01, the opposites, those of a table of soundings, and those of a cell list, exported to C, for
+// `./bench` to count; checking is the crate host's. Each is thin: it hands the numbers on, and answers one number that depends on
 // all numbers of the answer, so that the compiler can leave nothing out. Where a code or a name is answered, this is
 // the code (with the edge's number in its lowest bits) or the name, or the refusal's number.
 // Two calls are counted without all of their answer: crossing drops how the corners turned, as the call for a C host
@@ -25,6 +25,7 @@ ghost use Rattle.corners.specs.declared.StepAnswer.{StepAnswer};
 ghost use Rattle.corners.specs.declared.NameAnswer.{NameAnswer};
 ghost use Rattle.corners.specs.declared.CountAnswer.{CountAnswer};
 ghost use Rattle.directions.specs.Answers.{FileAnswer, ListAnswer};
+ghost use Rattle.opposites.specs.Answers.{OppositeAnswer, OppositeNameAnswer};
 ghost use Rattle.sweeps.specs.Answers.{SweepResult};
 ghost use Rattle.sweeps.specs.declared.SweepAnswer.{SweepAnswer};
 ghost use Rattle.tables.specs.Owners.{shared};
@@ -61,6 +62,17 @@ pub extern "C" fn bench_child(code: u64, digit: u64) -> u64
     r.code.0 ^ r.refusal
 }
 
+#[no_mangle]
+pub extern "C" fn bench_opposite(code: u64) -> u64
+    ensures { λ r. ⌜
+        ((a : CodeAnswer) × OppositeAnswer (codeOf code) a
+        × (r ≡ bitXor (a .code .0) (a .refusal)))
+        ⌝ }
+{
+    let r = opposites::opposite(TriangleCode(code));
+    r.code.0 ^ r.refusal
+}
+
 // ---- corners and edges
 
 #[no_mangle]
@@ -82,6 +94,17 @@ pub extern "C" fn bench_name(code: u64, corner: u64) -> u64
         ⌝ }
 {
     let r = grid::name_of(TriangleCode(code), corner);
+    r.name.0 ^ r.refusal
+}
+
+#[no_mangle]
+pub extern "C" fn bench_opposite_name(name: u64) -> u64
+    ensures { λ r. ⌜
+        ((a : NameAnswer) × OppositeNameAnswer (nameOf name) a
+        × (r ≡ bitXor (a .name .0) (a .refusal)))
+        ⌝ }
+{
+    let r = opposites::opposite_name(CornerName(name));
     r.name.0 ^ r.refusal
 }
 

@@ -46,7 +46,7 @@ one-word {w = w} is = record { word = w; are = refl; is = is }
 
 module _ (t : TriangleCode) (out : List ℕ) {a : CodeAnswer} (p : OppositeAnswer t a) where
   pub code-number : a .refusal ≡ checkCode t
-  code-number = one-answer .triangle t .exactly a p
+  code-number = one-answer .opposite t .exactly a p
 
   pub code-word : checkCode t ≡ 0 → OneWord (CodeIs t) (a .code .0 ∷ [])
   code-word z = one-word (p .answered z .is)
@@ -57,7 +57,7 @@ module _ (t : TriangleCode) (out : List ℕ) {a : CodeAnswer} (p : OppositeAnswe
 
 module _ (q : CornerName) (out : List ℕ) {a : NameAnswer} (p : OppositeNameAnswer q a) where
   pub name-number : a .refusal ≡ checkName q
-  name-number = one-answer .name q .exactly a p
+  name-number = one-answer .oppositeName q .exactly a p
 
   pub name-word : checkName q ≡ 0 → OneWord (NameIs q) (a .name .0 ∷ [])
   name-word z = one-word (p .answered z .is)

@@ -70,11 +70,11 @@ name-low q w x =
 pub one-answer : OneAnswer
 one-answer = record {
   opposite = λ t out.
-      let a = opposites.one-answer .triangle t .one in
+      let a = opposites.one-answer .opposite t .one in
       keeps-word (CodeIs t) (code-one t) (code-low t) out (code-nine t out)
       (λ z. (_, code-word t out (a .1 .meets) z));
   oppositeName = λ q out.
-      let a = opposites.one-answer .name q .one in
+      let a = opposites.one-answer .oppositeName q .one in
       keeps-word (NameIs q) (name-one q) (name-low q) out (name-nine q out)
       (λ z. (_, name-word q out (a .1 .meets) z));
 }

@@ -35,19 +35,19 @@ use Rattle.opposites.proofs.Promises.{one-answer}
 
 faces : (t : TriangleCode) {u : TriangleCode} → checkCode t ≡ 0 → u ≡ oppositeOf t
     → OppositeAnswer t gives codeAnswer 0 u
-faces t z e = keeps-gives (one-answer .triangle t) (opposite-answers t z e)
+faces t z e = keeps-gives (one-answer .opposite t) (opposite-answers t z e)
 
 refuses : (t : TriangleCode) (k : ℕ) → k ≡ checkCode t → (k ≡ 0 → ⊥) → OppositeAnswer t gives noCode k
-refuses t k e n = keeps-gives (one-answer .triangle t) (refusing e n)
+refuses t k e n = keeps-gives (one-answer .opposite t) (refusing e n)
 
 faces-name : (q r : CornerName) → checkNameFields q ≡ 0
     → leastName 5 (placeIn (codeInside q) (cornerNumber (q .0))) ≡ q .0
     → r ≡ nameOf (leastName 5 (placeAt (oppositeOf (codeInside q) .0 + exchanged (cornerNumber (q .0)))))
     → OppositeNameAnswer q gives nameAnswer 0 r
-faces-name q r z l e = keeps-gives (one-answer .name q) (name-answers q (passes-by q z l) refl refl e)
+faces-name q r z l e = keeps-gives (one-answer .oppositeName q) (name-answers q (passes-by q z l) refl refl e)
 
 refuses-name : (q : CornerName) (k : ℕ) → k ≡ checkName q → (k ≡ 0 → ⊥) → OppositeNameAnswer q gives noName k
-refuses-name q k e n = keeps-gives (one-answer .name q) (refusing e n)
+refuses-name q k e n = keeps-gives (one-answer .oppositeName q) (refusing e n)
 
 -- E3's triangle, its opposite, and E7's
 elsewhere : OppositeAnswer (written 10003) gives codeAnswer 0 (written 31002)

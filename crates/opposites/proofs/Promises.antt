@@ -41,12 +41,12 @@ use Rattle.opposites.proofs.FacingNames.{name-only, name-some, name-the
 
 pub one-answer : OneAnswer
 one-answer = record {
-  triangle = λ t.
+  opposite = λ t.
       keeps (λ (r : CodeAnswer). r .refusal) refl (λ r x. x .number)
       (answer-some (checkCode t) (Faced t) noCode (λ z.
       (codeAnswer 0 (oppositeOf t), record { number = refl; is = opposite-is (is-code t z) })))
       (λ r r′. answer-one (λ z x y. faced-one x y));
-  name = λ q.
+  oppositeName = λ q.
       keeps (λ (r : NameAnswer). r .refusal) refl (λ r x. x .number)
       (answer-some (checkName q) (FacedName q) noName (λ z.
       let x = name-some (name-means q .0 z .1) in (nameAnswer 0 (x .0), record { number = refl; is = x .1 })))

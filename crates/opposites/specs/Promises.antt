@@ -28,8 +28,8 @@ use Rattle.opposites.specs.Answers.{OppositeAnswer, OppositeNameAnswer}
 
 -- Demand 1, of these calls: exactly one answer for every input, a refusal by its number, with zeros.
 pub record OneAnswer : Type 0 where
-  pub triangle : (t : TriangleCode) → Keeps (checkCode t) (OppositeAnswer t) (λ r. r .refusal) noCode
-  pub name : (q : CornerName) → Keeps (checkName q) (OppositeNameAnswer q) (λ r. r .refusal) noName
+  pub opposite : (t : TriangleCode) → Keeps (checkCode t) (OppositeAnswer t) (λ r. r .refusal) noCode
+  pub oppositeName : (q : CornerName) → Keeps (checkName q) (OppositeNameAnswer q) (λ r. r .refusal) noName
 
 -- "Opposite twice is the identity"
 pub record Twice : Type 0 where

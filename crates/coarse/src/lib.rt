@@ -1,6 +1,7 @@
 // The coarse sums of a table of soundings (document 02, 2026-08): what the lists of counts and of sums are to hold and
 // what the calls then answer (specs/), with the laws of it (proofs/); in code how four readings are counted and summed.
-// What is refused of the two lists, and how they are written, is in the crate keeping, the calls are in soundings.
+// What is refused of the two lists is in the crate refusing_sums, how they are written in keeping, the calls are in
+// soundings.
 ghost use mathlib.Core.Path.{_≡_};
 ghost use mathlib.Core.List.{_∷_, []};
 ghost use Prim.Native.Nat.{_+_, _<_, _≤_};

@@ -65,7 +65,7 @@ fn refuse_kept(
     if first.refusal != 0 {
         return first;
     }
-    refuse(keeping::refuse_coarse(degree, t, list, counts, sums))
+    refuse(refusing_sums::refuse_coarse(degree, t, list, counts, sums))
 }
 
 // What the deed leaves at its triangle's place of the readings and of the owners.
@@ -213,7 +213,7 @@ fn refuse_work_out(degree: u64, list: &[i32], counts: &[u64], sums: &[u64]) -> T
     if of_list.refusal != 0 {
         return of_list;
     }
-    refuse(keeping::refuse_lengths(degree, counts, sums))
+    refuse(refusing_sums::refuse_lengths(degree, counts, sums))
 }
 
 // All counts and sums, of a table opened from elsewhere.

@@ -67,5 +67,5 @@ pub fn parents_of(degree: u64) -> usize {
     if 6 < degree {
         return 0;
     }
-    keeping::parents_of(degree) as usize
+    refusing_sums::parents_of(degree) as usize
 }

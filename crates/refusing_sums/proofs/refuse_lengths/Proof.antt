@@ -3,8 +3,8 @@ use mathlib.Core.Path.{_∙_, sym}
 use Rattle.coarse.specs.Sums.{coarse}
 use Rattle.coarse.proofs.Refused.{wrong-counts, wrong-sums, right-lengths}
 use borrow.Author.Needs.{needs}
-use Rattle.keeping.proofs.refuse_lengths.Statement.{statement}
-use Rattle.keeping.proofs.refuse_lengths.Tie as tie
+use Rattle.refusing_sums.proofs.refuse_lengths.Statement.{statement}
+use Rattle.refusing_sums.proofs.refuse_lengths.Tie as tie
 
 parents-of-requires : tie.Need-parents-of-requires
 parents-of-requires c κs = search needs

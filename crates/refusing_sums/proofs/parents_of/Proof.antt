@@ -2,8 +2,8 @@
 use mathlib.Core.Path.{_∙_}
 use Rattle.coarse.proofs.Children.{parents-above}
 use borrow.Author.Needs.{needs}
-use Rattle.keeping.proofs.parents_of.Statement.{statement}
-use Rattle.keeping.proofs.parents_of.Tie as tie
+use Rattle.refusing_sums.proofs.parents_of.Statement.{statement}
+use Rattle.refusing_sums.proofs.parents_of.Tie as tie
 
 returns : tie.Need-returns
 returns c = search needs

@@ -11,8 +11,8 @@ use Rattle.coarse.specs.Refusals.{sumOrder, lengthRows}
 use Rattle.coarse.proofs.Children.{Above, above}
 use Rattle.coarse.proofs.Refused.{right-long, lengths-first, other-count, other-sum, none-kept}
 use borrow.Author.Needs.{needs}
-use Rattle.keeping.proofs.refuse_coarse.Statement.{statement}
-use Rattle.keeping.proofs.refuse_coarse.Tie as tie
+use Rattle.refusing_sums.proofs.refuse_coarse.Statement.{statement}
+use Rattle.refusing_sums.proofs.refuse_coarse.Tie as tie
 
 refuse-lengths-requires : tie.Need-refuse-lengths-requires
 refuse-lengths-requires c κs = search needs

@@ -1,6 +1,7 @@
 // What the calls on a table of soundings refuse (document 02, 2026-03 and 2026-07): 1 to 4 and 20 to 27.
-use meanings::is_bad;
-use meanings::is_other;
+use searching::any_bad;
+use searching::any_other;
+use searching::least_bad;
 use tables::Deed;
 use tables::TableAnswer;
 use words::TriangleCode;
@@ -9,58 +10,10 @@ ghost use mathlib.Core.Bool.{cond};
 ghost use Prim.Native.Nat.{_≤_};
 ghost use Rattle.frame.specs.Refusals.{firstOf};
 ghost use Rattle.words.specs.Refusals.{IsCode};
-ghost use Rattle.tables.specs.Tables.{anyBad, leastBad};
-ghost use Rattle.tables.specs.Owners.{anyOther, shared, isTaking};
+ghost use Rattle.tables.specs.Owners.{shared, isTaking};
 ghost use Rattle.tables.specs.Refusals.{tableOrder, largeRows, triangleRows, tableRows, refuseCall};
 ghost use Rattle.tables.specs.Refusals.{deskOrder, ownerRows, sharedRows, refuseDeed};
 ghost use Rattle.tables.specs.Answers.{tableAnswer, refused};
-
-// ---- the lists
-
-// Whether the list holds a bad number. It looks at every place whatever it finds, so that it is compiled to vector
-// instructions: every call goes through the whole list.
-fn any_bad(list: &[i32]) -> bool
-    ensures { λ r. ⌜ r ≡ anyBad (now (list .entry)) ⌝ }
-{
-    let mut found = false;
-    let mut i = 0;
-    while i < list.len() {
-        if is_bad(list[i]) {
-            found = true;
-        }
-        i += 1;
-    }
-    found
-}
-
-// The least bad place; the length where there is none.
-fn least_bad(list: &[i32]) -> usize
-    ensures { λ r. ⌜ r ≡ leastBad (now (list .entry)) ⌝ }
-{
-    let mut least = 0;
-    while least < list.len() {
-        if is_bad(list[least]) {
-            return least;
-        }
-        least += 1;
-    }
-    least
-}
-
-// Whether the list of owners holds another number than an owner. It looks at every place too.
-fn any_other(owners: &[u8]) -> bool
-    ensures { λ r. ⌜ r ≡ anyOther (now (owners .entry)) ⌝ }
-{
-    let mut found = false;
-    let mut place = 0;
-    while place < owners.len() {
-        if is_other(owners[place]) {
-            found = true;
-        }
-        place += 1;
-    }
-    found
-}
 
 // ---- of any call
 

@@ -9,8 +9,8 @@ use lib.ListN.{length, drop}
 use Rattle.frame.specs.Refusals.{_either_}
 use Rattle.tables.specs.Owners.{isOther, anyOther}
 use Rattle.frame.proofs.Scanning.{finds, goes-on, ends}
-use Rattle.refusing.proofs.any_other.Statement.{statement}
-use Rattle.refusing.proofs.any_other.Tie as tie
+use Rattle.searching.proofs.any_other.Statement.{statement}
+use Rattle.searching.proofs.any_other.Tie as tie
 
 abbrev Inv-loop : tie.InvT-loop
 Inv-loop owners found₀ place₀ found place =

@@ -10,8 +10,8 @@ use mir.Syntax.{w32}
 use mir.ValLaws.{toZ-ofZ}
 use Rattle.tables.specs.Tables.{isBad, leastBad}
 use Rattle.frame.proofs.Scanning.{stops, passes, none-left}
-use Rattle.refusing.proofs.least_bad.Statement.{statement}
-use Rattle.refusing.proofs.least_bad.Tie as tie
+use Rattle.searching.proofs.least_bad.Statement.{statement}
+use Rattle.searching.proofs.least_bad.Tie as tie
 
 abbrev Inv-loop : tie.InvT-loop
 Inv-loop list least₀ least = (least ≤ length list) × (leastBad list ≡ least + leastBad (drop least list))

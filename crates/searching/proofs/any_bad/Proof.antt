@@ -12,8 +12,8 @@ use mir.ValLaws.{toZ-ofZ}
 use Rattle.frame.specs.Refusals.{_either_}
 use Rattle.tables.specs.Tables.{isBad, anyBad}
 use Rattle.frame.proofs.Scanning.{finds, goes-on, ends}
-use Rattle.refusing.proofs.any_bad.Statement.{statement}
-use Rattle.refusing.proofs.any_bad.Tie as tie
+use Rattle.searching.proofs.any_bad.Statement.{statement}
+use Rattle.searching.proofs.any_bad.Tie as tie
 
 abbrev Inv-loop : tie.InvT-loop
 Inv-loop list found₀ i₀ found i = (i ≤ length list) × (anyBad list ≡ found either anyBad (drop i list))

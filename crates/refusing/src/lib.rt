@@ -69,7 +69,7 @@ pub fn refuse_list(degree: u64, list: &[i32]) -> TableAnswer
         r ≡ refused (now (list .entry)) (firstOf tableOrder (tableRows degree (now (list .entry))))
         ⌝ }
 {
-    if list.len() as u64 != words::codes_of(degree) {
+    if list.len() as u64 != ordering::codes_of(degree) {
         return refuse(22);
     }
     if any_bad(list) {
@@ -131,13 +131,13 @@ fn refuse_shared(deed: Deed, desk: u64, degree: u64, t: TriangleCode, owners: &[
     if !meanings::is_desk(desk) {
         return 24;
     }
-    if owners.len() as u64 != words::codes_of(degree) {
+    if owners.len() as u64 != ordering::codes_of(degree) {
         return 25;
     }
     if any_other(owners) {
         return 25;
     }
-    let i = words::place_of(t) as usize;
+    let i = ordering::place_of(t) as usize;
     refuse_owner(deed, desk, owners[i] as u64)
 }
 

@@ -21,7 +21,7 @@ pub fn parents_of(degree: u64) -> u64
     if degree == 0 {
         return 0;
     }
-    words::codes_of(degree - 1)
+    ordering::codes_of(degree - 1)
 }
 
 // 28: of the lengths.
@@ -46,7 +46,7 @@ pub fn parent_place(t: TriangleCode) -> usize
     requires { ⌜ (checkCode t ≡ 0) × (1 ≤ degreeOf (t .0)) ⌝ }
     ensures { λ r. ⌜ r ≡ placeOf (parentOf t) ⌝ }
 {
-    words::place_of(t) as usize / 4
+    ordering::place_of(t) as usize / 4
 }
 
 // 28 and 29: of the lengths, and of what is stored for the triangle's parent.

@@ -35,7 +35,7 @@ pub fn get(degree: u64, t: TriangleCode, list: &[i32]) -> SoundingAnswer
             sounding: Sounding::Nothing,
         };
     }
-    let i = words::place_of(t) as usize;
+    let i = ordering::place_of(t) as usize;
     SoundingAnswer {
         refusal: 0,
         place: 0,
@@ -78,7 +78,7 @@ fn write(deed: Deed, desk: u8, t: TriangleCode, list: &mut [i32], owners: &mut [
         ≡ sharedAfter deed desk t (shared (now (list .entry)) (now (owners .entry)))
         ⌝ }
 {
-    let i = words::place_of(t) as usize;
+    let i = ordering::place_of(t) as usize;
     list[i] = meanings::number_after(deed, list[i]);
     owners[i] = meanings::owner_after(deed, desk, owners[i]);
 }

@@ -65,7 +65,7 @@ fn stored(t: TriangleCode, held: Held, counts: &[u64], sums: &[u64]) -> Done {
     if f != 0 {
         return Done::Refused(f, 0);
     }
-    Done::Stored(items::tally_at(words::place_of(t) as usize, counts, sums))
+    Done::Stored(items::tally_at(ordering::place_of(t) as usize, counts, sums))
 }
 
 fn carry_out(

@@ -59,7 +59,7 @@ pub fn places_of(degree: u64) -> usize {
     if 6 < degree {
         return 0;
     }
-    words::codes_of(degree) as usize
+    ordering::codes_of(degree) as usize
 }
 
 // How many triangles there are one degree up; 0 where no table has the degree.

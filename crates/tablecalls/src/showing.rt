@@ -36,7 +36,7 @@ fn put_place(degree: u64, place: usize, i: Item, later: bool, out: &mut [u8], at
         Item::Nothing => at,
         _ => {
             let code = put_separator(later, out, at);
-            let t = words::code_at(degree, place as u64);
+            let t = ordering::code_at(degree, place as u64);
             let next = texts::put_digits(t.0, out, code);
             items::put_item(i, out, next)
         }
@@ -177,7 +177,7 @@ fn put_places(
             rest: 0,
         };
     }
-    let n = words::codes_of(degree) as usize;
+    let n = ordering::codes_of(degree) as usize;
     if n < rest {
         return Part {
             size: start,

@@ -6,7 +6,6 @@ ghost use Rattle.frame.specs.Refusals.{refusal};
 ghost use Rattle.words.specs.Words.{bits, aOf, degreeOf, digits, beyond, sideOf, path, wordOf};
 ghost use Rattle.words.specs.Refusals.{wordRows, checkCode, checkNameFields};
 ghost use Rattle.words.specs.Family.{codeOf, codeAnswer, noCode, ParentAnswer, ChildAnswer};
-ghost use Rattle.words.specs.Counting.{codeAt, placeOf};
 
 // A triangle code, or any word handed in as one.
 pub struct TriangleCode(pub u64);
@@ -87,35 +86,6 @@ fn beyond_of(w: u64) -> u64
     ensures { λ r. ⌜ r ≡ beyond w (degreeOf w) ⌝ }
 {
     bits_of(w, 6, 48 - 2 * degree_of(w))
-}
-
-// ---- the codes of a degree, in rising order
-
-// How many there are.
-pub fn codes_of(n: u64) -> u64
-    requires { ⌜ n ≤ 24 ⌝ }
-    ensures { λ r. ⌜ r ≡ 20 * 4 ^ n ⌝ }
-{
-    20 * power(2 * n)
-}
-
-// The place of a code among those of its degree, from 0.
-pub fn place_of(t: TriangleCode) -> u64
-    requires { ⌜ checkCode t ≡ 0 ⌝ }
-    ensures { λ r. ⌜ r ≡ placeOf t ⌝ }
-{
-    let w = t.0;
-    let n = degree_of(w);
-    (side_of(w) - 4) * power(2 * n) + path_of(w, n)
-}
-
-// The code that has a place.
-pub fn code_at(n: u64, place: u64) -> TriangleCode
-    requires { ⌜ (n ≤ 24) × (place < 20 * 4 ^ n) ⌝ }
-    ensures { λ r. ⌜ r ≡ codeAt n place ⌝ }
-{
-    let each = power(2 * n);
-    TriangleCode(word_of(4 + place / each, n, place % each))
 }
 
 // ---- checking

@@ -3,10 +3,10 @@ use mathlib.Core.Path.{sym, _∙_, ap}
 use Prim.Native.Nat.{ℕ, _*_, _^_, _≤_}
 use native.Mathlib.Omega.{arith}
 use lib.Pow.{pow-mono}
 use Rattle.words.proofs.CodeCount.{four-pow}
 use borrow.Author.Needs.{needs}
-use Rattle.words.proofs.codes_of.Statement.{statement}
-use Rattle.words.proofs.codes_of.Tie as tie
+use Rattle.ordering.proofs.codes_of.Statement.{statement}
+use Rattle.ordering.proofs.codes_of.Tie as tie
 
 mul-power : tie.Need-mul-power
 mul-power c = search needs

@@ -2,13 +2,13 @@
 use mathlib.Core.Path.{_≡_}
 use Prim.Native.Nat.{_+_, _-_, _*_, _^_}
 use native.Mathlib.Omega.{arith}
 use Rattle.words.specs.Words.{degreeOf, sideOf}
 use Rattle.words.proofs.Codes.{is-code, code-side, code-degree}
 use Rattle.words.proofs.CodeCount.{place-word, place-fits}
 use Rattle.words.specs.Counting.{placeOf}
 use borrow.Author.Needs.{needs}
-use Rattle.words.proofs.place_of.Statement.{statement}
-use Rattle.words.proofs.place_of.Tie as tie
+use Rattle.ordering.proofs.place_of.Statement.{statement}
+use Rattle.ordering.proofs.place_of.Tie as tie
 
 degree-of-requires : tie.Need-degree-of-requires
 degree-of-requires c κs = search needs

@@ -3,13 +3,13 @@ use mathlib.Core.Path.{_≡_, sym, _∙_, ap}
 use Prim.Native.Nat.{ℕ, _+_, _*_, _/_, _%_, _^_, _<_}
 use native.Mathlib.Nat.{mod-lt, div-lt-iff-lt-mul}
 use native.Mathlib.Omega.{arith}
 use Rattle.words.specs.Counting.{codeAt}
 use Rattle.words.specs.Family.{codeOf}
 use Rattle.words.specs.Words.{wordOf}
 use Rattle.words.proofs.CodeCount.{four-pow, four-pos}
 use borrow.Author.Needs.{needs}
-use Rattle.words.proofs.code_at.Statement.{statement}
-use Rattle.words.proofs.code_at.Tie as tie
+use Rattle.ordering.proofs.code_at.Statement.{statement}
+use Rattle.ordering.proofs.code_at.Tie as tie
 
 -- 4 to the degree
 each : (c : tie.After-power) → c .power .result ≡ 4 ^ (c .before .args .n)

@@ -21,7 +21,7 @@ use Rattle.opposites.proofs.Examples as opposites
 use Rattle.host_opposites.specs.Refusals.{refuseOpposite, refuseOppositeName}
 use Rattle.host_opposites.specs.Answers.{OppositeBytes, OppositeNameBytes}
 use Rattle.host_opposites.specs.Examples.{Examples, Bounds, Mistakes}
-use Rattle.host_opposites.proofs.OppositeCalls.{code-handed, code-nine, name-handed, name-nine}
+use Rattle.host_opposites.proofs.OppositeCalls.{code-handed, name-handed, name-nine}
 use Rattle.host_opposites.proofs.Promises.{one-answer}
 
 -- 10003 and V(20), for any slice that is long enough

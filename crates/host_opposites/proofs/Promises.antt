@@ -1,5 +1,5 @@
 -- The promises of specs/Promises.antt. Assumes nothing.
-use mathlib.Core.Path.{_≡_, _∙_, refl, sym, ap, subst}
+use mathlib.Core.Path.{_≡_, _∙_, sym, ap, subst}
 use mathlib.Core.List.{List, [], _∷_}
 use Prim.Native.Nat.{ℕ, zero, suc, _^_, _<_}
 use native.Mathlib.Omega.{arith}
@@ -11,8 +11,7 @@ use Rattle.words.specs.Words.{cornerNumber}
 use Rattle.words.specs.declared.CornerName.{CornerName}
 use Rattle.words.specs.declared.TriangleCode.{TriangleCode}
 use Rattle.words.proofs.Codes.{code-below}
-use Rattle.net.specs.Corners.{codeInside, named}
-use Rattle.net.specs.Names.{IsName}
+use Rattle.net.specs.Corners.{codeInside}
 use Rattle.net.proofs.WordSteps.{numbered-fits}
 use Rattle.exports.specs.Answers.{Exported}
 use Rattle.exports.specs.Promises.{Hosted}

@@ -1,9 +1,9 @@
 -- What the functions answer, from their parts. Assumes nothing.
-use mathlib.Core.Path.{_≡_, _∙_, refl, sym, ap, subst}
+use mathlib.Core.Path.{_≡_, _∙_, refl, ap, subst}
 use Prim.Native.Nat.{ℕ, _+_, _-_, _%_}
 use Rattle.frame.proofs.Answering.{answering}
-use Rattle.words.specs.Words.{cornerNumber, degreeOf, sideOf}
-use Rattle.words.specs.Refusals.{IsCode, checkCode}
+use Rattle.words.specs.Words.{cornerNumber, sideOf}
+use Rattle.words.specs.Refusals.{checkCode}
 use Rattle.words.specs.Family.{codeOf, codeAnswer}
 use Rattle.words.specs.declared.CornerName.{CornerName}
 use Rattle.words.specs.declared.TriangleCode.{TriangleCode}
@@ -14,9 +14,8 @@ use Rattle.net.specs.Refusals.{checkName}
 use Rattle.net.specs.Sides.{OneToThree}
 use Rattle.net.specs.Means.Walks.{Place, leastName, nameAt, placeAt, renumbered, wordAt}
 use Rattle.net.proofs.Canonical.{name-means}
-use Rattle.net.proofs.LeastName.{placeIn}
 use Rattle.net.proofs.Names.{made-inside, made-number}
-use Rattle.net.proofs.WordSteps.{numbered-fields, numbered-place, side-here, side-is}
+use Rattle.net.proofs.WordSteps.{numbered-fields, numbered-place, side-here}
 use Rattle.filing.specs.Means.Opposites.{oppositeOf, oppositeSide}
 use Rattle.filing.proofs.OppositeCorners.{opposite-code}
 use Rattle.corners.specs.Answers.{nameAnswer}

@@ -1,5 +1,5 @@
 -- A triangle holds a direction exactly when its opposite holds the negated one. Assumes nothing.
-use mathlib.Core.Path.{_≡_, _∙_, refl, sym, ap, subst}
+use mathlib.Core.Path.{_≡_, _∙_, refl, sym, subst}
 use mathlib.Core.Logic.{_↔_}
 use mathlib.Core.List.{[], _∷_, _++_}
 use mathlib.Core.Bool.{Bool, _&&_}
@@ -8,13 +8,13 @@ use native.Mathlib.Omega.{arith}
 use lib.Dec.{eqb, ltb}
 use lib.IntN.{ℤ, pos, negsuc, negℤ, natAbs}
 use Rattle.frame.specs.Refusals.{_either_, _when_, refusal}
-use Rattle.golden.specs.Numbers.{negφ, _+φ_, _*φ_}
+use Rattle.golden.specs.Numbers.{negφ}
 use Rattle.golden.proofs.RingSolver.{reify, done}
 use Rattle.golden.proofs.GoldenRing.{φ-ring, reφ}
 use Rattle.words.specs.Refusals.{IsCode, degreeRows}
 use Rattle.words.specs.declared.TriangleCode.{TriangleCode}
 use Rattle.net.specs.Corners.{corner}
-use Rattle.filing.specs.Coordinates.{coordinates, exact, negated}
+use Rattle.filing.specs.Coordinates.{exact, negated}
 use Rattle.filing.specs.Filing.{IsFiled}
 use Rattle.filing.specs.Holding.{along, determinant, replaced, determinants, three, dets, Holds, AllNonNeg}
 use Rattle.filing.specs.Means.Opposites.{oppositeOf}
@@ -25,7 +25,7 @@ use Rattle.filing.proofs.Parts.{dets-path}
 use Rattle.directions.specs.Refusals.{refuseFile}
 use Rattle.opposites.specs.Opposites.{negatedDirection, IsOpposite}
 use Rattle.opposites.specs.Promises.{OppositeHolder}
-use Rattle.opposites.proofs.Facing.{opposite-back, opposite-is, opposite-only}
+use Rattle.opposites.proofs.Facing.{opposite-back, opposite-is}
 
 -- three negated, and two of them exchanged
 turned-determinant : (a b c : Coordinates) → determinant (negated a) (negated c) (negated b) ≡ determinant a b c

@@ -1,5 +1,5 @@
 -- The opposite of a corner's name: there is one and no other; twice it is the name. Assumes nothing.
-use mathlib.Core.Path.{_≡_, _∙_, refl, sym, ap, subst}
+use mathlib.Core.Path.{_≡_, _∙_, sym, ap, subst}
 use Prim.Native.Nat.{ℕ}
 use Rattle.words.specs.Words.{cornerNumber}
 use Rattle.words.specs.Refusals.{IsCode}

@@ -16,7 +16,6 @@ use Rattle.net.specs.Corners.{corner, named}
 use Rattle.net.specs.Division.{each}
 use Rattle.net.specs.Names.{IsName}
 use Rattle.net.specs.Refusals.{checkName}
-use Rattle.net.specs.Sides.{OneToThree}
 use Rattle.net.specs.Steps.{Across}
 use Rattle.net.specs.Means.Seams.{flip}
 use Rattle.net.proofs.Canonical.{name-means, name-passes-all}

@@ -23,7 +23,7 @@ use Rattle.filing.specs.declared.Direction.{Direction}
 abbrev pub far : Direction → Bool
 far d = outside (d .x) either outside (d .y) either outside (d .z)
 
-abbrev none : Direction → Bool
+abbrev pub none : Direction → Bool
 none d = zero? (d .x) && (zero? (d .y) && zero? (d .z))
 
 pub refuse-by : (n : ℕ) (d : Direction) {a b c : Bool} → ltb 24 n ≡ a → far d ≡ b → none d ≡ c

@@ -107,7 +107,7 @@ sgn-small x = go (view x)
     go (View.at e) = omega arith
     go (above a b) = omega arith
 
-twice-neg : (x : Golden) → negφ (negφ x) ≡ x
+pub twice-neg : (x : Golden) → negφ (negφ x) ≡ x
 twice-neg x = solve φ-ring (x ∷ []) (⊖ (⊖ (var 0))) (var 0) refl
 
 sgn-neg : (x : Golden) → sgn (negφ x) ≡ 2 - sgn x

@@ -25,15 +25,15 @@ use Rattle.host_opposites.proofs.OppositeCalls.{code-handed, name-hande
 use Rattle.host_opposites.proofs.Promises.{one-answer}
 
 -- 10003 and V(20), for any slice that is long enough
-faced : (out : List ℕ) → 8 ≤ length out
+opposing : (out : List ℕ) → 8 ≤ length out
     → OppositeBytes (written 10003) out leaves (0, over (bytes 8 (written 31002 .0 ∷ [])) out)
-faced out l =
+opposing out l =
     keeps-gives (one-answer .opposite (written 10003) out)
     (code-handed (written 10003) out (opposites.examples .e3 .meets) (sent-on _ refl l refl))
 
-faced-name : (out : List ℕ) → 8 ≤ length out
+opposing-name : (out : List ℕ) → 8 ≤ length out
     → OppositeNameBytes (nameOf 0x2000000000000003) out leaves (0, over (bytes 8 (0x7000000000000002 ∷ [])) out)
-faced-name out l =
+opposing-name out l =
     keeps-gives (one-answer .oppositeName (nameOf 0x2000000000000003) out)
     (name-handed (nameOf 0x2000000000000003) out (opposites.examples .v20 .meets) (sent-on _ refl l refl))
 
@@ -48,8 +48,8 @@ ten out = name-nine (cornerIn 200 2) out .first (sym (grid-bounds.bounds .not-ca
 pub examples : Examples
 unfolding bytes refuseOpposite firstOf decimals written firstDigits path wordIn
 examples = record {
-  e3 = faced (replicate 9 9) (omega arith);
-  v20 = faced-name (replicate 8 9) (omega arith);
+  e3 = opposing (replicate 9 9) (omega arith);
+  v20 = opposing-name (replicate 8 9) (omega arith);
   word-0 = keeps-gives (one-answer .opposite (codeOf 0) (replicate 8 9))
       (refusing {k = 2} refl (λ e. omega (arith, e)));
   short = keeps-gives (one-answer .opposite (written 10003) (replicate 7 9))
@@ -76,8 +76,8 @@ byte i x = getD (x .1) i 0
 pub mistakes : Mistakes
 unfolding bytes decimals written firstDigits path wordIn
 mistakes = record {
-  reversed = no-other {s = (0, _)} (byte 0) (faced (replicate 8 9) (omega arith)) refl;
-  itself = no-other {s = (0, _)} (byte 0) (faced (replicate 8 9) (omega arith)) refl;
-  cleared = no-other {s = (0, _)} (byte 8) (faced (replicate 9 9) (omega arith)) refl;
-  number-dropped = no-other {s = (0, _)} (byte 7) (faced-name (replicate 8 9) (omega arith)) refl;
+  reversed = no-other {s = (0, _)} (byte 0) (opposing (replicate 8 9) (omega arith)) refl;
+  itself = no-other {s = (0, _)} (byte 0) (opposing (replicate 8 9) (omega arith)) refl;
+  cleared = no-other {s = (0, _)} (byte 8) (opposing (replicate 9 9) (omega arith)) refl;
+  number-dropped = no-other {s = (0, _)} (byte 7) (opposing-name (replicate 8 9) (omega arith)) refl;
 }

@@ -16,8 +16,8 @@ use Rattle.net.proofs.WordSteps.{numbered-fits}
 use Rattle.exports.specs.Answers.{Exported}
 use Rattle.exports.specs.Promises.{Hosted}
 use Rattle.exports.proofs.Exporting.{Fitting, delivered, exported-keeps, hosted}
-use Rattle.opposites.proofs.Facing.{opposite-only}
-use Rattle.opposites.proofs.FacingNames.{name-only}
+use Rattle.opposites.proofs.Opposing.{opposite-only}
+use Rattle.opposites.proofs.OpposingNames.{name-only}
 use Rattle.opposites.proofs.Promises as opposites
 use Rattle.host_opposites.specs.Answers.{OneWord}
 use Rattle.host_opposites.specs.Promises.{OneAnswer, AsTheOpposites}

@@ -23,8 +23,8 @@ use Rattle.corners.proofs.Calls.{naming-answers}
 use Rattle.corners.proofs.Refused.{numbered-passes}
 use Rattle.opposites.specs.Opposites.{exchanged}
 use Rattle.opposites.specs.Answers.{OppositeAnswer, OppositeNameAnswer}
-use Rattle.opposites.proofs.Facing.{exchanged-is, exchanged-three, opposite-is}
-use Rattle.opposites.proofs.FacingNames.{facing-name}
+use Rattle.opposites.proofs.Opposing.{exchanged-is, exchanged-three, opposite-is}
+use Rattle.opposites.proofs.OpposingNames.{opposing-by}
 
 -- a code with a number, renumbered on the opposite side: the opposite code, with the exchanged number
 module _ (t : TriangleCode) (k : ℕ) (z : checkCode t ≡ 0) (l : OneToThree k) {s r : ℕ}
@@ -68,5 +68,5 @@ name-answers q {u} {j} {r} z e f g =
     let y = naming-answers _ _ none h .answered none .is in
     answering z (record {
       number = refl;
-      is = facing-name x o (subst (λ (n : ℕ). IsName n p r) (o .code .degreeIs) y);
+      is = opposing-by x o (subst (λ (n : ℕ). IsName n p r) (o .code .degreeIs) y);
     })

@@ -33,18 +33,18 @@ use Rattle.opposites.specs.Examples.{Examples, Mistakes}
 use Rattle.opposites.proofs.Calls.{name-answers, opposite-answers}
 use Rattle.opposites.proofs.Promises.{one-answer}
 
-faces : (t : TriangleCode) {u : TriangleCode} → checkCode t ≡ 0 → u ≡ oppositeOf t
+opposes : (t : TriangleCode) {u : TriangleCode} → checkCode t ≡ 0 → u ≡ oppositeOf t
     → OppositeAnswer t gives codeAnswer 0 u
-faces t z e = keeps-gives (one-answer .opposite t) (opposite-answers t z e)
+opposes t z e = keeps-gives (one-answer .opposite t) (opposite-answers t z e)
 
 refuses : (t : TriangleCode) (k : ℕ) → k ≡ checkCode t → (k ≡ 0 → ⊥) → OppositeAnswer t gives noCode k
 refuses t k e n = keeps-gives (one-answer .opposite t) (refusing e n)
 
-faces-name : (q r : CornerName) → checkNameFields q ≡ 0
+opposes-name : (q r : CornerName) → checkNameFields q ≡ 0
     → leastName 5 (placeIn (codeInside q) (cornerNumber (q .0))) ≡ q .0
     → r ≡ nameOf (leastName 5 (placeAt (oppositeOf (codeInside q) .0 + exchanged (cornerNumber (q .0)))))
     → OppositeNameAnswer q gives nameAnswer 0 r
-faces-name q r z l e = keeps-gives (one-answer .oppositeName q) (name-answers q (passes-by q z l) refl refl e)
+opposes-name q r z l e = keeps-gives (one-answer .oppositeName q) (name-answers q (passes-by q z l) refl refl e)
 
 refuses-name : (q : CornerName) (k : ℕ) → k ≡ checkName q → (k ≡ 0 → ⊥) → OppositeNameAnswer q gives noName k
 refuses-name q k e n = keeps-gives (one-answer .oppositeName q) (refusing e n)
@@ -52,7 +52,7 @@ refuses-name q k e n = keeps-gives (one-answer .oppositeName q) (refusing e n)
 -- E3's triangle, its opposite, and E7's
 elsewhere : OppositeAnswer (written 10003) gives codeAnswer 0 (written 31002)
 unfolding checkCode firstOf decimals written firstDigits path wordIn oppositeSide
-elsewhere = faces (written 10003) refl refl
+elsewhere = opposes (written 10003) refl refl
 
 filed-elsewhere : (r s o : CodeAnswer) → FileAnswer 2 up r → FileAnswer 2 (negatedDirection up) s
     → OppositeAnswer (r .code) o → s .code ≡ o .code → ⊥
@@ -71,14 +71,14 @@ pub examples : Examples
 unfolding checkCode firstOf decimals written firstDigits path wordIn oppositeSide checkNameFields checkName stepOf cross
     seamSide seamKept around wordAt nameAt leastName
 examples = record {
-  side = faces (written 100) refl refl;
-  side-back = faces (written 310) refl refl;
-  side-01 = faces (written 401) refl refl;
-  digits = faces (written 2001230) refl refl;
-  deepest = faces (written 511333333333333333333333333) refl refl;
-  pole = faces-name (cornerIn 100 1) (cornerIn 110 1) refl refl refl;
-  v20 = faces-name (nameOf 0x2000000000000003) (nameOf 0x7000000000000002) refl refl refl;
-  middle = faces-name (cornerIn 1000 3) (cornerIn 2100 3) refl refl refl;
+  side = opposes (written 100) refl refl;
+  side-back = opposes (written 310) refl refl;
+  side-01 = opposes (written 401) refl refl;
+  digits = opposes (written 2001230) refl refl;
+  deepest = opposes (written 511333333333333333333333333) refl refl;
+  pole = opposes-name (cornerIn 100 1) (cornerIn 110 1) refl refl refl;
+  v20 = opposes-name (nameOf 0x2000000000000003) (nameOf 0x7000000000000002) refl refl refl;
+  middle = opposes-name (cornerIn 1000 3) (cornerIn 2100 3) refl refl refl;
   e3 = elsewhere;
   filed-elsewhere = filed-elsewhere;
   degree-25 = refuses _ 1 refl (λ e. omega (arith, e));

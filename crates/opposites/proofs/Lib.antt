@@ -1,7 +1,7 @@
 -- The laws of the opposite, and the theorems of specs/.
-pub mod Facing
-pub mod FacingHolders
-pub mod FacingNames
+pub mod Opposing
+pub mod OpposingHolders
+pub mod OpposingNames
 pub mod Calls
 pub mod Promises
 pub mod Examples

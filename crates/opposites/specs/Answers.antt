@@ -13,16 +13,16 @@ use Rattle.corners.specs.Answers.{noName}
 use Rattle.corners.specs.declared.NameAnswer.{NameAnswer}
 use Rattle.opposites.specs.Opposites.{IsOpposite, IsOppositeName}
 
-pub record Faced (t : TriangleCode) (r : CodeAnswer) : Type 0 where
+pub record Opposing (t : TriangleCode) (r : CodeAnswer) : Type 0 where
   pub number : r .refusal ≡ 0
   pub is : IsOpposite (degreeOf (t .0)) t (r .code)
 
 abbrev pub OppositeAnswer : TriangleCode → CodeAnswer → Type 0
-OppositeAnswer t r = Answer (checkCode t) (Faced t) noCode r
+OppositeAnswer t r = Answer (checkCode t) (Opposing t) noCode r
 
-pub record FacedName (q : CornerName) (r : NameAnswer) : Type 0 where
+pub record OpposingName (q : CornerName) (r : NameAnswer) : Type 0 where
   pub number : r .refusal ≡ 0
   pub is : IsOppositeName (degreeOf (q .0)) q (r .name)
 
 abbrev pub OppositeNameAnswer : CornerName → NameAnswer → Type 0
-OppositeNameAnswer q r = Answer (checkName q) (FacedName q) noName r
+OppositeNameAnswer q r = Answer (checkName q) (OpposingName q) noName r

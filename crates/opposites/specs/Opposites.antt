@@ -24,9 +24,9 @@ negatedDirection d = record { x = negℤ (d .x); y = negℤ (d .y); z = negℤ (
 -- corner .. 1, and exchanges 2 and 3"
 pub record IsOpposite (n : ℕ) (t t′ : TriangleCode) : Type 0 where
   pub code : IsCode n t′
-  pub facing : (i : ℕ) → OneToThree i → exact (corner t′ (exchanged i)) ≡ negated (exact (corner t i))
+  pub negates : (i : ℕ) → OneToThree i → exact (corner t′ (exchanged i)) ≡ negated (exact (corner t i))
 
 -- "For every corner, the opposite name is canonical and has the coordinates negated."
 pub record IsOppositeName (n : ℕ) (q q′ : CornerName) : Type 0 where
   pub canonical : IsName n (named q′) q′
-  pub facing : exact (named q′) ≡ negated (exact (named q))
+  pub negates : exact (named q′) ≡ negated (exact (named q))

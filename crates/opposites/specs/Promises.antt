@@ -10,7 +10,7 @@ use Rattle.words.specs.Family.{codeAnswer, noCode}
 use Rattle.words.specs.declared.TriangleCode.{TriangleCode}
 use Rattle.words.specs.declared.CornerName.{CornerName}
 use Rattle.words.specs.declared.CodeAnswer.{CodeAnswer}
-use Rattle.net.specs.Sides.{OneToThree}
+use Rattle.net.specs.Sides.{OneToThree, nth}
 use Rattle.net.specs.Corners.{corner, named}
 use Rattle.net.specs.Names.{IsName}
 use Rattle.net.specs.Refusals.{checkName}
@@ -43,16 +43,22 @@ pub record Carries : Type 0 where
   -- what lies across edge k, where that edge has the number m, goes to what lies across the exchanged edge
   pub neighbours : (n : ℕ) (t u t′ u′ : TriangleCode) (k m : ℕ) → IsCode n t → OneToThree k → Across n t k u m
       → IsOpposite n t t′ → IsOpposite n u u′ → Across n t′ (exchanged k) u′ (exchanged m)
-  -- and so the calls: across and then opposite is opposite and then across
+  -- and so the calls: across and then opposite is opposite and then across. Of edges 2 and 3 the lower corner goes to
+  -- the lower one, of edge 1 to the higher one
   pub crossing : (t : TriangleCode) (k : ℕ) (r s : StepAnswer) (o p : CodeAnswer)
       → CrossAnswer t k r → r .refusal ≡ 0 → OppositeAnswer (r .code) p
       → OppositeAnswer t o → CrossAnswer (o .code) (exchanged k) s
       → (s .refusal ≡ 0) × (s .code ≡ p .code) × (s .edge ≡ exchanged (r .edge))
-  -- a corner that two triangles share goes to one that their opposites share, each number exchanged: so do the corners
-  -- of an edge that is crossed
+      × (s .first ≡ exchanged (nth k (r .second) (r .first) (r .first)))
+      × (s .second ≡ exchanged (nth k (r .first) (r .second) (r .second)))
+  -- a corner that two triangles share goes to one that their opposites share, each number exchanged
   pub corners : (n : ℕ) (t u t′ u′ : TriangleCode) (i j : ℕ) → IsCode n t → IsCode n u → OneToThree i → OneToThree j
       → IsOpposite n t t′ → IsOpposite n u u′
       → (corner t i ≡ corner u j) ↔ (corner t′ (exchanged i) ≡ corner u′ (exchanged j))
+  -- no triangle of the degree has the opposite points in another order
+  pub order : (n : ℕ) (t u : TriangleCode) → IsCode n t → IsCode n u
+      → ((j : ℕ) → OneToThree j → (i : ℕ) × OneToThree i × (exact (corner u j) ≡ negated (exact (corner t i))))
+      → IsOpposite n t u
   pub digits : (t : TriangleCode) (r : CodeAnswer) → OppositeAnswer t r → r .refusal ≡ 0
       → (i : ℕ) → 1 ≤ i → i ≤ degreeOf (t .0) → digitOf (r .code .0) i ≡ exchanged (digitOf (t .0) i)
 
@@ -73,7 +79,7 @@ pub record Holders : Type 0 where
   -- and so the opposite where just one triangle holds the direction
   pub alone : (n : ℕ) (d : Direction) (r r′ : TriangleCode) → IsFiled n d r → IsFiled n (negatedDirection d) r′
       → ((t : TriangleCode) → IsCode n t → Holds t d → t ≡ r) → IsOpposite n r r′
-  -- the negated direction can be filed where the direction can
+  -- the negated direction is refused by the same number
   pub refused : (n : ℕ) (d : Direction) → refuseFile n (negatedDirection d) ≡ refuseFile n d
 
 -- "For every corner, the opposite name is canonical and has the coordinates negated."
@@ -82,7 +88,7 @@ pub record Names : Type 0 where
       → (checkName (r .name) ≡ 0) × (degreeOf (r .name .0) ≡ degreeOf (q .0))
   pub negates : (q : CornerName) (r : NameAnswer) → OppositeNameAnswer q r → r .refusal ≡ 0
       → exact (named (r .name)) ≡ negated (exact (named q))
-  -- every corner has a name, and its opposite names the exchanged corner of the opposite triangle
-  pub corners : (n : ℕ) (t t′ : TriangleCode) (i : ℕ) (q : CornerName) (r : NameAnswer) → IsCode n t → OneToThree i
-      → IsOpposite n t t′ → IsName n (corner t i) q → OppositeNameAnswer q r
-      → (r .refusal ≡ 0) × IsName n (corner t′ (exchanged i)) (r .name)
+  -- of each corner of each triangle: its name has an opposite, which names the exchanged corner of the opposite triangle
+  pub corners : (n : ℕ) (t t′ : TriangleCode) (i : ℕ) → IsCode n t → OneToThree i → IsOpposite n t t′
+      → (q : CornerName) × (r : NameAnswer) × IsName n (corner t i) q × OppositeNameAnswer q r
+      × (r .refusal ≡ 0) × IsName n (corner t′ (exchanged i)) (r .name)

@@ -13,7 +13,7 @@ use Rattle.net.proofs.WordSteps.{numbered-fields, numbered-fits}
 use Rattle.filing.specs.Means.Opposites.{oppositeOf}
 use Rattle.filing.proofs.OppositeCorners.{opposite-code}
 use Rattle.opposites.proofs.Calls.{name-answers}
-use Rattle.opposites.proofs.Facing.{exchanged-three}
+use Rattle.opposites.proofs.Opposing.{exchanged-three}
 use Rattle.opposites.proofs.opposite_name.Statement.{statement}
 use Rattle.opposites.proofs.opposite_name.Tie as tie
 

@@ -9,6 +9,7 @@ use lib.Dec.{eqb, ltb}
 use lib.IntN.{ℤ, pos, negsuc, negℤ, natAbs}
 use Rattle.frame.specs.Refusals.{_either_, _when_, refusal}
 use Rattle.golden.specs.Numbers.{negφ}
+use Rattle.golden.proofs.Magnitudes.{abs-neg}
 use Rattle.golden.proofs.RingSolver.{reify, done}
 use Rattle.golden.proofs.GoldenRing.{φ-ring, reφ}
 use Rattle.words.specs.Refusals.{IsCode, degreeRows}
@@ -23,9 +24,10 @@ use Rattle.filing.specs.declared.Direction.{Direction}
 use Rattle.filing.specs.declared.Determinants.{Determinants}
 use Rattle.filing.proofs.Parts.{dets-path}
 use Rattle.directions.specs.Refusals.{refuseFile}
+use Rattle.directions.proofs.Refused.{far, none, refuse-by}
 use Rattle.opposites.specs.Opposites.{negatedDirection, IsOpposite}
 use Rattle.opposites.specs.Promises.{OppositeHolder}
-use Rattle.opposites.proofs.Facing.{opposite-back, opposite-is}
+use Rattle.opposites.proofs.Opposing.{opposite-back, opposite-is}
 
 -- three negated, and two of them exchanged
 turned-determinant : (a b c : Coordinates) → determinant (negated a) (negated c) (negated b) ≡ determinant a b c
@@ -54,8 +56,8 @@ module _ {n : ℕ} {t t′ : TriangleCode} (o : IsOpposite n t t′) (d : Direct
   turned-dets : dets t′ (negatedDirection d) ≡ swapped (dets t d)
   unfolding determinants
   turned-dets =
-      (λ i. replaced (along-negated d i) (o .facing 1 (omega arith) i) (o .facing 3 (omega arith) i)
-      (o .facing 2 (omega arith) i))
+      (λ i. replaced (along-negated d i) (o .negates 1 (omega arith) i) (o .negates 3 (omega arith) i)
+      (o .negates 2 (omega arith) i))
       ∙ turned-replaced (along d) (exact (corner t 1)) (exact (corner t 2)) (exact (corner t 3))
 
   pub opposite-holds : Holds t d ↔ Holds t′ (negatedDirection d)
@@ -100,19 +102,12 @@ filed-alone n d r r′ f g alone =
 
 -- ---- the size of a coordinate, and so what is refused, stays
 
-size-negated : (z : ℤ) → natAbs (negℤ z) ≡ natAbs z
-size-negated (pos zero) = refl
-size-negated (pos (suc n)) = refl
-size-negated (negsuc n) = refl
-
 pub refused-alike : (n : ℕ) (d : Direction) → refuseFile n (negatedDirection d) ≡ refuseFile n d
-unfolding refuseFile
-refused-alike n d = λ i. by-sizes (size-negated (d .x) i) (size-negated (d .y) i) (size-negated (d .z) i)
-  where
-    far : ℕ → Bool
-    far = ltb 1000000000
-
-    by-sizes : (x y z : ℕ) → ℕ
-    by-sizes x y z =
-        refusal (degreeRows n
-        ++ (8 when (far x either far y either far z) ∷ 7 when (eqb x 0 && (eqb y 0 && eqb z 0)) ∷ []))
+refused-alike n d =
+    let x = abs-neg (d .x) in
+    let y = abs-neg (d .y) in
+    let z = abs-neg (d .z) in
+    let far-too : far (negatedDirection d) ≡ far d =
+    λ i. ltb 1000000000 (x i) either ltb 1000000000 (y i) either ltb 1000000000 (z i) in
+    let none-too : none (negatedDirection d) ≡ none d = λ i. eqb (x i) 0 && (eqb (y i) 0 && eqb (z i) 0) in
+    sym (refuse-by n (negatedDirection d) refl far-too none-too) ∙ refuse-by n d refl refl refl

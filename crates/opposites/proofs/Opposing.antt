@@ -5,13 +5,9 @@ use mathlib.Core.Path.{_≡_, _∙_, refl, sym, ap, subst}
 use mathlib.Core.Logic.{inl, inr, ⊎-elim}
 use Prim.Native.Nat.{ℕ, zero, suc}
 use native.Mathlib.Omega.{arith}
-use lib.IntN.{negℤ-negℤ}
-use Rattle.golden.specs.Numbers.{negφ}
-use Rattle.golden.specs.declared.Golden.{Golden}
-use Rattle.golden.proofs.GoldenRing.{φ-path}
 use Rattle.words.specs.Refusals.{IsCode}
 use Rattle.words.specs.declared.TriangleCode.{TriangleCode}
-use Rattle.net.specs.Sides.{OneToThree, next, prev}
+use Rattle.net.specs.Sides.{OneToThree, next, nth, prev}
 use Rattle.net.specs.Division.{Weights}
 use Rattle.net.specs.Corners.{corner}
 use Rattle.net.specs.Steps.{Across}
@@ -22,9 +18,11 @@ use Rattle.net.proofs.Stepping.{next-three, prev-three}
 use Rattle.filing.specs.Coordinates.{exact, negated}
 use Rattle.filing.specs.Means.Opposites.{oppositeOf}
 use Rattle.filing.specs.declared.Coordinates.{Coordinates}
+use Rattle.filing.proofs.Counting.{twice-neg}
 use Rattle.filing.proofs.OnePoint.{same-place}
 use Rattle.filing.proofs.OppositeCorners.{opposite-code, opposite-exact}
 use Rattle.filing.proofs.Parts.{coordinates-path}
+use Rattle.corners.specs.Turns.{Becomes, Turned}
 use Rattle.grid.proofs.Differing.{codes-differ}
 use Rattle.opposites.specs.Opposites.{exchanged, IsOpposite}
 
@@ -48,19 +46,15 @@ prev-exchanged = three (λ k. exchanged (next k) ≡ prev (exchanged k)) refl re
 
 -- ---- negated coordinates
 
-negφ-twice : (x : Golden) → negφ (negφ x) ≡ x
-unfolding negφ
-negφ-twice x = φ-path (negℤ-negℤ (x .u)) (negℤ-negℤ (x .v))
-
 pub negated-twice : (c : Coordinates) → negated (negated c) ≡ c
-negated-twice c = coordinates-path (negφ-twice (c .x)) (negφ-twice (c .y)) (negφ-twice (c .z))
+negated-twice c = coordinates-path (twice-neg (c .x)) (twice-neg (c .y)) (twice-neg (c .z))
 
 -- ---- there is one
 
 pub opposite-is : {n : ℕ} {t : TriangleCode} → IsCode n t → IsOpposite n t (oppositeOf t)
 opposite-is {t = t} c = record {
   code = opposite-code c;
-  facing = λ i l.
+  negates = λ i l.
       subst (λ (j : ℕ). exact (corner (oppositeOf t) j) ≡ negated (exact (corner t i))) (exchanged-is i)
       (opposite-exact c i l);
 }
@@ -72,9 +66,25 @@ module _ {n : ℕ} {t u t′ u′ : TriangleCode} (o : IsOpposite n t t′) (p :
       → corner t′ (exchanged i) ≡ corner u′ (exchanged j)
   shared i j l m e =
       same-place (o .code) (p .code) (exchanged i) (exchanged j) (exchanged-three i l) (exchanged-three j m) .0
-      (o .facing i l ∙ ap (λ (w : Weights). negated (exact w)) e ∙ sym (p .facing j m))
+      (o .negates i l ∙ ap (λ (w : Weights). negated (exact w)) e ∙ sym (p .negates j m))
 
 -- ---- there is no other
+
+-- and none whose corners are, in any order, the opposite points
+pub opposite-any : {n : ℕ} {t u : TriangleCode} → IsCode n t → IsCode n u
+    → ((j : ℕ) → OneToThree j → (i : ℕ) × OneToThree i × (exact (corner u j) ≡ negated (exact (corner t i))))
+    → IsOpposite n t u
+opposite-any {n} {t} {u} c d h =
+    let o = opposite-is c in
+    subst (λ (v : TriangleCode). IsOpposite n t v)
+    (sym (codes-differ n u (oppositeOf t) d (o .code) (λ j l.
+    let x = h j l in
+    let k = exchanged-three (x .0) (x .1) in
+    (
+      exchanged (x .0),
+      k,
+      same-place (o .code) d (exchanged (x .0)) j k l .0 (o .negates (x .0) (x .1) ∙ sym (x .2)),
+    )))) o
 
 pub opposite-only : {n : ℕ} {t u u′ : TriangleCode} → IsOpposite n t u → IsOpposite n t u′ → u ≡ u′
 opposite-only {n} {t} {u} {u′} o p =
@@ -90,11 +100,11 @@ opposite-only {n} {t} {u} {u′} o p =
 pub opposite-back : {n : ℕ} {t u : TriangleCode} → IsCode n t → IsOpposite n t u → IsOpposite n u t
 opposite-back {t = t} {u = u} c o = record {
   code = c;
-  facing = λ i l.
+  negates = λ i l.
       let k = exchanged i in
       let e : exact (corner u i) ≡ negated (exact (corner t k)) =
       subst (λ (j : ℕ). exact (corner u j) ≡ negated (exact (corner t k))) (exchanged-twice i l)
-      (o .facing k (exchanged-three i l)) in
+      (o .negates k (exchanged-three i l)) in
       sym (ap negated e ∙ negated-twice (exact (corner t k)));
 }
 
@@ -136,3 +146,16 @@ module _ {n : ℕ} {t u t′ u′ : TriangleCode} (c : IsCode n t) (o : IsOpposi
             (λ x. inr (end kp mn (to-next k l) (to-prev m h) (x .1), end kn mp (to-prev k l) (to-next m h) (x .0)))
             (a .ends);
       }
+
+  -- the corners of the edge: the lower one here is the lower one there, but of edge 1
+  pub turned-opposite : {k i j : ℕ} → OneToThree k → Turned t k u i j
+      → Turned t′ (exchanged k) u′ (exchanged (nth k j i i)) (exchanged (nth k i j j))
+  turned-opposite {k} {i} {j} l x =
+      three
+      (λ k. Turned t k u i j → Turned t′ (exchanged k) u′ (exchanged (nth k j i i)) (exchanged (nth k i j j)))
+      (λ x. record { lowerIs = becomes 3 (omega arith) (x .higherIs); higherIs = becomes 2 (omega arith) (x .lowerIs) })
+      (λ x. record { lowerIs = becomes 1 (omega arith) (x .lowerIs); higherIs = becomes 3 (omega arith) (x .higherIs) })
+      (λ x. record { lowerIs = becomes 1 (omega arith) (x .lowerIs); higherIs = becomes 2 (omega arith) (x .higherIs) }) k l x
+    where
+      becomes : (m : ℕ) {h : ℕ} → OneToThree m → Becomes t m u h → Becomes t′ (exchanged m) u′ (exchanged h)
+      becomes m {h} a b = (exchanged-three h (b .0), shared o p m h a (b .0) (b .1))

@@ -214,8 +214,8 @@ uint64_t grid_file_small(uint64_t degree, int32_t x, int32_t y, int32_t z, uint8
  * Refusals: 1, 2, 3, 4, 9. (9 where out_length is below GRID_OPPOSITE_BYTES.) */
 uint64_t grid_opposite(uint64_t code, uint8_t *out, size_t out_length);
 
-/* The corner opposite on the globe, by its name. Its number in the name need not be that of grid_opposite, since a
- * corner is named by the least triangle that has it.
+/* The corner opposite on the globe, by its name. The triangle in the name need not be the opposite of the one in the
+ * name handed in, since a corner is named by the least triangle that has it.
  *
  * Writes: 8 bytes: the name of the opposite corner.
  * Refusals: 1, 2, 3, 4, 10, 9. (9 where out_length is below GRID_OPPOSITE_NAME_BYTES.) */

@@ -250,8 +250,8 @@ def out_length(words):
     if words[0] in ("check-cells", "mend-cells"):
         given, (*lists, out) = given_length(words[1]), lent_lengths(words[2:])
         return out if given % 8 == 0 and all(given <= length for length in lists) else None
-    lent = {"cross": 3, "file": 5, "list": 5, "small": 2, "large": 2, "cross-small": 3, "file-small": 5}
-    lent = {**lent, "opposite": 2, "opposite-name": 2}.get(words[0])
+    lent = {"cross": 3, "file": 5, "list": 5, "small": 2, "large": 2, "cross-small": 3, "file-small": 5,
+            "opposite": 2, "opposite-name": 2}.get(words[0])
     return lent_lengths(words[lent:])[0] if lent else None
 
 

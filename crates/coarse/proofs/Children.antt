@@ -2,19 +2,17 @@
 -- are. Assumes nothing.
 use mathlib.Core.Path.{_≡_, _∙_, refl, sym, ap}
 use mathlib.Core.List.{List, [], _∷_}
-use Prim.Native.Nat.{ℕ, zero, suc, _+_, _-_, _*_, _^_, _/_, _≤_, _<_}
+use Prim.Native.Nat.{ℕ, zero, suc, _+_, _-_, _*_, _^_, _≤_, _<_}
 use native.Mathlib.Nat.{pow-suc}
 use native.Mathlib.Omega.{arith}
 use lib.IntN.{ℤ}
 use lib.ListN.{length, getD, set}
 use Rattle.frame.specs.Lists.{below}
 use Rattle.frame.proofs.Below.{below-same}
-use Rattle.words.specs.Words.{degreeOf}
-use Rattle.words.specs.Refusals.{checkCode, IsCode}
+use Rattle.words.specs.Refusals.{IsCode}
 use Rattle.words.specs.Family.{parentOf, childOf}
 use Rattle.words.specs.Counting.{codeAt, placeOf}
 use Rattle.words.specs.declared.TriangleCode.{TriangleCode}
-use Rattle.words.proofs.Codes.{is-code, code-degree}
 use Rattle.words.proofs.CodeCount.{place-below, place-fits, code-at, place-at}
 use Rattle.words.proofs.ChildPlaces.{child-place, up}
 use Rattle.tables.specs.Tables.{places, none, numberAt}
@@ -51,15 +49,6 @@ parents-above (suc n) z = let e : suc n - 1 ≡ n = omega arith in ap places e
 pub four-each : (n : ℕ) {m l : ℕ} → m ≡ parents n → l ≡ places n → 4 * m ≤ l
 four-each zero e f = omega (arith, e, f)
 four-each (suc n) e f = omega (arith, e, f, pow-suc 4 n)
-
--- the place of the parent, by that of the triangle
-pub parent-place : (t : TriangleCode) {k : ℕ} → checkCode t ≡ 0 → 1 ≤ degreeOf (t .0) → k ≡ placeOf t
-    → k / 4 ≡ placeOf (parentOf t)
-parent-place t {k} z l w = go (degreeOf (t .0)) (is-code t z) l
-  where
-    go : (n : ℕ) → IsCode n t → 1 ≤ n → k / 4 ≡ placeOf (parentOf t)
-    go zero c l = absurd (omega (arith, l))
-    go (suc n) c l = let u = up c (omega (arith, code-degree c)) in omega (arith, w, u .place, u .small)
 
 -- What a call knows of the parent of its triangle, whose place is i.
 pub record Above (n : ℕ) (t : TriangleCode) (list : List ℤ) (i : ℕ) : Type 0 where

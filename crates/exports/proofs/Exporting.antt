@@ -1,4 +1,4 @@
--- An exported call over a call of the grid or of the harbour: what it returns, that there is one answer, what a host
+-- An exported call over a call of the grid or of a request: what it returns, that there is one answer, what a host
 -- reads. The call refuses f; the exported call refuses f and then a slice of less than `least` bytes, g in all. Assumes
 -- nothing.
 use mathlib.Core.Path.{_≡_, _∙_, refl, sym, ap}
@@ -17,6 +17,57 @@ use Rattle.octets.proofs.Laying.{number-at, after-bytes, as-long}
 use Rattle.exports.specs.Answers.{Sent, ExportedAs}
 use Rattle.exports.specs.Promises.{Delivered, Hosted}
 
+-- What a program delivers that hands a refusal on, else 9 where the slice is shorter, else its bytes.
+module _ {f : ℕ} (bs : List ℕ) {least : ℕ} {out : List ℕ} where
+  pub refused-on : (f ≡ 0 → ⊥) → Delivered f bs least out f out
+  refused-on some = record {
+    refused = λ n. refl;
+    short = λ z l. absurd (some z);
+    answered = λ z l. z;
+    written = λ z. absurd (some z);
+    kept = λ n. refl;
+  }
+
+  pub short-on : f ≡ 0 → length out < least → Delivered f bs least out 9 out
+  short-on z l = record {
+    refused = λ some. absurd (some z);
+    short = λ e h. refl;
+    answered = λ e h. absurd (omega (arith, l, h));
+    written = λ e. absurd (omega (arith, e));
+    kept = λ n. refl;
+  }
+
+  pub sent-on : {new : List ℕ} → f ≡ 0 → least ≤ length out → new ≡ over bs out → Delivered f bs least out 0 new
+  sent-on z l put = record {
+    refused = λ some. absurd (some z);
+    short = λ e h. absurd (omega (arith, l, h));
+    answered = λ e h. refl;
+    written = λ e. put;
+    kept = λ n. absurd (n refl);
+  }
+
+-- What is delivered so is the complete answer.
+module _ (laid : List ℕ → List ℕ) {f g least : ℕ} (Good : List ℕ → Type 0) (ms : List ℕ) {out : List ℕ} {k r : ℕ}
+    {new : List ℕ} (nine : ThenNine f g least (length out)) (own : k ≡ f) (good : f ≡ 0 → Good ms)
+    (d : Delivered k (laid ms) least out r new) where
+  number-delivered : (g ≡ 0 → ⊥) → r ≡ g
+  number-delivered some =
+      ⊎-elim
+      (λ z. ⊎-elim (λ l. absurd (some (nine .passes .1 (sym own ∙ z, l))))
+      (λ l. d .short z l ∙ nine .nine (sym own ∙ z) l) (le-or-lt least (length out)))
+      (λ refused. d .refused refused ∙ nine .first own refused) (answers-or-not k)
+
+  pub from-delivered : ExportedAs laid g Good out r new
+  from-delivered = record {
+    answered = λ z.
+        let p = nine .passes .0 z in
+        let e = d .answered (own ∙ p .0) (p .1) in
+        record { numbers = ms; good = good (p .0); answered = e; put = d .written e };
+    refused = λ some.
+        let e = number-delivered some in
+        λ i. (e i, d .kept (λ z. some (sym e ∙ z)) i);
+  }
+
 -- What the program returns over a call that refuses k, and answers the numbers ms where k is 0.
 pub record Returns (laid : List ℕ → List ℕ) (k g least : ℕ) (Good : List ℕ → Type 0) (ms out : List ℕ) : Type 0 where
   pub refused : (k ≡ 0 → ⊥) → ExportedAs laid g Good out k out
@@ -28,12 +79,9 @@ module _ (laid : List ℕ → List ℕ) {f g least : ℕ} (Good : List ℕ → T
     (nine : ThenNine f g least (length out)) where
   pub returned : {k : ℕ} (ms : List ℕ) → k ≡ f → (f ≡ 0 → Good ms) → Returns laid k g least Good ms out
   returned ms number good = record {
-    refused = λ some. refusing (nine .first number some) some;
-    short = λ z l. refusing (nine .nine (sym number ∙ z) l) (λ e. omega arith);
-    sent = λ z l put.
-        let none = sym number ∙ z in
-        answering (nine .passes .1 (none, l))
-        (record { numbers = ms; good = good none; answered = refl; put = put });
+    refused = λ some. from-delivered laid Good ms nine number good (refused-on (laid ms) some);
+    short = λ z l. from-delivered laid Good ms nine number good (short-on (laid ms) z l);
+    sent = λ z l put. from-delivered laid Good ms nine number good (sent-on (laid ms) z l put);
   }
 
   -- ---- one answer, where the numbers are one list
@@ -81,57 +129,6 @@ module _ (laid : List ℕ → List ℕ) {f g least : ℕ} (Good : List ℕ → T
       where
         number : r ≡ g
         number = number-is (λ (x : ℕ × List ℕ). x .0) refl (λ x s. s .answered) p
-
--- and what has it is the complete answer
-module _ (laid : List ℕ → List ℕ) {f g least : ℕ} (Good : List ℕ → Type 0) (ms : List ℕ) {out : List ℕ} {k r : ℕ}
-    {new : List ℕ} (nine : ThenNine f g least (length out)) (own : k ≡ f) (good : f ≡ 0 → Good ms)
-    (d : Delivered k (laid ms) least out r new) where
-  number-delivered : (g ≡ 0 → ⊥) → r ≡ g
-  number-delivered some =
-      ⊎-elim
-      (λ z. ⊎-elim (λ l. absurd (some (nine .passes .1 (sym own ∙ z, l))))
-      (λ l. d .short z l ∙ nine .nine (sym own ∙ z) l) (le-or-lt least (length out)))
-      (λ refused. d .refused refused ∙ nine .first own refused) (answers-or-not k)
-
-  pub from-delivered : ExportedAs laid g Good out r new
-  from-delivered = record {
-    answered = λ z.
-        let p = nine .passes .0 z in
-        let e = d .answered (own ∙ p .0) (p .1) in
-        record { numbers = ms; good = good (p .0); answered = e; put = d .written e };
-    refused = λ some.
-        let e = number-delivered some in
-        λ i. (e i, d .kept (λ z. some (sym e ∙ z)) i);
-  }
-
--- a program that hands the refusal f on, else 9, else the bytes
-module _ {f : ℕ} (bs : List ℕ) {least : ℕ} {out : List ℕ} where
-  pub refused-on : (f ≡ 0 → ⊥) → Delivered f bs least out f out
-  refused-on some = record {
-    refused = λ n. refl;
-    short = λ z l. absurd (some z);
-    answered = λ z l. z;
-    written = λ z. absurd (some z);
-    kept = λ n. refl;
-  }
-
-  pub short-on : f ≡ 0 → length out < least → Delivered f bs least out 9 out
-  short-on z l = record {
-    refused = λ some. absurd (some z);
-    short = λ e h. refl;
-    answered = λ e h. absurd (omega (arith, l, h));
-    written = λ e. absurd (omega (arith, e));
-    kept = λ n. refl;
-  }
-
-  pub sent-on : {new : List ℕ} → f ≡ 0 → least ≤ length out → new ≡ over bs out → Delivered f bs least out 0 new
-  sent-on z l put = record {
-    refused = λ some. absurd (some z);
-    short = λ e h. absurd (omega (arith, l, h));
-    answered = λ e h. refl;
-    written = λ e. put;
-    kept = λ n. absurd (n refl);
-  }
 
 -- a call that is answered was not refused
 pub delivered-passed : {f least : ℕ} {bs out : List ℕ} {r : ℕ} {new : List ℕ} → Delivered f bs least out r new → r ≡ 0

@@ -1,5 +1,7 @@
--- At most 6, 3 or 1 triangles of a degree below a triangle hold a direction, where 0, 1 or 2 of its determinants are 0. The signs of the
--- children's determinants are bound to the parent's by three sums; over all signs that agree with these, one test shows that the
+-- At most 6, 3 or 1 triangles of a degree below a triangle hold a direction, where 0, 1 or 2 of its determinants are 0.
+-- The signs of the
+-- children's determinants are bound to the parent's by three sums; over all signs that agree with these, one test shows
+-- that the
 -- children together have no more room than the parent. Assumes nothing.
 use mathlib.Core.Path.{_≡_, refl, sym, _∙_, ap}
 use mathlib.Core.Bool.{Bool, true, false, cond, _&&_}
@@ -48,7 +50,8 @@ unfolding sgn
 view x = go (nonNeg x) (nonNeg (negφ x)) refl refl
   where
     go : (b c : Bool) → nonNeg x ≡ b → nonNeg (negφ x) ≡ c → View x (cond b (cond c 1 2) 0)
-    go true true e f = let z = antisym x (test-is x (rw e tt)) (test-is (negφ x) (rw f tt)) in View.at (φ-path (z .0) (z .1))
+    go true true e f = let z = antisym x (test-is x (rw e tt)) (test-is (negφ x) (rw f tt)) in View.at
+        (φ-path (z .0) (z .1))
     go true false e f = above (test-is x (rw e tt)) (test-false (negφ x) f)
     go false c e f = under (test-false x e) (⊎-elim (λ h. absurd (test-false x e h)) (λ h. h) (either x))
 
@@ -132,13 +135,16 @@ sums (suc (suc p)) (suc (suc q)) r = same r 2
 
 module _ (x y : Golden) where
   back : NonNeg (x +φ y) → NonNeg (negφ y) → NonNeg x
-  back p q = nonneg-by (solve φ-ring (x ∷ y ∷ []) ((var 0 ⊕ var 1) ⊕ ⊖ (var 1)) (var 0) refl) (add-nonneg (x +φ y) (negφ y) p q)
+  back p q = nonneg-by (solve φ-ring (x ∷ y ∷ []) ((var 0 ⊕ var 1) ⊕ ⊖ (var 1)) (var 0) refl)
+      (add-nonneg (x +φ y) (negφ y) p q)
 
   forth : NonNeg (negφ (x +φ y)) → NonNeg y → NonNeg (negφ x)
-  forth p q = nonneg-by (solve φ-ring (x ∷ y ∷ []) (⊖ (var 0 ⊕ var 1) ⊕ var 1) (⊖ (var 0)) refl) (add-nonneg (negφ (x +φ y)) y p q)
+  forth p q = nonneg-by (solve φ-ring (x ∷ y ∷ []) (⊖ (var 0 ⊕ var 1) ⊕ var 1) (⊖ (var 0)) refl)
+      (add-nonneg (negφ (x +φ y)) y p q)
 
   neg-sum : NonNeg (negφ x) → NonNeg (negφ y) → NonNeg (negφ (x +φ y))
-  neg-sum p q = nonneg-by (solve φ-ring (x ∷ y ∷ []) (⊖ (var 0) ⊕ ⊖ (var 1)) (⊖ (var 0 ⊕ var 1)) refl) (add-nonneg (negφ x) (negφ y) p q)
+  neg-sum p q = nonneg-by (solve φ-ring (x ∷ y ∷ []) (⊖ (var 0) ⊕ ⊖ (var 1)) (⊖ (var 0 ⊕ var 1)) refl)
+      (add-nonneg (negφ x) (negφ y) p q)
 
   sgn-sum : Holds (sums (sgn x) (sgn y) (sgn (x +φ y)))
   sgn-sum = go (view x) (view y)
@@ -202,9 +208,11 @@ abbrev goes-on : (a b c x y z : ℕ) → Test
 goes-on a b c x y z = live x y z and (live (2 - x) b c and (live a (2 - y) c and live a b (2 - z)))
 
 abbrev fits : (a b c x y z : ℕ) → Test
-fits a b c x y z = agree a b c x y z then (live a b c then (most (children a b c x y z) (room a b c) and goes-on a b c x y z))
+fits a b c x y z = agree a b c x y z then
+    (live a b c then (most (children a b c x y z) (room a b c) and goes-on a b c x y z))
 
-fits-at : (a : ℕ) → a < 3 → (b : ℕ) → b < 3 → (c : ℕ) → c < 3 → (x : ℕ) → x < 3 → (y : ℕ) → y < 3 → (z : ℕ) → z < 3 → Holds (fits a b c x y z)
+fits-at : (a : ℕ) → a < 3 → (b : ℕ) → b < 3 → (c : ℕ) → c < 3 → (x : ℕ) → x < 3 → (y : ℕ) → y < 3 → (z : ℕ) → z < 3
+    → Holds (fits a b c x y z)
 fits-at = sound (below 3 λ a. below 3 λ b. below 3 λ c. below 3 λ x. below 3 λ y. below 3 λ z. fits a b c x y z) refl
 
 -- ---- one division
@@ -220,24 +228,31 @@ module _ (D : Determinants) where
   S = var 0 ⊕ var 1 ⊕ var 2
 
   pub sum-3 : Holds (sums (sgn (rest (D .d1))) (sgn (rest (D .d2))) (sgn (D .d3)))
-  sum-3 = rw (ap sgn (solve φ-ring env ((S ⊝ (var 0 ⊕ var 0)) ⊕ (S ⊝ (var 1 ⊕ var 1))) (var 2 ⊕ var 2) refl) ∙ sgn-twice (D .d3)) at (sgn-sum (rest (D .d1)) (rest (D .d2)))
+  sum-3 = rw (ap sgn (solve φ-ring env ((S ⊝ (var 0 ⊕ var 0)) ⊕ (S ⊝ (var 1 ⊕ var 1))) (var 2 ⊕ var 2) refl)
+      ∙ sgn-twice (D .d3)) at (sgn-sum (rest (D .d1)) (rest (D .d2)))
 
   pub sum-1 : Holds (sums (sgn (rest (D .d2))) (sgn (rest (D .d3))) (sgn (D .d1)))
-  sum-1 = rw (ap sgn (solve φ-ring env ((S ⊝ (var 1 ⊕ var 1)) ⊕ (S ⊝ (var 2 ⊕ var 2))) (var 0 ⊕ var 0) refl) ∙ sgn-twice (D .d1)) at (sgn-sum (rest (D .d2)) (rest (D .d3)))
+  sum-1 = rw (ap sgn (solve φ-ring env ((S ⊝ (var 1 ⊕ var 1)) ⊕ (S ⊝ (var 2 ⊕ var 2))) (var 0 ⊕ var 0) refl)
+      ∙ sgn-twice (D .d1)) at (sgn-sum (rest (D .d2)) (rest (D .d3)))
 
   pub sum-2 : Holds (sums (sgn (rest (D .d3))) (sgn (rest (D .d1))) (sgn (D .d2)))
-  sum-2 = rw (ap sgn (solve φ-ring env ((S ⊝ (var 2 ⊕ var 2)) ⊕ (S ⊝ (var 0 ⊕ var 0))) (var 1 ⊕ var 1) refl) ∙ sgn-twice (D .d2)) at (sgn-sum (rest (D .d3)) (rest (D .d1)))
+  sum-2 = rw (ap sgn (solve φ-ring env ((S ⊝ (var 2 ⊕ var 2)) ⊕ (S ⊝ (var 0 ⊕ var 0))) (var 1 ⊕ var 1) refl)
+      ∙ sgn-twice (D .d2)) at (sgn-sum (rest (D .d3)) (rest (D .d1)))
 
   -- 2d - S is the negated S - 2d
   pub rest-turned : (d : Golden) → sgn (twice d -φ total D) ≡ 2 - sgn (rest d)
-  rest-turned d = ap sgn (solve φ-ring (total D ∷ d ∷ []) (var 1 ⊕ var 1 ⊝ var 0) (⊖ (var 0 ⊝ (var 1 ⊕ var 1))) refl) ∙ sgn-neg (rest d)
+  rest-turned d = ap sgn (solve φ-ring (total D ∷ d ∷ []) (var 1 ⊕ var 1 ⊝ var 0) (⊖ (var 0 ⊝ (var 1 ⊕ var 1))) refl)
+      ∙ sgn-neg (rest d)
 
   pub divided : Holds (live (sgn (D .d1)) (sgn (D .d2)) (sgn (D .d3)))
-      → Holds (most (children (sgn (D .d1)) (sgn (D .d2)) (sgn (D .d3)) (sgn (rest (D .d1))) (sgn (rest (D .d2))) (sgn (rest (D .d3)))) (room (sgn (D .d1)) (sgn (D .d2)) (sgn (D .d3)))
-      and goes-on (sgn (D .d1)) (sgn (D .d2)) (sgn (D .d3)) (sgn (rest (D .d1))) (sgn (rest (D .d2))) (sgn (rest (D .d3))))
+      → Holds (most (children (sgn (D .d1)) (sgn (D .d2)) (sgn (D .d3)) (sgn (rest (D .d1))) (sgn (rest (D .d2)))
+      (sgn (rest (D .d3)))) (room (sgn (D .d1)) (sgn (D .d2)) (sgn (D .d3)))
+      and goes-on (sgn (D .d1)) (sgn (D .d2)) (sgn (D .d3)) (sgn (rest (D .d1))) (sgn (rest (D .d2)))
+      (sgn (rest (D .d3))))
   divided l =
       fits-at (sgn (D .d1)) (sgn-small _) (sgn (D .d2)) (sgn-small _) (sgn (D .d3)) (sgn-small _)
-      (sgn (rest (D .d1))) (sgn-small _) (sgn (rest (D .d2))) (sgn-small _) (sgn (rest (D .d3))) (sgn-small _) (sum-3, (sum-1, sum-2)) l
+      (sgn (rest (D .d1))) (sgn-small _) (sgn (rest (D .d2))) (sgn-small _) (sgn (rest (D .d3))) (sgn-small _)
+      (sum-3, (sum-1, sum-2)) l
 
 -- ---- any degree
 
@@ -250,21 +265,27 @@ tested x e = rw e (go (nonNeg (negφ x)))
     go false = omega arith
 
 -- some room, where all are at least 0 and not all 0
-pub roomy : (a : ℕ) → a < 3 → (b : ℕ) → b < 3 → (c : ℕ) → c < 3 → Holds (most 1 a then (most 1 b then (most 1 c then (live a b c then most 1 (room a b c)))))
-roomy = sound (below 3 λ a. below 3 λ b. below 3 λ c. most 1 a then (most 1 b then (most 1 c then (live a b c then most 1 (room a b c))))) refl
+pub roomy : (a : ℕ) → a < 3 → (b : ℕ) → b < 3 → (c : ℕ) → c < 3 → Holds
+    (most 1 a then (most 1 b then (most 1 c then (live a b c then most 1 (room a b c)))))
+roomy = sound (below 3 λ a. below 3 λ b. below 3 λ c. most 1 a then
+    (most 1 b then (most 1 c then (live a b c then most 1 (room a b c))))) refl
 
-pub room-held : (D : Determinants) → holds D ≡ true → Holds (live (sgn (D .d1)) (sgn (D .d2)) (sgn (D .d3))) → 1 ≤ room (sgn (D .d1)) (sgn (D .d2)) (sgn (D .d3))
+pub room-held : (D : Determinants) → holds D ≡ true → Holds (live (sgn (D .d1)) (sgn (D .d2)) (sgn (D .d3)))
+    → 1 ≤ room (sgn (D .d1)) (sgn (D .d2)) (sgn (D .d3))
 unfolding holds
 room-held D e l = go (nonNeg (D .d1)) (nonNeg (D .d2)) (nonNeg (D .d3)) refl refl refl e
   where
-    go : (p q r : Bool) → nonNeg (D .d1) ≡ p → nonNeg (D .d2) ≡ q → nonNeg (D .d3) ≡ r → (p && (q && r)) ≡ true → 1 ≤ room (sgn (D .d1)) (sgn (D .d2)) (sgn (D .d3))
-    go true true true f g h e = roomy _ (sgn-small (D .d1)) _ (sgn-small (D .d2)) _ (sgn-small (D .d3)) (tested (D .d1) f) (tested (D .d2) g) (tested (D .d3) h) l
+    go : (p q r : Bool) → nonNeg (D .d1) ≡ p → nonNeg (D .d2) ≡ q → nonNeg (D .d3) ≡ r → (p && (q && r)) ≡ true
+        → 1 ≤ room (sgn (D .d1)) (sgn (D .d2)) (sgn (D .d3))
+    go true true true f g h e = roomy _ (sgn-small (D .d1)) _ (sgn-small (D .d2)) _ (sgn-small (D .d3))
+        (tested (D .d1) f) (tested (D .d2) g) (tested (D .d3) h) l
     go true true false f g h e = let z : _≡_ {A = ℕ} 0 1 = cc in absurd (omega arith)
     go true false r f g h e = let z : _≡_ {A = ℕ} 0 1 = cc in absurd (omega arith)
     go false q r f g h e = let z : _≡_ {A = ℕ} 0 1 = cc in absurd (omega arith)
 
 abbrev Few : (n : ℕ) → Type 0
-Few n = (D : Determinants) (v a b c : ℕ) → sgn (D .d1) ≡ a → sgn (D .d2) ≡ b → sgn (D .d3) ≡ c → Holds (live a b c) → length (holders n D v) ≤ room a b c
+Few n = (D : Determinants) (v a b c : ℕ) → sgn (D .d1) ≡ a → sgn (D .d2) ≡ b → sgn (D .d3) ≡ c → Holds (live a b c)
+    → length (holders n D v) ≤ room a b c
 
 few-now : Few 0
 unfolding holders
@@ -287,18 +308,25 @@ four-lengths a b c d = omega (arith, lengths (a ++ b ++ c) d, lengths (a ++ b) c
 -- the holders below, child by child
 pub holders-split : (n : ℕ) (D : Determinants) (v : ℕ)
     → length (holders (suc n) D v)
-    ≡ length (holders n (childDets 0 D) (4 * v)) + (length (holders n (childDets 1 D) (4 * v + 1)) + (length (holders n (childDets 2 D) (4 * v + 2)) + length (holders n (childDets 3 D) (4 * v + 3))))
+    ≡ length (holders n (childDets 0 D) (4 * v)) +
+    (length (holders n (childDets 1 D) (4 * v + 1)) +
+    (length (holders n (childDets 2 D) (4 * v + 2)) + length (holders n (childDets 3 D) (4 * v + 3))))
 unfolding holders
-holders-split n D v = four-lengths (holders n (childDets 0 D) (4 * v)) (holders n (childDets 1 D) (4 * v + 1)) (holders n (childDets 2 D) (4 * v + 2)) (holders n (childDets 3 D) (4 * v + 3))
+holders-split n D v = four-lengths (holders n (childDets 0 D) (4 * v)) (holders n (childDets 1 D) (4 * v + 1))
+    (holders n (childDets 2 D) (4 * v + 2)) (holders n (childDets 3 D) (4 * v + 3))
 
-few-below : (n : ℕ) → Few n → (D : Determinants) (v : ℕ) → Holds (live (sgn (D .d1)) (sgn (D .d2)) (sgn (D .d3))) → length (holders (suc n) D v) ≤ room (sgn (D .d1)) (sgn (D .d2)) (sgn (D .d3))
+few-below : (n : ℕ) → Few n → (D : Determinants) (v : ℕ) → Holds (live (sgn (D .d1)) (sgn (D .d2)) (sgn (D .d3)))
+    → length (holders (suc n) D v) ≤ room (sgn (D .d1)) (sgn (D .d2)) (sgn (D .d3))
 few-below n few D v l =
     let r = divided D l in
     let w = r .1 in
     let c0 = few (childDets 0 D) (4 * v) _ _ _ refl refl refl (w .0) in
-    let c1 = few (childDets 1 D) (4 * v + 1) _ _ _ (rest-turned D (D .d1)) (sgn-twice (D .d2)) (sgn-twice (D .d3)) (w .1 .0) in
-    let c2 = few (childDets 2 D) (4 * v + 2) _ _ _ (sgn-twice (D .d1)) (rest-turned D (D .d2)) (sgn-twice (D .d3)) (w .1 .1 .0) in
-    let c3 = few (childDets 3 D) (4 * v + 3) _ _ _ (sgn-twice (D .d1)) (sgn-twice (D .d2)) (rest-turned D (D .d3)) (w .1 .1 .1) in
+    let c1 = few (childDets 1 D) (4 * v + 1) _ _ _ (rest-turned D (D .d1)) (sgn-twice (D .d2)) (sgn-twice (D .d3))
+    (w .1 .0) in
+    let c2 = few (childDets 2 D) (4 * v + 2) _ _ _ (sgn-twice (D .d1)) (rest-turned D (D .d2)) (sgn-twice (D .d3))
+    (w .1 .1 .0) in
+    let c3 = few (childDets 3 D) (4 * v + 3) _ _ _ (sgn-twice (D .d1)) (sgn-twice (D .d2)) (rest-turned D (D .d3))
+    (w .1 .1 .1) in
     omega (arith, holders-split n D v, r .0, c0, c1, c2, c3)
 
 few : (n : ℕ) → Few n
@@ -306,6 +334,7 @@ few zero = few-now
 few (suc n) = λ D v a b c e f g l. rw (← e, ← f, ← g) (few-below n (few n) D v (rw (e, f, g) l))
 
 -- at every degree at most 6, 3 or 1 triangles below hold
-pub count-weight : (n : ℕ) (D : Determinants) (v : ℕ) → Holds (live (sgn (D .d1)) (sgn (D .d2)) (sgn (D .d3))) → length (holders n D v) ≤ weight D
+pub count-weight : (n : ℕ) (D : Determinants) (v : ℕ) → Holds (live (sgn (D .d1)) (sgn (D .d2)) (sgn (D .d3)))
+    → length (holders n D v) ≤ weight D
 unfolding weight
 count-weight n D v l = few n D v _ _ _ refl refl refl l

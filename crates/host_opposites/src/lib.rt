@@ -10,7 +10,7 @@ ghost use Rattle.net.specs.Corners.{nameOf};
 ghost use Rattle.exports.specs.Promises.{Delivered};
 ghost use Rattle.host_opposites.specs.Answers.{OppositeBytes, OppositeNameBytes};
 
-// Hands a call's refusal on; else 9, or its word in eight bytes.
+// Hands a call's refusal on; else 9, where there are fewer than eight bytes; else its word, in eight.
 fn hand_on(refusal: u64, word: u64, out: &mut [u8]) -> u64
     ensures { λ r. ⌜ Delivered refusal (bytes 8 (word ∷ [])) 8 (now (out .entry)) r (now (out .exit)) ⌝ }
 {

@@ -1,5 +1,5 @@
-// How the lists of counts and of sums of a table of soundings are written (document 02, 2026-08). What they are to hold is
-// defined in the crate coarse, below, what is refused of them is in refusing_sums, and the calls are in soundings.
+// How the lists of counts and of sums of a table of soundings are written (document 02, 2026-08). What they are to hold
+// is defined in the crate coarse, below, what is refused of them is in refusing_sums, and the calls are in soundings.
 use words::TriangleCode;
 ghost use mathlib.Core.Path.{_≡_};
 ghost use Prim.Native.Nat.{_+_, _*_, _<_, _≤_};
@@ -38,7 +38,7 @@ pub fn keep(degree: u64, t: TriangleCode, list: &[i32], counts: &mut [u64], sums
     if degree == 0 {
         return;
     }
-    store(refusing_sums::parent_place(t), list, counts, sums);
+    store(ordering::parent_place(t), list, counts, sums);
 }
 
 // For every triangle one degree up, in one pass.

@@ -79,8 +79,7 @@ opposite-any {n} {t} {u} c d h =
     subst (λ (v : TriangleCode). IsOpposite n t v)
     (sym (codes-differ n u (oppositeOf t) d (o .code) (λ j l.
     let x = h j l in
-    let k = exchanged-three (x .0) (x .1) in
-    (
+    let k = exchanged-three (x .0) (x .1) in (
       exchanged (x .0),
       k,
       same-place (o .code) d (exchanged (x .0)) j k l .0 (o .negates (x .0) (x .1) ∙ sym (x .2)),
@@ -155,7 +154,8 @@ module _ {n : ℕ} {t u t′ u′ : TriangleCode} (c : IsCode n t) (o : IsOpposi
       (λ k. Turned t k u i j → Turned t′ (exchanged k) u′ (exchanged (nth k j i i)) (exchanged (nth k i j j)))
       (λ x. record { lowerIs = becomes 3 (omega arith) (x .higherIs); higherIs = becomes 2 (omega arith) (x .lowerIs) })
       (λ x. record { lowerIs = becomes 1 (omega arith) (x .lowerIs); higherIs = becomes 3 (omega arith) (x .higherIs) })
-      (λ x. record { lowerIs = becomes 1 (omega arith) (x .lowerIs); higherIs = becomes 2 (omega arith) (x .higherIs) }) k l x
+      (λ x. record { lowerIs = becomes 1 (omega arith) (x .lowerIs); higherIs = becomes 2 (omega arith) (x .higherIs) })
+      k l x
     where
       becomes : (m : ℕ) {h : ℕ} → OneToThree m → Becomes t m u h → Becomes t′ (exchanged m) u′ (exchanged h)
       becomes m {h} a b = (exchanged-three h (b .0), shared o p m h a (b .0) (b .1))

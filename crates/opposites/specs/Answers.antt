@@ -1,5 +1,5 @@
--- Document 02, 2026-12: the complete answer of the two calls, for every input: what the contracts cite. A code is
--- refused as checking it does, and so is a name. Assumes nothing.
+-- Document 02, 2026-12: the complete answer of the two calls, for every input: what the contracts cite. A code, or a
+-- name, is refused just as checking refuses it. Assumes nothing.
 use mathlib.Core.Path.{_≡_}
 use Rattle.frame.specs.Answers.{Answer}
 use Rattle.words.specs.Words.{degreeOf}

@@ -42,7 +42,7 @@ pub record Examples : Type 0 where
 pub record Mistakes : Type 0 where
   -- answers the triangle itself
   pub itself : OppositeAnswer (written 100) (codeAnswer 0 (written 100)) → ⊥
-  -- goes three sides on, or a11 for a10
+  -- takes a+3 for a+2, or a11 for a10
   pub three-on : OppositeAnswer (written 100) (codeAnswer 0 (written 410)) → ⊥
   pub other-row : OppositeAnswer (written 100) (codeAnswer 0 (written 311)) → ⊥
   -- keeps the digits, or exchanges 1 and 3, or drops them

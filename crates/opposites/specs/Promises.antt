@@ -88,7 +88,8 @@ pub record Names : Type 0 where
       → (checkName (r .name) ≡ 0) × (degreeOf (r .name .0) ≡ degreeOf (q .0))
   pub negates : (q : CornerName) (r : NameAnswer) → OppositeNameAnswer q r → r .refusal ≡ 0
       → exact (named (r .name)) ≡ negated (exact (named q))
-  -- of each corner of each triangle: its name has an opposite, which names the exchanged corner of the opposite triangle
+  -- of each corner of each triangle: its name has an opposite, which names the exchanged corner of the opposite
+  -- triangle
   pub corners : (n : ℕ) (t t′ : TriangleCode) (i : ℕ) → IsCode n t → OneToThree i → IsOpposite n t t′
       → (q : CornerName) × (r : NameAnswer) × IsName n (corner t i) q × OppositeNameAnswer q r
       × (r .refusal ≡ 0) × IsName n (corner t′ (exchanged i)) (r .name)

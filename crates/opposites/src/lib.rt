@@ -19,7 +19,7 @@ struct Numbered {
     number: u64,
 }
 
-// The side that lies opposite: those that are ten apart, of the twenty from 4 to 23.
+// Opposite sides are ten apart, of the twenty from 4 to 23.
 fn opposite_side(s: u64) -> u64
     requires { ⌜ IsSide s ⌝ }
     ensures { λ r. ⌜ r ≡ oppositeSide s ⌝ }
@@ -31,7 +31,7 @@ fn opposite_side(s: u64) -> u64
 }
 
 impl Numbered {
-    // The same on the other side of the globe: 1 is kept, and 2 and 3 are exchanged, in the digits and in the number.
+    // The same, opposite on the globe: 1 is kept, and 2 and 3 are exchanged, in the digits and in the number.
     fn opposite(self) -> Numbered
         requires { ⌜ (checkCode (self .code) ≡ 0) × OneToThree (self .number) ⌝ }
         ensures { λ r. ⌜ (r .code ≡ oppositeOf (self .code)) × (r .number ≡ exchanged (self .number)) ⌝ }
@@ -57,6 +57,7 @@ pub fn opposite(t: TriangleCode) -> CodeAnswer
             code: TriangleCode(0),
         };
     }
+    // The code alone is asked for; any number would do.
     let here = Numbered { code: t, number: 1 };
     let there = here.opposite();
     let code = there.code;

@@ -1,8 +1,10 @@
-// The codes of a degree in rising order: how many there are, the place of one, and the one at a place.
+// The codes of a degree in rising order: how many there are, the place of one and of its parent, the one at a place.
 use words::TriangleCode;
 ghost use mathlib.Core.Path.{_≡_};
 ghost use Prim.Native.Nat.{_*_, _^_, _<_, _≤_};
+ghost use Rattle.words.specs.Words.{degreeOf};
 ghost use Rattle.words.specs.Refusals.{checkCode};
+ghost use Rattle.words.specs.Family.{parentOf};
 ghost use Rattle.words.specs.Counting.{codeAt, placeOf};
 
 // How many there are.
@@ -21,6 +23,14 @@ pub fn place_of(t: TriangleCode) -> u64
     let w = t.0;
     let n = words::degree_of(w);
     (words::side_of(w) - 4) * words::power(2 * n) + words::path_of(w, n)
+}
+
+// The place of a triangle's parent.
+pub fn parent_place(t: TriangleCode) -> usize
+    requires { ⌜ (checkCode t ≡ 0) × (1 ≤ degreeOf (t .0)) ⌝ }
+    ensures { λ r. ⌜ r ≡ placeOf (parentOf t) ⌝ }
+{
+    place_of(t) as usize / 4
 }
 
 // The code that has a place.

@@ -1,14 +1,12 @@
-// What is refused of the lists of counts and of sums of a table of soundings (document 02, 2026-08): 28 and 29. What they
-// are to hold is defined in the crate coarse, below; how they are written is in keeping, and the calls are in soundings.
+// What is refused of the lists of counts and of sums of a table of soundings (document 02, 2026-08): 28 and 29. What
+// they are to hold is defined in the crate coarse, below; how they are written is in keeping, the calls are in
+// soundings.
 use words::TriangleCode;
 ghost use mathlib.Core.Path.{_≡_};
 ghost use Prim.Native.Nat.{_≤_};
 ghost use lib.ListN.{length};
 ghost use Rattle.frame.specs.Refusals.{firstOf};
-ghost use Rattle.words.specs.Words.{degreeOf};
-ghost use Rattle.words.specs.Refusals.{checkCode, IsCode};
-ghost use Rattle.words.specs.Family.{parentOf};
-ghost use Rattle.words.specs.Counting.{placeOf};
+ghost use Rattle.words.specs.Refusals.{IsCode};
 ghost use Rattle.tables.specs.Tables.{places};
 ghost use Rattle.coarse.specs.Sums.{parents, coarse};
 ghost use Rattle.coarse.specs.Refusals.{sumOrder, lengthRows, coarseRows};
@@ -41,14 +39,6 @@ pub fn refuse_lengths(degree: u64, counts: &[u64], sums: &[u64]) -> u64
     0
 }
 
-// The place of a triangle's parent.
-pub fn parent_place(t: TriangleCode) -> usize
-    requires { ⌜ (checkCode t ≡ 0) × (1 ≤ degreeOf (t .0)) ⌝ }
-    ensures { λ r. ⌜ r ≡ placeOf (parentOf t) ⌝ }
-{
-    ordering::place_of(t) as usize / 4
-}
-
 // 28 and 29: of the lengths, and of what is stored for the triangle's parent.
 pub fn refuse_coarse(
     degree: u64,
@@ -70,7 +60,7 @@ pub fn refuse_coarse(
     if degree == 0 {
         return 0;
     }
-    let p = parent_place(t);
+    let p = ordering::parent_place(t);
     let right = coarse::tally_from(list, 4 * p);
     if counts[p] != right.count {
         return 29;

@@ -1,5 +1,5 @@
-// What the lists of a table of soundings hold that they may not (document 02, 2026-03 and 2026-07), found by going through
-// them. Which numbers these are is in the crate meanings, below; what is refused then is in refusing.
+// What the lists of a table of soundings hold that they may not (document 02, 2026-03 and 2026-07), found by going
+// through them. Which numbers these are is in the crate meanings, below; what is refused then is in refusing.
 use meanings::is_bad;
 use meanings::is_other;
 ghost use mathlib.Core.Path.{_≡_};

@@ -2,14 +2,15 @@
 -- nothing.
 use mathlib.Core.Path.{_≡_, _∙_, sym, ap}
 use mathlib.Core.List.{_∷_}
-use Prim.Native.Nat.{ℕ, suc, _+_, _-_, _*_, _^_, _≤_, _<_}
+use Prim.Native.Nat.{ℕ, zero, suc, _+_, _-_, _*_, _/_, _^_, _≤_, _<_}
 use native.Mathlib.Nat.{mul-assoc, pow-suc}
 use native.Mathlib.Omega.{arith}
 use Rattle.words.specs.Words.{degreeOf, digitOf, digits, sideOf, path}
-use Rattle.words.specs.Refusals.{IsCode}
+use Rattle.words.specs.Refusals.{IsCode, checkCode}
 use Rattle.words.specs.Family.{refuseParent, refuseChild, parentOf, childOf}
 use Rattle.words.specs.Counting.{placeOf}
 use Rattle.words.specs.declared.TriangleCode.{TriangleCode}
+use Rattle.words.proofs.Codes.{is-code, code-degree}
 use Rattle.words.proofs.CodeCount.{place-is}
 use Rattle.words.proofs.ParentChild.{child-passes, child-has, parent-passes, parent-has, parent-then-child}
 
@@ -54,3 +55,12 @@ up {n} {t} c l =
     let b = parent-then-child t z in
     let s : d ≤ 3 = child-passes (parentOf t) d .0 (b .0) .1 in
     record { digit = d; small = s; code = p; place = ap placeOf (sym (b .1)) ∙ child-place p l d s }
+
+-- the place of the parent, by that of the triangle
+pub parent-place : (t : TriangleCode) {k : ℕ} → checkCode t ≡ 0 → 1 ≤ degreeOf (t .0) → k ≡ placeOf t
+    → k / 4 ≡ placeOf (parentOf t)
+parent-place t {k} z l w = go (degreeOf (t .0)) (is-code t z) l
+  where
+    go : (n : ℕ) → IsCode n t → 1 ≤ n → k / 4 ≡ placeOf (parentOf t)
+    go zero c l = absurd (omega (arith, l))
+    go (suc n) c l = let u = up c (omega (arith, code-degree c)) in omega (arith, w, u .place, u .small)

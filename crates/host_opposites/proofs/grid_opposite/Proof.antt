@@ -14,7 +14,9 @@ same-length : tie.Need-same-length
 same-length c = search needs
 
 returns : tie.Need-returns
-returns c = let h = c .before .before in code-handed _ _ (h .before .before .opposite .ensures) (h .hand-on .ensures)
+returns c =
+    let h = c .before .before in
+    code-handed _ _ (h .before .before .opposite .ensures) (h .hand-on .ensures)
 
 pub grid-opposite-spec : {M : Type 1} → statement M
 grid-opposite-spec = tie.close (tie.spec opposite-requires hand-on-requires same-length returns)

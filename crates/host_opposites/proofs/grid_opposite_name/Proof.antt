@@ -14,7 +14,9 @@ same-length : tie.Need-same-length
 same-length c = search needs
 
 returns : tie.Need-returns
-returns c = let h = c .before .before in name-handed _ _ (h .before .before .opposite-name .ensures) (h .hand-on .ensures)
+returns c =
+    let h = c .before .before in
+    name-handed _ _ (h .before .before .opposite-name .ensures) (h .hand-on .ensures)
 
 pub grid-opposite-name-spec : {M : Type 1} → statement M
 grid-opposite-name-spec = tie.close (tie.spec opposite-name-requires hand-on-requires same-length returns)

@@ -1,4 +1,4 @@
--- `net::steps::renumbered` meets its contract: the word renumbered, and its side exchanged (WordSteps). Assumes nothing.
+-- `net::steps::renumbered` meets its contract: the word renumbered, on the other side (WordSteps). Assumes nothing.
 use mathlib.Core.Path.{_∙_}
 use native.Mathlib.Omega.{arith}
 use Prim.Native.Nat.{_+_, _*_, _%_, _^_, _<_}

@@ -1,8 +1,8 @@
--- A quarter of the triangle's own (Children). Assumes nothing.
-use Rattle.coarse.proofs.Children.{parent-place}
+-- A quarter of the triangle's own (ChildPlaces). Assumes nothing.
+use Rattle.words.proofs.ChildPlaces.{parent-place}
 use borrow.Author.Needs.{needs}
-use Rattle.refusing_sums.proofs.parent_place.Statement.{statement}
-use Rattle.refusing_sums.proofs.parent_place.Tie as tie
+use Rattle.ordering.proofs.parent_place.Statement.{statement}
+use Rattle.ordering.proofs.parent_place.Tie as tie
 
 place-of-requires : tie.Need-place-of-requires
 place-of-requires c κs = search needs

@@ -1,5 +1,5 @@
--- Different codes are different triangles, and different edges have different ends; every edge of every triangle is one of those that are counted.
--- Assumes nothing.
+-- Different edges have different ends, and every edge of every triangle is one of those that are counted. Assumes
+-- nothing.
 use mathlib.Core.Path.{_≡_, _∙_, refl, sym, ap, subst}
 use mathlib.Core.Logic.{inl, inr, ⊎-elim}
 use Prim.Native.Nat.{ℕ, _<_}
@@ -7,11 +7,11 @@ use native.Mathlib.Omega.{arith}
 use Rattle.words.specs.Family.{codeOf}
 use Rattle.words.specs.Refusals.{IsCode}
 use Rattle.words.specs.declared.TriangleCode.{TriangleCode}
-use Rattle.net.specs.Corners.{HasCorner, corner}
+use Rattle.net.specs.Corners.{corner}
 use Rattle.net.specs.Division.{Weights}
 use Rattle.net.specs.Sides.{OneToThree}
 use Rattle.net.specs.Steps.{Across, SameTwo}
-use Rattle.net.proofs.Crossing.{across-back, across-differ, across-is, across-just, across-only, codeAcross, corner-one, edgeAcross, ends-only}
+use Rattle.net.proofs.Crossing.{across-back, across-differ, across-is, across-only, codeAcross, corner-one, edgeAcross}
 use Rattle.net.proofs.Demand3.{back-again}
 use Rattle.net.proofs.Table.{either-way, less, same}
 use Rattle.grid.specs.Counts.{Edge, IsEdge, SameEnds, edge}
@@ -21,14 +21,6 @@ use Rattle.grid.specs.Counts.{Edge, IsEdge, SameEnds, edge}
 -- the three corners of a triangle are different
 pub corners-differ : (n : ℕ) (t : TriangleCode) → IsCode n t → (i j : ℕ) → OneToThree i → OneToThree j → corner t i ≡ corner t j → i ≡ j
 corners-differ n t c i j l m e = corner-one c l m e
-
--- a code whose triangle has every corner of another's is that other: different codes are different triangles
-pub codes-differ : (n : ℕ) (v w : TriangleCode) → IsCode n v → IsCode n w → ((i : ℕ) → OneToThree i → HasCorner w (corner v i)) → v ≡ w
-codes-differ n v w c d h =
-    let l : OneToThree 1 = omega arith in
-    ⊎-elim (λ e. sym e)
-    (λ e. absurd (across-just c 1 l (across-is c 1 l) 1 l .0 (subst (λ (u : TriangleCode). HasCorner u (corner v 1)) e (h 1 l)) refl))
-    (ends-only c 1 l w d (h 2 (omega arith)) (h 3 (omega arith)))
 
 -- codes are the same where their words are
 pub same-word : {t u : TriangleCode} → t .0 ≡ u .0 → t ≡ u

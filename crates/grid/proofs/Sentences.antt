@@ -40,6 +40,7 @@ use Rattle.net.specs.Corners.{corner, named}
 use Rattle.net.specs.Names.{IsName}
 use Rattle.net.specs.Refusals.{checkName, onOneSide}
 use Rattle.net.specs.Steps.{IsRing, IsWhole, SameTwo, Turn}
+use Rattle.net.proofs.Crossing.{codes-differ}
 use Rattle.net.proofs.Canonical.{and-true, name-means}
 use Rattle.net.proofs.Demand3.{add-up, one-ring}
 use Rattle.net.proofs.RingCodes.{ring-whole}
@@ -75,7 +76,7 @@ use Rattle.filing.specs.Filing.{AreHolders}
 use Rattle.grid.specs.Counts.{IsCorner}
 use Rattle.grid.specs.Sentences.{AllBelow, ManyDigits, Onward, SameVertices, Sentences, Spans, TurnsInSpace}
 use Rattle.grid.proofs.Counted.{counted, side-corner, units-differ}
-use Rattle.grid.proofs.Differing.{codes-differ, corners-differ, edge-there, edges-differ}
+use Rattle.grid.proofs.Differing.{corners-differ, edge-there, edges-differ}
 use Rattle.grid.proofs.Middles.{ends-apart}
 use Rattle.grid.proofs.Nearest.{name-corner}
 

@@ -198,3 +198,14 @@ pub across-differ : {n : ℕ} {t t′ t″ : TriangleCode} {k k′ m m′ : ℕ}
 across-differ {n} {t} {t′} {t″} {k} {k′} {m} c l h f a b e =
     across-just c k l a k l .0
     (subst (λ (u : TriangleCode). HasCorner u (corner t k)) (sym e) (across-just c m h b k l .1 f)) refl
+
+-- a code whose triangle has every corner of another's is that other: different codes are different triangles
+pub codes-differ : (n : ℕ) (v w : TriangleCode) → IsCode n v → IsCode n w
+    → ((i : ℕ) → OneToThree i → HasCorner w (corner v i)) → v ≡ w
+codes-differ n v w c d h =
+    let l : OneToThree 1 = omega arith in
+    ⊎-elim (λ e. sym e)
+    (λ e. absurd
+    (across-just c 1 l (across-is c 1 l) 1 l .0
+    (subst (λ (u : TriangleCode). HasCorner u (corner v 1)) e (h 1 l)) refl))
+    (ends-only c 1 l w d (h 2 (omega arith)) (h 3 (omega arith)))

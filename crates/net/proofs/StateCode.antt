@@ -250,12 +250,28 @@ lies-on s v (x ∷ xs) l =
     rest : Lies s (suc v) xs
     rest i h f = let z : v + suc i ≡ suc v + i = omega arith in rw z at (l (suc i) (omega arith) f)
 
-pub on-side : (s : ℕ) (p : Point) → IsSide s → onSide s 0 (spread s p) ≡ true
-on-side s p h =
-    lies-on s 0 (spread s p) (λ v l f.
+-- a point's weights lie on each side that has the vertices at which it has weight
+pub on-too : (s t : ℕ) (p : Point) → IsSide s
+    → ((i : ℕ) → OneToThree i → 1 ≤ weight i p → HasVertex t (cornerVertex s i)) → onSide t 0 (spread s p) ≡ true
+on-too s t p h has =
+    lies-on t 0 (spread s p) (λ v l f.
     let z : 0 + v ≡ v = omega arith in
     let k : v < 12 = omega (arith, spread-length s p) in
-    rw z (⊎-elim (λ y. y) (λ g. absurd (f (at-vertex s p v k ∙ weight-other s v p g))) (has-or-not s v)))
+    rw z (⊎-elim (at v k f) (λ g. absurd (f (at-vertex s p v k ∙ weight-other s v p g))) (has-or-not s v)))
+  where
+    at : (v : ℕ) → v < 12 → (getD (spread s p) v 0 ≡ 0 → ⊥) → HasVertex s v → HasVertex t v
+    at v k f = ⊎-elim (on 1 (omega arith)) (⊎-elim (on 2 (omega arith)) (on 3 (omega arith)))
+      where
+        on : (i : ℕ) → OneToThree i → v ≡ cornerVertex s i → HasVertex t v
+        on i l e =
+            let w : getD (spread s p) v 0 ≡ weight i p =
+            at-vertex s p v k ∙ ap (weightAt s p) e ∙ weight-own s p h i l in
+            rw e (has i l (omega (arith, w, f)))
+
+-- so on its own
+pub on-side : (s : ℕ) (p : Point) → IsSide s → onSide s 0 (spread s p) ≡ true
+on-side s p h =
+    on-too s s p h (λ i l w. three (λ i. HasVertex s (cornerVertex s i)) (inl refl) (inr (inl refl)) (inr (inr refl)) i l)
 
 -- the point that twelve weights are on the side s has their weights at its corners, and elsewhere none
 module _ (s : ℕ) (P : List ℕ) (h : IsSide s) where

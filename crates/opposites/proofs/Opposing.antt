@@ -12,6 +12,7 @@ use Rattle.net.specs.Division.{Weights}
 use Rattle.net.specs.Corners.{corner}
 use Rattle.net.specs.Steps.{Across}
 use Rattle.net.specs.Means.Seams.{flip}
+use Rattle.net.proofs.Crossing.{codes-differ}
 use Rattle.net.proofs.Table.{three}
 use Rattle.net.proofs.Flips.{flip-three}
 use Rattle.net.proofs.Stepping.{next-three, prev-three}
@@ -23,7 +24,6 @@ use Rattle.filing.proofs.OnePoint.{same-place}
 use Rattle.filing.proofs.OppositeCorners.{opposite-code, opposite-exact}
 use Rattle.filing.proofs.Parts.{coordinates-path}
 use Rattle.corners.specs.Turns.{Becomes, Turned}
-use Rattle.grid.proofs.Differing.{codes-differ}
 use Rattle.opposites.specs.Opposites.{exchanged, IsOpposite}
 
 -- ---- exchanged numbers

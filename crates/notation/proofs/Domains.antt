@@ -1,0 +1,228 @@
+-- The paper's domains are our triangles: (16) to (19) are our sides, (24) to (27) our division. So each domain's code
+-- has one of our codes, and the other way round. Assumes nothing.
+use mathlib.Core.Path.{_≡_, _∙_, refl, sym, ap, subst}
+use mathlib.Core.Bool.{true, false, _&&_}
+use mathlib.Core.List.{List, [], _∷_, _++_, append-nil}
+use Prim.Native.Nat.{ℕ, zero, suc, _+_, _/_, _%_, _≤_}
+use native.Mathlib.Omega.{arith}
+use lib.Dec.{leb}
+use lib.ListN.{length}
+use borrow.Author.Tests.{le-leb, leb-true}
+use Rattle.words.specs.Words.{side, sideOf, degreeOf}
+use Rattle.words.specs.Refusals.{IsCode}
+use Rattle.words.specs.declared.TriangleCode.{TriangleCode}
+use Rattle.words.proofs.Digits.{AreDigits, none, more}
+use Rattle.net.specs.Sides.{IsSide, cornerVertex, sideCorner}
+use Rattle.net.specs.Division.{Triangle, triangle, divide, triangleAt, cornerOf, unitAt}
+use Rattle.net.specs.Corners.{HasCorner, corner, triangleOf}
+use Rattle.net.proofs.Canonical.{and-true}
+use Rattle.net.proofs.CodePlaces.{codeFor, digitsIn, for-code, for-corner, for-digits, for-side}
+use Rattle.net.proofs.Crossing.{codes-differ}
+use Rattle.net.proofs.Paths.{are-digits, are-length}
+use Rattle.net.proofs.Table.{three}
+use Rattle.notation.specs.Domains.{isA, isBit, areDigits, isDomain, firstDomain, parted, partedBy, domain}
+use Rattle.notation.specs.Same.{SameDomain}
+use Rattle.notation.specs.Means.Reading.{onto, reversed}
+
+-- ---- the formulae
+
+-- (24) to (27) are document 01's division
+pub parted-is : (r : ℕ) (d : Triangle) → parted r d ≡ divide r d
+parted-is zero d = refl
+parted-is (suc zero) d = refl
+parted-is (suc (suc zero)) d = refl
+parted-is (suc (suc (suc r))) d = refl
+
+-- (16) to (19) are document 01's sides
+at-corners : (a p q : ℕ) → firstDomain a p q
+    ≡ triangle (unitAt (sideCorner p q a 1)) (unitAt (sideCorner p q a 2)) (unitAt (sideCorner p q a 3))
+at-corners a zero zero = refl
+at-corners a zero (suc q) = refl
+at-corners a (suc p) zero = refl
+at-corners a (suc p) (suc q) = refl
+
+pub first-is : (a p q : ℕ) → p ≤ 1 → q ≤ 1 → firstDomain a p q ≡ triangleAt (side a p q) []
+unfolding triangleAt cornerVertex
+first-is a p q h k =
+    let e : p ≡ side a p q / 2 % 2 = omega arith in
+    let f : q ≡ side a p q % 2 = omega arith in
+    let g : a ≡ side a p q / 4 = omega arith in
+    at-corners a p q
+    ∙ (λ i. triangle (unitAt (sideCorner (e i) (f i) (g i) 1)) (unitAt (sideCorner (e i) (f i) (g i) 2))
+    (unitAt (sideCorner (e i) (f i) (g i) 3)))
+
+-- ---- digits, the first first and the last first
+
+parted-by : (s : ℕ) (rs ds : List ℕ) → partedBy rs (triangleAt s ds) ≡ triangleAt s (onto rs ds)
+unfolding partedBy triangleAt
+parted-by s [] ds = refl
+parted-by s (r ∷ rs) ds = ap (partedBy rs) (parted-is r (triangleAt s ds)) ∙ parted-by s rs (r ∷ ds)
+
+pub onto-digits : (rs : List ℕ) {n : ℕ} {ds : List ℕ} → areDigits rs ≡ true → AreDigits n ds
+    → AreDigits (length rs + n) (onto rs ds)
+onto-digits [] {n} {ds} h a = let e : n ≡ 0 + n = omega arith in subst (λ (m : ℕ). AreDigits m ds) e a
+onto-digits (r ∷ rs) {n} {ds} h a =
+    let x = and-true (leb r 3) (areDigits rs) .0 h in
+    let e : length rs + suc n ≡ suc (length rs) + n = omega arith in
+    subst (λ (m : ℕ). AreDigits m (onto rs (r ∷ ds))) e (onto-digits rs (x .1) (more (leb-true r 3 (x .0)) a))
+
+pub onto-one : (rs ss : List ℕ) {ds es : List ℕ} → length rs ≡ length ss → onto rs ds ≡ onto ss es
+    → (rs ≡ ss) × (ds ≡ es)
+onto-one [] [] l e = (refl, e)
+onto-one [] (s ∷ ss) l e = absurd (omega arith)
+onto-one (r ∷ rs) [] l e = absurd (omega arith)
+onto-one (r ∷ rs) (s ∷ ss) {ds} {es} l e =
+    let x = onto-one rs ss {ds = r ∷ ds} {es = s ∷ es} (omega arith) e in
+    let y : r ∷ ds ≡ s ∷ es = x .1 in
+    let f : r ≡ s = cc in
+    let g : ds ≡ es = cc in
+    ((λ i. f i ∷ x .0 i), g)
+
+pub are-onto : {n : ℕ} {ds : List ℕ} (es : List ℕ) → AreDigits n ds → areDigits es ≡ true
+    → areDigits (onto ds es) ≡ true
+are-onto es none h = h
+are-onto es (more {d = d} l a) h = are-onto (d ∷ es) a (and-true (leb d 3) (areDigits es) .1 (le-leb d 3 l, h))
+
+onto-onto : (ds es fs : List ℕ) → onto (onto ds es) fs ≡ onto es (ds ++ fs)
+onto-onto [] es fs = refl
+onto-onto (d ∷ ds) es fs = onto-onto ds (d ∷ es) fs
+
+pub reversed-twice : (ds : List ℕ) → reversed (reversed ds) ≡ ds
+reversed-twice ds = onto-onto ds [] [] ∙ append-nil ds
+
+-- ---- a code of the paper, read
+
+pub record Read (xs : List ℕ) : Type 0 where
+  pub a : ℕ
+  pub p : ℕ
+  pub q : ℕ
+  pub rs : List ℕ
+  pub is : xs ≡ a ∷ p ∷ q ∷ rs
+  pub a-low : 1 ≤ a
+  pub a-high : a ≤ 5
+  pub p-ok : p ≤ 1
+  pub q-ok : q ≤ 1
+  pub rs-ok : areDigits rs ≡ true
+
+pub false-true : {A : Type 0} → false ≡ true → A
+false-true e = let z : _≡_ {A = ℕ} 0 1 = cc in absurd (omega arith)
+
+read : (xs : List ℕ) → isDomain xs ≡ true → Read xs
+read [] h = false-true h
+read (a ∷ []) h = false-true h
+read (a ∷ p ∷ []) h = false-true h
+read (a ∷ p ∷ q ∷ rs) h =
+    let x = and-true (isA a) (isBit p && (isBit q && areDigits rs)) .0 h in
+    let y = and-true (isBit p) (isBit q && areDigits rs) .0 (x .1) in
+    let z = and-true (isBit q) (areDigits rs) .0 (y .1) in
+    let w = and-true (leb 1 a) (leb a 5) .0 (x .0) in
+    record {
+      a = a;
+      p = p;
+      q = q;
+      rs = rs;
+      is = refl;
+      a-low = leb-true 1 a (w .0);
+      a-high = leb-true a 5 (w .1);
+      p-ok = leb-true p 1 (y .0);
+      q-ok = leb-true q 1 (z .0);
+      rs-ok = z .1;
+    }
+
+module _ (xs : List ℕ) (x : Read xs) (short : length xs ≤ 27) where
+  abbrev s : ℕ
+  s = side (x .a) (x .p) (x .q)
+
+  abbrev ds : List ℕ
+  ds = onto (x .rs) []
+
+  -- our code
+  abbrev pub ours : TriangleCode
+  ours = codeFor s ds
+
+  size : length xs ≡ 3 + length (x .rs)
+  size = let e : length xs ≡ suc (suc (suc (length (x .rs)))) = ap length (x .is) in omega arith
+
+  are : AreDigits (length (x .rs) + 0) ds
+  are = onto-digits (x .rs) (x .rs-ok) none
+
+  ds-size : length ds ≡ length (x .rs)
+  ds-size = omega (arith, are-length are)
+
+  a-side : IsSide s
+  a-side = (omega (arith, x .a-low, x .p-ok, x .q-ok), omega (arith, x .a-high, x .p-ok, x .q-ok))
+
+  long : length ds ≤ 24
+  long = omega (arith, ds-size, size)
+
+  ours-code : IsCode (length (x .rs)) ours
+  ours-code = subst (λ (m : ℕ). IsCode m ours) ds-size (for-code s ds a-side (are-digits are) long)
+
+  -- "translated corners have the same weights"
+  ours-corners : domain xs ≡ triangleOf ours
+  unfolding cornerOf
+  ours-corners =
+      let c = for-corner s ds a-side (are-digits are) long in
+      ap domain (x .is) ∙ ap (partedBy (x .rs)) (first-is (x .a) (x .p) (x .q) (x .p-ok) (x .q-ok))
+      ∙ parted-by s (x .rs) [] ∙ (λ i. triangle (sym (c 1) i) (sym (c 2) i) (sym (c 3) i))
+
+  ours-side : sideOf (ours .0) ≡ s
+  ours-side = for-side s ds a-side (are-digits are) long
+
+  ours-digits : digitsIn ours ≡ ds
+  ours-digits = for-digits s ds a-side (are-digits are) long
+
+  pub ours-same : isDomain xs ≡ true → SameDomain (degreeOf (ours .0)) xs ours
+  ours-same h =
+      let c = ours-code in
+      let d : degreeOf (ours .0) ≡ length (x .rs) = c .degreeIs in
+      record {
+        allowed = h;
+        degree = size ∙ ap (λ (n : ℕ). 3 + n) (sym d);
+        code = subst (λ (m : ℕ). IsCode m ours) (sym d) c;
+        corners = ours-corners;
+      }
+
+-- ---- one of each for each
+
+-- two codes of a degree with the same corners are one
+same-corners : {n : ℕ} {t u : TriangleCode} → IsCode n t → IsCode n u → triangleOf t ≡ triangleOf u → t ≡ u
+same-corners {n} {t} {u} c d e =
+    codes-differ n t u c d
+    (three (λ i. HasCorner u (corner t i))
+    (1, omega arith, sym (ap (λ (x : Triangle). x .a1) e))
+    (2, omega arith, sym (ap (λ (x : Triangle). x .a2) e))
+    (3, omega arith, sym (ap (λ (x : Triangle). x .a3) e)))
+
+-- to our words: there is a code, and no other
+pub domain-some : (xs : List ℕ) → isDomain xs ≡ true → length xs ≤ 27
+    → (t : TriangleCode) × SameDomain (degreeOf (t .0)) xs t
+domain-some xs h l = let x = read xs h in (ours xs x l, ours-same xs x l h)
+
+pub domain-code : {m n : ℕ} {xs : List ℕ} {t u : TriangleCode} → SameDomain m xs t → SameDomain n xs u → t ≡ u
+domain-code {m} {n} {t = t} {u = u} x y =
+    let e : m ≡ n = omega (arith, x .degree, y .degree) in
+    same-corners (subst (λ (m : ℕ). IsCode m t) e (x .code)) (y .code) (sym (x .corners) ∙ y .corners)
+
+-- to the paper: no two lists
+pub domain-list : {n : ℕ} {xs ys : List ℕ} {t : TriangleCode} → n ≤ 24 → SameDomain n xs t → SameDomain n ys t
+    → xs ≡ ys
+domain-list {n} {xs} {ys} short x y =
+    let lx : length xs ≤ 27 = omega (arith, x .degree, short) in
+    let ly : length ys ≤ 27 = omega (arith, y .degree, short) in
+    let a = read xs (x .allowed) in
+    let b = read ys (y .allowed) in
+    let na : length (a .rs) ≡ n = omega (arith, size xs a lx, x .degree) in
+    let nb : length (b .rs) ≡ n = omega (arith, size ys b ly, y .degree) in
+    let ca = subst (λ (m : ℕ). IsCode m (ours xs a lx)) na (ours-code xs a lx) in
+    let cb = subst (λ (m : ℕ). IsCode m (ours ys b ly)) nb (ours-code ys b ly) in
+    let e : ours xs a lx ≡ ours ys b ly =
+    same-corners ca cb (sym (ours-corners xs a lx) ∙ x .corners ∙ sym (y .corners) ∙ ours-corners ys b ly) in
+    let f : side (a .a) (a .p) (a .q) ≡ side (b .a) (b .p) (b .q) =
+    sym (ours-side xs a lx) ∙ ap (λ (t : TriangleCode). sideOf (t .0)) e ∙ ours-side ys b ly in
+    let d = sym (ours-digits xs a lx) ∙ ap digitsIn e ∙ ours-digits ys b ly in
+    let g = onto-one (a .rs) (b .rs) (na ∙ sym nb) d .0 in
+    let ea : a .a ≡ b .a = omega (arith, f, a .p-ok, a .q-ok, b .p-ok, b .q-ok) in
+    let ep : a .p ≡ b .p = omega (arith, f, a .p-ok, a .q-ok, b .p-ok, b .q-ok) in
+    let eq : a .q ≡ b .q = omega (arith, f, a .p-ok, a .q-ok, b .p-ok, b .q-ok) in
+    a .is ∙ (λ i. ea i ∷ ep i ∷ eq i ∷ g i) ∙ sym (b .is)

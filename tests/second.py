@@ -1,6 +1,6 @@
 #!/usr/bin/env python3
 """A second program for the grid of document 01, "The grid, its words and its rules", written from that paper and the
-requests of document 02 alone.
+requests of document 02 alone, and for request 2026-13 from source document 000, whose notation it is about.
 
 It answers by literal search, in whole numbers: corners by the division rule on twelve weights; neighbours, names,
 rings and opposites by comparing corners over the triangles of the degree; holders by the three determinants. A corner
@@ -62,6 +62,17 @@ such; and with other words for a corner than its name. The test bench's are made
 every corner to degree 3, and are lent slices of every length too. Each answer is then compared with the request's
 sentences: with the opposite of the opposite; with the exact coordinates, and the digits; with what cross answers on
 either side, and what file and list answer to both directions; and with what check and check-name answer.
+
+For the paper's notation of request 2026-13 the domains of source document 000 and their vertices are built by its
+formulae (16) to (19) and (23) to (27), with the weights of document 01; the code of a triangle is that of the domain
+that has its three corners, in whatever order, and the other way round. The code of a corner is the one that (45) gives
+it in all domains that have it, by (46) to (60); that of a vertex leads to the corner by (35) and (38) to (43). The
+console's calls are made, there and back, with every triangle and every corner to degree 5, and with some of degree 6 to
+24, poles and seams among them; with words that are damaged, and other words than names; with lent lists of every
+length; with all triangle codes of at most four digits and vertex codes of at most three, any digits; and with codes
+that have too many digits, or digits that the paper's text does not allow. Each answer is then compared with the
+request's sentences, the vertices being built from centres by (36) and (37); and the formulae with each other and with
+the paper's sentences, to degree 3.
 
     second.py CALLS ANSWERS           writes the calls, one a line, and the answers that the console must give to them
     second.py --answer                answers the call lines of standard input, all but help, from no open table on
@@ -301,18 +312,24 @@ def come_down(level, left, keep):
     return level
 
 
-def deep_search(n, p):
-    """Every triangle of degree n that has the corner p, by coming down from all sides. A corner below a triangle is
+def can_have(points):
+    """Whether a triangle can have all these corners in triangles so many degrees below. A corner below a triangle is
     reached by middles of middles, so each of its weights lies between the least and the greatest of the three corners',
     doubled as often as there are degrees between."""
 
-    def can_have(triangle, left):
-        for x, y, z, w in zip(*triangle, p):
-            if not min(x, y, z) << left <= w <= max(x, y, z) << left:
-                return False
+    def can(triangle, left):
+        for p in points:
+            for x, y, z, w in zip(*triangle, p):
+                if not min(x, y, z) << left <= w <= max(x, y, z) << left:
+                    return False
         return True
 
-    return with_numbers(come_down(whole_degree(0).items(), n, can_have), p)
+    return can
+
+
+def deep_search(n, p):
+    """Every triangle of degree n that has the corner p, by coming down from all sides."""
+    return with_numbers(come_down(whole_degree(0).items(), n, can_have([p])), p)
 
 
 @lru_cache(maxsize=1 << 15)
@@ -607,12 +624,16 @@ REFUSAL_TABLE += """
 | 30 | a degree, as field or argument, is 12 to 24 |
 | 31 | the last bit is set |
 """
+# 2026-13; the words are those of docs/CONSOLE.md.
+REFUSAL_TABLE += """
+| 33 | a code the paper's text doesn't allow |
+"""
 REFUSALS = {int(n): text for n, text in re.findall(r"\| (\d+) \| (.*) \|", REFUSAL_TABLE)}
 
 # "Where several hold, the order is", and then of document 02: "They are checked in number order", "The new refusals are
 # checked in number order after 23", "refusal 28, checked after 27", "refusal 29, checked last", "refusal 32, checked
-# first", "30 directly after 1 and 31 directly after 4".
-REFUSAL_ORDER = [32, 1, 30, 2, 3, 4, 31, 10, 5, 6, 8, 7, 9, 11, 20, 21, 22, 23, 24, 25, 26, 27, 28, 29]
+# first", "30 directly after 1 and 31 directly after 4", "33, checked after it", which is 1.
+REFUSAL_ORDER = [32, 1, 33, 30, 2, 3, 4, 31, 10, 5, 6, 8, 7, 9, 11, 20, 21, 22, 23, 24, 25, 26, 27, 28, 29]
 
 
 def first(refusals):
@@ -1044,6 +1065,229 @@ def opposite_name(name):
     return canonical(degree_of(name), opposite(named_corner(name)))
 
 
+# ==== Document 02, 2026-13, "The paper's notation": source document 000, "The maximally regular net on the sphere"
+
+# "The paper's text decides its form". A code is its digits, as text: Σ of the domain S(Σ), which is a triangle, or T of
+# the vertex V(T), which is a corner. Numbers in brackets are those of the paper's formulae.
+# Section 2: "1+ = 2, 2+ = 3, 3+ = 4, 4+ = 5, 5+ = 1".
+PLUS = dict(zip("12345", "23451"))
+
+
+def first_vertices(sigma):
+    """V1(apq), V2(apq), V3(apq)."""
+    a, pq = sigma[0], sigma[1:]
+    return {
+        "00": ("00", a + "0", PLUS[a] + "0"),  # (16)
+        "01": (a + "1", PLUS[a] + "0", a + "0"),  # (17)
+        "10": ("01", PLUS[a] + "1", a + "1"),  # (18)
+        "11": (PLUS[a] + "0", a + "1", PLUS[a] + "1"),  # (19)
+    }[pq]
+
+
+def centres(vertices):
+    """C1(Σ), C2(Σ), C3(Σ)."""
+    # (23): "Ci(Σ) = C(Vj(Σ), Vk(Σ))", for (i, j, k) = (1, 2, 3), (2, 3, 1), (3, 1, 2). Document 01: "Source 000 takes
+    # the middles on the sphere; we take them on the flat sides .. the shapes differ, while which triangles touch does
+    # not."
+    v1, v2, v3 = vertices
+    return middle(v2, v3), middle(v3, v1), middle(v1, v2)
+
+
+def subdomains(vertices):
+    """V1(Σr), V2(Σr), V3(Σr), by the digit r."""
+    v1, v2, v3 = map(kept, vertices)
+    c1, c2, c3 = centres(vertices)
+    return {
+        "0": (c1, c2, c3),  # (24)
+        "1": (v1, c3, c2),  # (25)
+        "2": (c3, v2, c1),  # (26)
+        "3": (c2, c1, v3),  # (27)
+    }
+
+
+@lru_cache(maxsize=None)
+def domains(n):
+    """All domains of a degree, Σ: vertices."""
+    if n == 0:
+        # "a is a digit from among {1, 2, 3, 4, 5}, while p and q are digits from among {0, 1}"
+        sides = map("".join, itertools.product("12345", "01", "01"))
+        return {sigma: tuple(map(vertex_weights, first_vertices(sigma))) for sigma in sides}
+    return {sigma + r: x for sigma, above in domains(n - 1).items() for r, x in subdomains(above).items()}
+
+
+@lru_cache(maxsize=None)
+def domains_at(n):
+    """Each vertex of a degree, with all domains that have it."""
+    found = {}
+    for sigma, vertices in domains(n).items():
+        for p in vertices:
+            found.setdefault(p, []).append(sigma)
+    return found
+
+
+def vertices_of(sigma):
+    n = len(sigma) - 3
+    if n <= WHOLE:
+        return domains(n)[sigma]
+    vertices = domains(WHOLE)[sigma[: 3 + WHOLE]]
+    for r in sigma[3 + WHOLE :]:
+        vertices = subdomains(vertices)[r]
+    return vertices
+
+
+def domain_search(n, points):
+    """Every domain of degree n that has these vertices, by coming down from all of degree 0."""
+    can = can_have(points)
+    level = [(sigma, x) for sigma, x in domains(0).items() if can(x, n)]
+    for left in reversed(range(n)):
+        level = [(sigma + r, x) for sigma, above in level for r, x in subdomains(above).items() if can(x, left)]
+    return level
+
+
+def domains_with(n, points):
+    """Every domain of degree n that has these vertices, as (Σ, its vertices)."""
+    if n <= WHOLE:
+        found = [(sigma, domains(n)[sigma]) for sigma in domains_at(n)[points[0]]]
+    else:
+        found = domain_search(n, points)
+    return [(sigma, vertices) for sigma, vertices in found if set(points) <= set(vertices)]
+
+
+@lru_cache(maxsize=1 << 12)
+def domain_code(code):
+    """Σ of the domain whose vertices are the triangle's corners."""
+    found = domains_with(degree_of(code), corners(code))
+    must(len(found) == 1, "one domain", code, found)
+    return found[0][0]
+
+
+def triangle_search(n, three):
+    """Every triangle of degree n that has the three corners."""
+    if n <= WHOLE:
+        return [code for code, _ in having(n, three[0]) if set(corners(code)) == set(three)]
+    found = come_down(whole_degree(0).items(), n, can_have(three))
+    return [code for code, triangle in found if set(triangle) == set(three)]
+
+
+@lru_cache(maxsize=1 << 12)
+def domain_triangle(sigma):
+    """The code of the triangle whose corners are the vertices of S(Σ)."""
+    # (30): "N(Σ0) = 0, N(Σr) = N(Σ) + 1", and Σ0 is apq.
+    found = triangle_search(len(sigma) - 3, vertices_of(sigma))
+    must(len(found) == 1, "one triangle", sigma, found)
+    return found[0]
+
+
+# (28), by p and q.
+ORIENTATIONS = {"00": 0, "01": 1, "10": 1, "11": 0}
+# By o and r: e(o, r) of (31) and (32), z(o, r) of (48) and (49), s(o, r) of (53) and (54). f2(x) of (57), by x; t(x, o)
+# of (59), by x and o.
+E_OF = ((0, 1, 2, 3), (0, 1, 3, 2))
+Z_OF = ((0, 1, 0, 1), (0, 1, 1, 0))
+S_OF = ((3, 3, 0, 1), (2, 2, 1, 0))
+F2_OF = (1, 3)
+T_OF = ((2, 3), (3, 2))
+Coded = namedtuple("Coded", "o x2 x3 tau")
+
+
+@lru_cache(maxsize=1 << 15)
+def coded(sigma):
+    """O(Σ), X2(Σ) and X3(Σ), and τ1(Σ), τ2(Σ), τ3(Σ)."""
+    if len(sigma) == 3:
+        a, p, q = sigma
+        one = {"00": "00", "01": a + "1", "10": "01", "11": PLUS[a] + "0"}[p + q]  # (50)
+        x = 1 if q == "0" else 0  # (46)
+        return Coded(ORIENTATIONS[p + q], x, x, (one, a + p, PLUS[a] + p))  # (28), (51)
+    (o, x2, x3, tau), r = coded(sigma[:-1]), int(sigma[-1])
+    one, two, three = tau
+    left, right = E_OF[o][2], E_OF[o][3]
+    # The centre of the right edge. (58): "v(Σ) = f2(X3(Σ))". (60): "τ_v(Σ)(Σ)t(X3(Σ), O(Σ))".
+    beyond = f"{tau[F2_OF[x3] - 1]}{T_OF[x3][o]}"
+    ones = {1: one + "0", left: f"{two}{S_OF[o][1]}", 0: two + "1", right: beyond}  # (55), (56), (60)
+    threes = {left: two + "1", right: three + "0", 0: beyond, 1: beyond}  # (56), (60)
+    # (29); (47), where the first z has O(Σ)*; (52).
+    x2, x3 = Z_OF[1 - o][r] * x2, Z_OF[o][r] * x3
+    return Coded(o if r else 1 - o, x2, x3, (ones[r], f"{two}{S_OF[o][r]}", threes[r]))
+
+
+@lru_cache(maxsize=1 << 14)
+def vertex_code(n, p):
+    """T of the vertex of degree n that has the weights, the same by every domain that has it."""
+    found = set()
+    for sigma, vertices in domains_with(n, [p]):
+        # (45): "Vi(Σ) = V(τ_e(Σ))", where e is e(O(Σ), i).
+        o, _, _, tau = coded(sigma)
+        found.add(tau[E_OF[o][vertices.index(p) + 1] - 1])
+    must(len(found) == 1, "one code", n, p, found)
+    return found.pop()
+
+
+# (38) and (39), by o and p: σ(o, ap) without its a. (40) to (43), by o and s: of σ(o, Ts) = σ(o', T)r both o' and r.
+SIGMAS = {(0, "0"): "00", (1, "0"): "01", (0, "1"): "11", (1, "1"): "10"}
+SIGMA_STEPS = {
+    **{(0, "0"): (0, "2"), (1, "0"): (1, "3")},  # (40)
+    **{(0, "1"): (0, "3"), (1, "1"): (1, "2")},  # (41)
+    **{(0, "2"): (1, "0"), (1, "2"): (1, "1")},  # (42)
+    **{(0, "3"): (0, "1"), (1, "3"): (0, "0")},  # (43)
+}
+
+
+def based(o, t):
+    """σ(o, T): the domain with orientation o whose base vertex is V(T), which is not a polar one."""
+    if len(t) == 2:
+        return t[0] + SIGMAS[o, t[1]]
+    o, r = SIGMA_STEPS[o, t[-1]]
+    return based(o, t[:-1]) + r
+
+
+def is_polar(t):
+    # "if the vertex is a polar one, T0 is the sequence 0p"
+    return t[0] == "0"
+
+
+def polar_domain(a, t):
+    # After (44): "if V(T) is the polar vertex of the domain S(Σ), then V(T0) is the polar vertex of the domain S(Σ1)".
+    # By (16), (18) and (25) it is the first one, for any a.
+    return a + t[1] + "0" + "1" * (len(t) - 2)
+
+
+@lru_cache(maxsize=1 << 14)
+def vertex_point(t):
+    """The weights of V(T)."""
+    if is_polar(t):
+        return vertices_of(polar_domain("1", t))[0]
+    # (34), (35): "V2(Σ(0)) = V3(Σ(1)) = V(T)", where Σ(o) is σ(o, T).
+    p, q = vertices_of(based(0, t))[1], vertices_of(based(1, t))[2]
+    must(p == q, "the base vertex of both", t)
+    return p
+
+
+def vertex_corner(t):
+    """The corner's name."""
+    # (33): "Nv(T0) = 0, Nv(Ts) = Nv(T) + 1", and T0 is ap or 0p.
+    return canonical(len(t) - 2, vertex_point(t))
+
+
+LONGEST_DOMAIN, LONGEST_VERTEX = 3 + DEEPEST, 2 + DEEPEST
+
+
+def domain_refusals(sigma):
+    # "A paper code above degree 24 is refusal 1; one the paper's text doesn't allow is 33". Section 4: "Σ0 is the
+    # sequence apq as defined above, while Σe is a (possibly empty) sequence of digits from among {0, 1, 2, 3}".
+    a, p, q, rest = sigma[:1], sigma[1:2], sigma[2:3], sigma[3:]
+    allowed = a in set("12345") and p in set("01") and q in set("01") and set(rest) <= set("0123")
+    return when(1, len(rest) > DEEPEST) | when(33, not allowed)
+
+
+def vertex_refusals(t):
+    # Section 5: "if the vertex is not a polar one, T0 is the sequence ap as defined above, while Te is a (possibly
+    # empty) sequence of digits from among {0, 1, 2, 3}; if the vertex is a polar one, T0 is the sequence 0p, while Te
+    # is a (possibly empty) sequence of digits 0".
+    a, p, rest = t[:1], t[1:2], t[2:]
+    allowed = a in set("012345") and p in set("01") and set(rest) <= set("0" if is_polar(t) else "0123")
+    return when(1, len(rest) > DEEPEST) | when(33, not allowed)
+
+
 # ==== The console's answers
 
 
@@ -1270,6 +1514,35 @@ def call_opposite_name(name):
     return either(name_refusals(name), lambda: name_text(opposite_name(name)))
 
 
+def answer_digits(refusals, digits_of_it, longest, places):
+    """The digits of a paper's code, one a place at the front of the list; later places stay. The list must have room
+    for the longest code of the kind."""
+    lent = lent_list(places, longest)
+    no = first(refusals | list_refusals(lent, longest))
+    if no:
+        return with_places(refused(no), places, lent, str)
+    digits = digits_of_it()
+    lent[: len(digits)] = map(int, digits)
+    return with_places(digits, places, lent, str)
+
+
+def call_paper(code, places=None):
+    return answer_digits(code_refusals(code), lambda: domain_code(code), LONGEST_DOMAIN, places)
+
+
+def call_paper_name(name, places=None):
+    r = name_refusals(name)
+    return answer_digits(r, lambda: vertex_code(degree_of(name), named_corner(name)), LONGEST_VERTEX, places)
+
+
+def call_from_paper(sigma):
+    return either(domain_refusals(sigma), lambda: code_text(domain_triangle(sigma)))
+
+
+def call_from_paper_vertex(t):
+    return either(vertex_refusals(t), lambda: name_text(vertex_corner(t)))
+
+
 # ==== The console's table: docs/CONSOLE.md, "A table of soundings"
 
 # "The console holds one table (document 02, 2026-03, 2026-07 and 2026-08), from the line that opens it to the next one
@@ -1455,7 +1728,7 @@ TRIANGLE = re.compile("[0-7][01][01][0-3]{0,24}")
 WHOLE_NUMBER = re.compile("[0-9]+")
 SIGNED_NUMBER = re.compile("-?[0-9]+")
 PART = re.compile("[^ \t\r]+")  # "words separated by spaces, tabs or carriage returns"
-MOST_PLACES, MOST_NUMBERS, MOST_LENT = 16, 48, 64
+MOST_PLACES, MOST_NUMBERS, MOST_LENT, MOST_DIGITS = 16, 48, 64, 32
 
 
 class Unreadable(Exception):
@@ -1509,6 +1782,18 @@ def read_lent_length(text):
     return within(read_number(text), 0, MOST_LENT)
 
 
+def read_digit_places(text):
+    # A list for the digits of a paper's code has 0 to 32 places.
+    return within(read_number(text), 0, MOST_DIGITS)
+
+
+def read_digits(text):
+    # One or more characters 0 to 9, as many as the line has room for.
+    if not WHOLE_NUMBER.fullmatch(text):
+        raise Unreadable
+    return text
+
+
 def read_owner(text):
     # "an N of at most 255. So is FILL in an owners line"
     return within(read_number(text), 0, 255)
@@ -1519,6 +1804,9 @@ READERS = {"CODE": read_code, "NAME": read_hex, **SIGNED, "MM": read_signed}
 READERS.update({"PLACES": read_places, "[PLACES]": read_places, "[CODE]": read_code, "SMALL": read_small})
 LENT_LISTS = ("MENDED", "WORDS", "REASONS")
 READERS.update(dict.fromkeys(LENT_LISTS, read_lent_length))
+DIGIT_PLACES = "[PLACES] of digits"  # The forms write it as [PLACES] too.
+READERS.update({DIGIT_PLACES: read_digit_places, "DIGITS": read_digits})
+PAPER_CALLS = ["paper", "paper-name", "from-paper", "from-paper-vertex"]
 
 ANSWERS = {
     "check CODE": call_check,
@@ -1551,6 +1839,10 @@ ANSWERS = {
     "file-small DEGREE X Y Z": call_file_small,
     "opposite CODE": call_opposite,
     "opposite-name NAME": call_opposite_name,
+    "paper CODE [PLACES]": call_paper,
+    "paper-name NAME [PLACES]": call_paper_name,
+    "from-paper DIGITS": call_from_paper,
+    "from-paper-vertex DIGITS": call_from_paper_vertex,
 }
 TABLE_ANSWERS = {
     "table DEGREE [LENGTH FILL [PLACE VALUE]..]": call_table,
@@ -1568,8 +1860,14 @@ TABLE_ANSWERS = {
 }
 
 
+def kinds_of(form):
+    """What kinds of arguments a call takes."""
+    call, *kinds = form.split()
+    return [DIGIT_PLACES if kind == "[PLACES]" and call in PAPER_CALLS else kind for kind in kinds]
+
+
 def forms_of(answers):
-    return {form.split()[0]: (form, form.split()[1:], call) for form, call in answers.items()}
+    return {form.split()[0]: (form, kinds_of(form), call) for form, call in answers.items()}
 
 
 GRID_FORMS, TABLE_FORMS = forms_of(ANSWERS), forms_of(TABLE_ANSWERS)
@@ -1629,7 +1927,7 @@ def read_arguments(kinds, given):
     if last == "[CODE]..":  # "(as many as the line has room for)"
         many = len(kinds) - 1
         return read_arguments(kinds[:-1], given[:many]) + [[read_code(x) for x in given[many:]]]
-    within(len(given), len(kinds) - (last in ("[PLACES]", "[CODE]")), len(kinds))
+    within(len(given), len(kinds) - (last in ("[PLACES]", DIGIT_PLACES, "[CODE]")), len(kinds))
     return [READERS.get(kind, read_number)(x) for kind, x in zip(kinds, given)]
 
 
@@ -1869,6 +2167,8 @@ def internal_checks():
     check_least()
     check_small_lines()
     check_opposite_lines()
+    check_paper()
+    check_paper_lines()
 
 
 # ==== Internal checks of what file and list are answered to degree 5
@@ -1977,8 +2277,8 @@ def other_words():
                 if n <= 2 or at % 9 == 0:
                     yield f"check-name {word_text(code | number)}"
                 if at % 401 == 0:
-                    calls = ("name-weights", "name-exact", "name-t", "name-drawn", "name-bits", "ring", "opposite-name")
-                    yield from (f"{call} {word_text(code | number)}" for call in calls)
+                    calls = ["name-weights", "name-exact", "name-t", "name-drawn", "name-bits", "ring", "opposite-name"]
+                    yield from (f"{call} {word_text(code | number)}" for call in calls + ["paper-name"])
 
 
 def every_drawing():
@@ -2255,7 +2555,7 @@ def deep_corner_calls(n, p, chance):
 
 # ==== The calls: refusals
 
-# The calls of 2026-11 and 2026-12 on a code or a name have their own, below.
+# The calls of 2026-11, 2026-12 and 2026-13 on a code or a name have their own, below.
 CODE_CALLS = {
     "check": [""],
     "parent": [""],
@@ -2368,7 +2668,7 @@ def fixed_words():
     words += [0x2600000000000000 | i for i in range(4)] + [0x2640000000000000 | i for i in range(4)]
     words += [0xB800000000000000 | i for i in range(4)] + [0x2000000000000000 | 1 << k for k in range(64)]
     for word in dict.fromkeys(words):
-        for call in ("check", "check-name", "parent", "ring", "opposite", "opposite-name"):
+        for call in ("check", "check-name", "parent", "ring", "opposite", "opposite-name", "paper", "paper-name"):
             yield f"{call} {word_text(word)}"
 
 
@@ -2475,7 +2775,7 @@ def refusal_calls():
 def good_arguments(kinds):
     good = {"CODE": "100", "NAME": "0x2000000000000001", "DEGREE": "0", "[PLACES]": "12"}
     good.update({"WEIGHTS": "1 0 0 0 0 0 0 0 0 0 0 0", "PLACES": "1", "[NUMBER]..": "1 2 3", "[CODE]..": "100"})
-    good["SMALL"] = "0x20A00000"
+    good.update({"SMALL": "0x20A00000", DIGIT_PLACES: "27", "DIGITS": "1003"})
     return [good.get(kind, "1") for kind in kinds]
 
 
@@ -2502,6 +2802,8 @@ BAD["SMALL"] = """
     100 1001 20A00000 0x 0x020A00000 0x000000000 0x2050000000000000 0X20A00000 0x20A0000G 0x20A0_0000 x1 -0x1 +0x1 0x-1
     0x20A00000, 0x20A00000. 547356672 1 0 -1 E2
 """.split()
+BAD[DIGIT_PLACES] = "33 64 256 283 4294967323 18446744073709551616 -1 +27 27.0 0x21 0x 0033 x1B".split()
+BAD["DIGITS"] = "x 0x1003 0x1 -1003 +1003 1003. 100.3 1,003 1003, 1_003 10O3 1003x x1003 - . S(1003) ١٠٠٣ 100³".split()
 ONE_TOO_MANY = {"WEIGHTS": ["0"] * 5, "[NUMBER]..": ["0"] * 46}
 
 
@@ -2528,10 +2830,10 @@ def unreadable_calls():
     """Every call with arguments missing, one too many, and each argument unreadable."""
     chance = random.Random(9)
     with_all = ["check", "check-name", "child", "file", "list", "ring", "sweep", "check-cells", "mend-cells"]
-    with_all += SMALL_CALLS + OPPOSITE_CALLS
+    with_all += SMALL_CALLS + OPPOSITE_CALLS + PAPER_CALLS
     for call, (_, kinds, _) in GRID_FORMS.items():
         good = good_arguments(kinds)
-        least = len(kinds) - (kinds[-1] in ("[PLACES]", "WEIGHTS", "[NUMBER]..", "[CODE].."))
+        least = len(kinds) - (kinds[-1] in ("[PLACES]", DIGIT_PLACES, "WEIGHTS", "[NUMBER]..", "[CODE].."))
         yield from (" ".join([call] + good[:k]) for k in range(least))
         yield " ".join([call] + good + ONE_TOO_MANY.get(kinds[-1], ["1"]))
         yield " ".join([call] + good + ["x"])
@@ -2573,6 +2875,19 @@ UNKNOWN = """
     opposite--name 0x2000000000000001; opposite-name- 0x2000000000000001; opposite-name#; -opposite-name; opposite.name
     check-opposite 100; cross-opposite 1001 2; file-opposite 2 0 0 1; list-opposite 2 0 0 1; ring-opposite 0x2000000001
     opposite-opposite 100; antipode 100; antipodal 100; negate 100; negated 2 0 0 1; antenna 100
+    Paper 100; PAPER 100; pape 100; papers 100; paper100; paper: 100; paper, 100; paper#; paper-; -paper 100; paper- 100
+    paper-100; paper-code 100; paper-triangle 100; paper-vertex 0x2000000000000001; paper-corner 100 1; to-paper 100
+    paper_name 0x2000000000000001; papername 0x2000000000000001; paper-names 0x2000000000000001; paper-nam 0x1
+    paper\u00a0100; Paper-name 0x2000000000000001; paper-Name 0x1; PAPER-NAME 0x1; name-paper 0x2000000000000001
+    paper-name: 0x1; paper-name#; paper--name 0x1; paper-name- 0x1; paper.name 0x1; paper-name\u00a00x1
+    paper-small 0x20000000; domain 100; From-paper 100; from-Paper 100; FROM-PAPER 100; from 100; from- 100
+    from-pape 100; from-papers 100; frompaper 100; from_paper 100; from-paper: 100; from-paper100; from-paper, 100
+    from-paper#; -from-paper 100; from--paper 100; from-paper- 100; from-paper-name 20; from-paper-domain 100
+    from-paper-triangle 100; from-paper-code 100; code 100; from-paper\u00a0100; from-paper-vertices 20
+    from-paper-verte 20; from-paper-Vertex 20; From-paper-vertex 20; FROM-PAPER-VERTEX 20; from-paper_vertex 20
+    from_paper_vertex 20; frompapervertex 20; from-papervertex 20; from-paper-vertex20; from-paper-vertex: 20
+    from-paper-vertex#; from-paper-vertex- 20; from-vertex 20; vertex 20; from-paper-vertex\u00a020
+    vertex-from-paper 20; paper-from 100; S(100); V(20)
     drawn-name 100 1; exact-name 100 1; name-; -name; name-name 1; check#; check, 100; chéck 100; check\u00a0100
     \u2003check 100; \ufeffcheck 100; φ
 """
@@ -2589,6 +2904,10 @@ def unknown_calls():
     yield from ["small\x0b100", "large\x000x20000000", "\x0ccheck-small 0x20000000", "cross-small\xff"]
     yield from ["opposite\x0b100", "opposite\x00", "\x0copposite 100", "opposite\x0c-name 0x2000000000000001"]
     yield from ["opposite-name\x0b0x2000000000000001", "\x00opposite-name 0x2000000000000001", "opposite-name\xff"]
+    yield from ["paper\x0b100", "paper\x00", "\x0cpaper 100", "paper\x0c-name 0x1", "paper-name\x0b0x1"]
+    yield from ["paper-name\xff", "from-paper\x0b100", "\x00from-paper 100", "from-paper\xff", "from\x00paper 100"]
+    yield from ["from-paper\x0c-vertex 20", "from-paper-vertex\x0b20", "\x00from-paper-vertex 20"]
+    yield "from-paper-vertex\xff"
     yield as_bytes("check 100\u00a0")
 
 
@@ -6450,9 +6769,11 @@ SMALL_TEXT = """
 
 
 def in_words(line):
-    """A line, and its answer with the refusal in words."""
+    """A line, and its answer with the refusal in words; a lent list stays as it is."""
     call, text = line.strip().split(" -> ")
-    return call, refused(int(text.split()[1])) if text.startswith("refused ") else text
+    told, *lists = text.split(" |")
+    told = refused(int(told.split()[1])) if told.startswith("refused ") else told
+    return call, " |".join([told, *lists])
 
 
 SMALL_EXAMPLES = dict(map(in_words, SMALL_TEXT.strip().split("\n")))
@@ -7118,7 +7439,7 @@ def check_opposite_corner(name, other):
 
 def checked_number(call, word):
     """That with which the word is refused when it is checked, or 0."""
-    text = {"opposite": call_check, "opposite-name": call_check_name}[call](word)
+    text = (call_check_name if call.endswith("-name") else call_check)(word)
     return 0 if text == "ok" else int(re.match("refused ([0-9]+): ", text)[1])
 
 
@@ -7260,6 +7581,706 @@ def check_opposite_lines():
     for x, y in zip(up, down):
         must(answer(f"opposite {x}") == code_text(read_triangle(y)), "opposite to the other", x, y)
     for line in unreadable_opposites():
+        must(answer(line) == "error: write it as " + FORMS[line.split(" ")[0]][0], "unreadable", line)
+
+
+# ==== The calls: the paper's codes, examples with the answers written out by hand
+
+# (16) to (19) are document 01's sides, with their corners in its order, and (24) to (27) its children: a triangle's
+# code reads the same. V(20) is corner 3 of 100 and corner 2 of 200; the first is its name. By (63) to (68) V(101) lies
+# between V(10) and V(20), on edge 1 of 100, and so is corner 1 of 1000; V(102) between V(10) and V(11), edge 2 of 101;
+# V(103) between V(10) and V(00), edge 3 of 100; V(203) between V(20) and V(00), edge 2 of 100; V(111) between V(11) and
+# V(21), edge 1 of 110; V(112) between V(11) and V(01), edge 2 of 110; V(113) between V(11) and V(20), edge 3 of 101.
+# V(101) is the base vertex of 1003 and 1012, by (41). Then by (36) and (37) V(1011) is C1(1003), between V(101) and
+# V(20): corner 1 of 10030. V(1012) is C2(1012), between V(101) and V(113), on edge 2 of 1010; V(1013) is C3(1003),
+# between V(203) and V(101), on edge 3 of 1000. V(203) is the base vertex of 2001 and 2000, by (43), and V(2033) is
+# C3(2001), between V(00) and V(203), on edge 2 of 1001. V(112) is the base vertex of 1100 and 1101, by (42), and
+# V(1122) is C2(1101), between V(112) and V(01), on edge 2 of 1101. A last digit 0 keeps the point, one degree further:
+# V(200) is V(20), the base vertex of 2002 and 2013, by (40), and V(2003) is C3(2002), between V(203) and V(20), on edge
+# 2 of 1003; V(2102) is C2(2103), between V(21) and V(212), on edge 3 of 1102. Both edges are extraordinary.
+PAPER_TEXT = """
+    paper 100 -> 100
+    paper 1003 -> 1003
+    paper 10003 -> 10003
+    paper 0x208C000000000000 -> 10003
+    paper 21003 -> 21003
+    paper 511 -> 511
+    paper 110 -> 110
+    paper 1012 -> 1012
+    paper 1103 -> 1103
+    paper 41012301230123 -> 41012301230123
+    paper 511333333333333333333333333 -> 511333333333333333333333333
+    paper 100000000000000000000000000 -> 100000000000000000000000000
+    paper 10003 27 -> 10003 | 1 0 0 0 3 6 7 8 9 10 11 12 13 14 15 16 17 18 19 20 21 22 23 24 25 26 27
+    paper 3112 28 -> 3112 | 3 1 1 2 5 6 7 8 9 10 11 12 13 14 15 16 17 18 19 20 21 22 23 24 25 26 27 28
+    paper 200 26 -> refused 9 | 1 2 3 4 5 6 7 8 9 10 11 12 13 14 15 16 17 18 19 20 21 22 23 24 25 26
+    paper 200 3 -> refused 9 | 1 2 3
+    paper 200 0 -> refused 9 |
+    paper 600 2 -> refused 2 | 1 2
+    paper 600 27 -> refused 2 | 1 2 3 4 5 6 7 8 9 10 11 12 13 14 15 16 17 18 19 20 21 22 23 24 25 26 27
+    paper 0x2640000000000000 0 -> refused 1 |
+    paper 0x2640000000000001 -> refused 1
+    paper 000 -> refused 2
+    paper 0x0 -> refused 2
+    paper 0x2010000000000000 -> refused 3
+    paper 0x2000000000000001 -> refused 4
+    paper 0x2050000000000004 1 -> refused 4 | 1
+    paper-name 0x2000000000000001 -> 00
+    paper-name 0x2000000000000002 -> 10
+    paper-name 0x2000000000000003 -> 20
+    paper-name 0x4000000000000003 -> 30
+    paper-name 0x6000000000000003 -> 40
+    paper-name 0x8000000000000003 -> 50
+    paper-name 0x3000000000000001 -> 01
+    paper-name 0x2800000000000001 -> 11
+    paper-name 0x3000000000000002 -> 21
+    paper-name 0x5000000000000002 -> 31
+    paper-name 0x7000000000000002 -> 41
+    paper-name 0x9000000000000002 -> 51
+    paper-name 0x2040000000000001 -> 101
+    paper-name 0x2840000000000002 -> 102
+    paper-name 0x2040000000000003 -> 103
+    paper-name 0x2040000000000002 -> 203
+    paper-name 0x3040000000000001 -> 111
+    paper-name 0x3040000000000002 -> 112
+    paper-name 0x2840000000000003 -> 113
+    paper-name 0x2050000000000001 -> 000
+    paper-name 0x3050000000000001 -> 010
+    paper-name 0x2060000000000002 -> 100
+    paper-name 0x20B0000000000001 -> 1011
+    paper-name 0x2880000000000002 -> 1012
+    paper-name 0x2080000000000003 -> 1013
+    paper-name 0x2090000000000002 -> 2033
+    paper-name 0x3090000000000002 -> 1122
+    paper-name 0x20B0000000000002 -> 2003
+    paper-name 0x30A0000000000003 -> 2102
+    paper-name 0x2615555555555541 -> 00000000000000000000000000
+    paper-name 0x3615555555555541 -> 01000000000000000000000000
+    paper-name 0x262AAAAAAAAAAA82 -> 10000000000000000000000000
+    paper-name 0x263FFFFFFFFFFFC3 -> 20000000000000000000000000
+    paper-name 0x2040000000000001 26 -> 101 | 1 0 1 4 5 6 7 8 9 10 11 12 13 14 15 16 17 18 19 20 21 22 23 24 25 26
+    paper-name 0x2050000000000001 27 -> 000 | 0 0 0 4 5 6 7 8 9 10 11 12 13 14 15 16 17 18 19 20 21 22 23 24 25 26 27
+    paper-name 0x2040000000000001 25 -> refused 9 | 1 2 3 4 5 6 7 8 9 10 11 12 13 14 15 16 17 18 19 20 21 22 23 24 25
+    paper-name 0x2000000000000001 0 -> refused 9 |
+    paper-name 0x4000000000000001 -> refused 10
+    paper-name 0x4000000000000002 2 -> refused 10 | 1 2
+    paper-name 0x2640000000000001 -> refused 1
+    paper-name 0x0 1 -> refused 2 | 1
+    paper-name 0x2010000000000001 -> refused 3
+    paper-name 0x2000000000000000 -> refused 4
+    from-paper 100 -> 100 0x2000000000000000
+    from-paper 1003 -> 1003 0x2070000000000000
+    from-paper 10003 -> 10003 0x208C000000000000
+    from-paper 511 -> 511 0xB800000000000000
+    from-paper 1012 -> 1012 0x2860000000000000
+    from-paper 1103 -> 1103 0x3070000000000000
+    from-paper 511333333333333333333333333 -> 511333333333333333333333333 0xBE3FFFFFFFFFFFC0
+    from-paper 100111111111111111111111111 -> 100111111111111111111111111 0x2615555555555540
+    from-paper 0 -> refused 33
+    from-paper 1 -> refused 33
+    from-paper 10 -> refused 33
+    from-paper 00 -> refused 33
+    from-paper 000 -> refused 33
+    from-paper 600 -> refused 33
+    from-paper 900 -> refused 33
+    from-paper 120 -> refused 33
+    from-paper 102 -> refused 33
+    from-paper 1004 -> refused 33
+    from-paper 0100 -> refused 33
+    from-paper 511333333333333333333333334 -> refused 33
+    from-paper 999999999999999999999999999 -> refused 33
+    from-paper 5113333333333333333333333333 -> refused 1
+    from-paper 9999999999999999999999999999 -> refused 1
+    from-paper 0000000000000000000000000000 -> refused 1
+    from-paper-vertex 00 -> 0x2000000000000001 corner 1 of 100
+    from-paper-vertex 01 -> 0x3000000000000001 corner 1 of 110
+    from-paper-vertex 20 -> 0x2000000000000003 corner 3 of 100
+    from-paper-vertex 51 -> 0x9000000000000002 corner 2 of 410
+    from-paper-vertex 101 -> 0x2040000000000001 corner 1 of 1000
+    from-paper-vertex 102 -> 0x2840000000000002 corner 2 of 1010
+    from-paper-vertex 103 -> 0x2040000000000003 corner 3 of 1000
+    from-paper-vertex 203 -> 0x2040000000000002 corner 2 of 1000
+    from-paper-vertex 111 -> 0x3040000000000001 corner 1 of 1100
+    from-paper-vertex 112 -> 0x3040000000000002 corner 2 of 1100
+    from-paper-vertex 113 -> 0x2840000000000003 corner 3 of 1010
+    from-paper-vertex 000 -> 0x2050000000000001 corner 1 of 1001
+    from-paper-vertex 010 -> 0x3050000000000001 corner 1 of 1101
+    from-paper-vertex 100 -> 0x2060000000000002 corner 2 of 1002
+    from-paper-vertex 1011 -> 0x20B0000000000001 corner 1 of 10030
+    from-paper-vertex 1012 -> 0x2880000000000002 corner 2 of 10100
+    from-paper-vertex 1013 -> 0x2080000000000003 corner 3 of 10000
+    from-paper-vertex 2033 -> 0x2090000000000002 corner 2 of 10010
+    from-paper-vertex 1122 -> 0x3090000000000002 corner 2 of 11010
+    from-paper-vertex 2003 -> 0x20B0000000000002 corner 2 of 10030
+    from-paper-vertex 2102 -> 0x30A0000000000003 corner 3 of 11020
+    from-paper-vertex 00000000000000000000000000 -> 0x2615555555555541 corner 1 of 100111111111111111111111111
+    from-paper-vertex 10000000000000000000000000 -> 0x262AAAAAAAAAAA82 corner 2 of 100222222222222222222222222
+    from-paper-vertex 0 -> refused 33
+    from-paper-vertex 5 -> refused 33
+    from-paper-vertex 02 -> refused 33
+    from-paper-vertex 60 -> refused 33
+    from-paper-vertex 12 -> refused 33
+    from-paper-vertex 104 -> refused 33
+    from-paper-vertex 001 -> refused 33
+    from-paper-vertex 013 -> refused 33
+    from-paper-vertex 00000000000000000000000001 -> refused 33
+    from-paper-vertex 99999999999999999999999999 -> refused 33
+    from-paper-vertex 000000000000000000000000000 -> refused 1
+    from-paper-vertex 000000000000000000000000001 -> refused 1
+    from-paper-vertex 511333333333333333333333333 -> refused 1
+    from-paper-vertex 999999999999999999999999999 -> refused 1
+"""
+PAPER_EXAMPLES = dict(map(in_words, PAPER_TEXT.strip().split("\n")))
+
+
+# ==== The calls: the paper's codes of every triangle and every corner to degree 5, and of some below, there and back
+
+
+def lent_digits(chance, longest):
+    """Mostly none is shown; else just as long as it must be, or longer."""
+    return chance.choice(["", "", "", "", f" {longest}", f" {chance.randint(longest, MOST_DIGITS)}"])
+
+
+def domain_calls(chance, code):
+    yield f"paper {any_form(chance, code)}{lent_digits(chance, LONGEST_DOMAIN)}"
+    yield f"from-paper {domain_code(code)}"
+
+
+def vertex_calls(chance, n, p):
+    yield f"paper-name {some_word(chance, canonical(n, p))}{lent_digits(chance, LONGEST_VERTEX)}"
+    yield f"from-paper-vertex {vertex_code(n, p)}"
+
+
+def every_paper():
+    chance = random.Random(181)
+    for n in range(WHOLE + 1):
+        yield from (line for code in whole_degree(n) for line in domain_calls(chance, code))
+        yield from (line for p in whole_index(n) for line in vertex_calls(chance, n, p))
+
+
+def polar_seam_code(chance, n):
+    """On an edge that ends in a pole: by (46) to (49) only such have extraordinary edges."""
+    some = chance.choice([(1, 2), (1, 3)])
+    return make_code((chance.randint(1, 5), chance.randrange(2), 0), [chance.choice(some) for _ in range(n)])
+
+
+def deep_papers():
+    """Triangles of every kind, all digits alike among them, with a corner of each; the poles, and other vertices of the
+    icosahedron. Of degree 24 all triangles with all digits alike."""
+    chance = random.Random(182)
+    for n in range(WHOLE + 1, DEEPEST + 1):
+        kinds = (random_code, seam_code, random_code, polar_seam_code)
+        codes = [kinds[at % 4](chance, n) for at in range(12)]
+        sides = SIDES if n == DEEPEST else chance.sample(SIDES, 1)
+        codes += [make_code(side, [digit] * n) for side in sides for digit in (0, 1, 2, 3)]
+        for code in codes:
+            yield from domain_calls(chance, code)
+            yield from vertex_calls(chance, n, chance.choice(corners(code)))
+        for vertex in ["00", "01", *chance.sample(ORDER[2:], 2)]:
+            yield from vertex_calls(chance, n, tuple(w << n for w in vertex_weights(vertex)))
+
+
+# ==== The calls: the paper's codes of words that are refused, and lists that are too short
+
+# What makes a good word for each call, what breaks it, and the length of the longest code.
+PAPER_KINDS = {
+    "paper": (random_code, CODE_BREAKS, LONGEST_DOMAIN),
+    "paper-name": (random_name, NAME_BREAKS, LONGEST_VERTEX),
+}
+
+
+def any_lent_digits(chance, longest):
+    """None is shown; or just as long as it must be, one place too short, or of any length."""
+    some = [longest, longest - 1, chance.randrange(MOST_DIGITS + 1)]
+    return chance.choice(["", *(f" {places}" for places in some)])
+
+
+def damaged_for_paper():
+    chance = random.Random(183)
+    for call, (make, breaks, longest) in PAPER_KINDS.items():
+        form = cell_form if call == "paper" else some_word
+        for word in words_of_all_kinds(chance, (0, 1, 5, 14, 23, 24), (0, 4, 24), make, breaks):
+            yield f"{call} {form(chance, word)}{any_lent_digits(chance, longest)}"
+
+
+def others_for_paper():
+    chance = random.Random(184)
+    for word in words_for_corners(chance, 2, 2):
+        yield f"paper-name {some_word(chance, word)}{any_lent_digits(chance, LONGEST_VERTEX)}"
+
+
+def paper_places():
+    """Every length with words that are answered, and with one word for each refusal."""
+    chance = random.Random(185)
+    for places in range(MOST_DIGITS + 1):
+        for call, (make, breaks, _) in PAPER_KINDS.items():
+            words = [make(chance, n) for n in (0, 1, 5, 23, 24)] + [one(make(chance, 2), chance) for one in breaks]
+            yield from (f"{call} {word_text(word)} {places}" for word in words)
+
+
+# ==== The calls: codes of the paper, good and bad
+
+# What the paper's text allows for each digit of a code that is not a pole's: for a, p and q, or a and p, and for all
+# after them.
+ALLOWED = {"from-paper": ["12345", "01", "01", "0123"], "from-paper-vertex": ["12345", "01", "0123"]}
+
+
+def allowed_at(call, place):
+    return ALLOWED[call][min(place, len(ALLOWED[call]) - 1)]
+
+
+def random_digits(chance, call, length):
+    """Such a code, or what it begins with."""
+    return "".join(chance.choice(allowed_at(call, place)) for place in range(length))
+
+
+def short_papers():
+    """All digits: of a triangle code to four of them, of a vertex code to three."""
+    for call, longest in (("from-paper", 4), ("from-paper-vertex", 3)):
+        for many in range(1, longest + 1):
+            yield from (f"{call} {''.join(digits)}" for digits in itertools.product("0123456789", repeat=many))
+
+
+PAPER_LENGTHS = [*range(1, 36), 51, 52, 53, 54, 59, 60, 61, 64, 65, 100, 127, 128, 200, 255, 256, 257, 258, 259, 260]
+PAPER_LENGTHS += [281, 282, 283, 284, 300, 511, 512, 514, 515, 538, 539, 540, 768, 771, 900, 980]
+
+
+def paper_lengths():
+    """Codes that are allowed, or would be if they were longer or shorter; the same with a last or a first digit that is
+    not; all digits alike; any digits. As many as the line has room for, and one more."""
+    chance = random.Random(186)
+    for call in ALLOWED:
+        room = 1000 - len(call) - 1
+        for length in [*PAPER_LENGTHS, room - 1, room, room + 1]:
+            good = random_digits(chance, call, length)
+            yield from (f"{call} {x}" for x in (good, good[:-1] + chance.choice("456789"), "6" + good[1:]))
+            yield from (f"{call} {digit * length}" for digit in "019")
+            yield f"{call} {'1' + '0' * (length - 1)}"
+            yield f"{call} {''.join(chance.choice('0123456789') for _ in range(length))}"
+
+
+def damaged_papers():
+    """At each place each digit that the text does not allow there; then two such at once."""
+    chance = random.Random(187)
+    for call, allowed in ALLOWED.items():
+        for n in (0, 1, 2, 5, 13, 23, 24):
+            length = len(allowed) - 1 + n
+            for place in range(length):
+                for bad in sorted(set("0123456789") - set(allowed_at(call, place))):
+                    good = random_digits(chance, call, length)
+                    # With digits after it that are not 0 a pole's a is not allowed either.
+                    rest = good[place + 1 : -1] + "3" if place == 0 and n > 0 else good[place + 1 :]
+                    if (call, place, n, bad) != ("from-paper-vertex", 0, 0, "0"):
+                        yield f"{call} {good[:place]}{bad}{rest}"
+            for one, two in itertools.combinations(range(length), 2) if n in (2, 24) else ():
+                digits = list(random_digits(chance, call, length))
+                digits[one], digits[two] = chance.choice("6789"), chance.choice("456789")
+                yield f"{call} {''.join(digits)}"
+
+
+def damaged_poles():
+    """Of every degree the two poles; with a digit from 1 to 3, or from 4 to 9, at each place, alone; with digits from 0
+    to 3; with another p; and with another a, which makes another vertex of the icosahedron, or none."""
+    chance = random.Random(188)
+    for n, p in itertools.product(range(DEEPEST + 3), "01"):
+        yield f"from-paper-vertex 0{p}{'0' * n}"
+        for place in range(n):
+            some = "123" if n in (1, 2, DEEPEST) else chance.choice("123")
+            for digit in some + chance.choice("456789"):
+                yield f"from-paper-vertex 0{p}{'0' * place}{digit}{'0' * (n - place - 1)}"
+        yield f"from-paper-vertex 0{chance.choice('23456789')}{'0' * n}"
+        yield from (f"from-paper-vertex {a}{p}{'0' * n}" for a in ("1", chance.choice("2345"), chance.choice("6789")))
+        if n > 0:
+            yield f"from-paper-vertex 0{p}{''.join(chance.choice('0123') for _ in range(n - 1))}{chance.choice('123')}"
+
+
+# ==== The calls: lines with the paper's codes that cannot be read, and lines that can, just
+
+UNREADABLE_PAPERS = """
+    paper; paper-name; from-paper; from-paper-vertex; paper x; paper 1; paper 10; paper 800; paper 1004; paper 120
+    paper 102; paper 0x; paper 0x20500000000000000; paper 0X2050000000000000; paper 2050000000000000; paper -100
+    paper +100; paper 100,; paper 100.; paper 10O; paper 100 x; paper 100 33; paper 100 34; paper 100 64; paper 100 -1
+    paper 100 +27; paper 100 27.0; paper 100 0x21; paper 100 0x; paper 100 18446744073709551616; paper 100 4294967323
+    paper 100 256; paper 100 283; paper 100 27 27; paper 100 27 x; paper 100 # note; paper #; paper CODE; paper NAME
+    paper 100 101; paper of 100; paper - 100; paper 1000000000000000000000000000; paper name 0x2000000000000001
+    paper 100 0x10000000000000000; paper 100 27 # note; paper "100"; paper S(100); paper 100 [27]; paper 100 27,
+    paper 600 33; paper 0x2640000000000000 33; paper 0x0 x; paper 000 -1; paper 100 000000033; paper 100 twenty-seven
+    paper 100 PLACES; paper 100 0x00000000000000021; paper 1 0 0; paper 1 0 0 27; paper paper 100
+    paper 2305843009213693952; paper-name 100; paper-name 10003; paper-name 1; paper-name 0; paper-name 20
+    paper-name 00; paper-name 100 1; paper-name x; paper-name 0x; paper-name 2000000000000001
+    paper-name 0x20000000000000001; paper-name V(20); paper-name 0x00000000000000001; paper-name 0X2000000000000001
+    paper-name -0x1; paper-name 0x1G; paper-name NAME; paper-name 0x2000000000000001 33; paper-name 0x2000000000000001 x
+    paper-name 0x2000000000000001 -1; paper-name 0x2000000000000001 26 26; paper-name 0x2000000000000001 0x21
+    paper-name 0x2000000000000001 # note; paper-name 0x2000000000000001 0x2000000000000001
+    paper-name 0x2000000000000001 18446744073709551615; paper-name 0x2000000000000001, 26
+    paper-name 0x2000000000000001 26.; paper-name #; paper-name 0x0 33; paper-name 0x4000000000000001 33
+    paper-name 0x2640000000000001 x; paper-name 0x2000000000000001 corner 1 of 100; from-paper x
+    from-paper 0x2000000000000000; from-paper 0x100; from-paper 0x1; from-paper 0x; from-paper -100; from-paper +100
+    from-paper -1; from-paper 100 1; from-paper 100 27; from-paper 100 x; from-paper 1 0 0; from-paper 1,0,0
+    from-paper 100,; from-paper 100.; from-paper 1.0; from-paper 10O; from-paper l00; from-paper 100a; from-paper a00
+    from-paper 1000a; from-paper 100-; from-paper 10-0; from-paper 1_00; from-paper "100"; from-paper '100'
+    from-paper S(100); from-paper (100); from-paper 100#; from-paper #100; from-paper # 100; from-paper 100 # note
+    from-paper DIGITS; from-paper CODE; from-paper vertex 20; from-paper -vertex 20; from-paper of 100; from-paper - 100
+    from-paper 100 100; from-paper 1003 0x2070000000000000; from-paper 9 x; from-paper 999 999; from-paper 1e2
+    from-paper 51133333333333333333333333x; from-paper 5113333333333333333333333333x; from-paper 99999999999999999999x
+    from-paper-vertex x; from-paper-vertex 0x2000000000000001; from-paper-vertex 0x0; from-paper-vertex 0x20
+    from-paper-vertex -20; from-paper-vertex +20; from-paper-vertex 20 1; from-paper-vertex 20 26; from-paper-vertex 2 0
+    from-paper-vertex 20,; from-paper-vertex 20.; from-paper-vertex 2O; from-paper-vertex 20a; from-paper-vertex a0
+    from-paper-vertex V(20); from-paper-vertex (20); from-paper-vertex 20#; from-paper-vertex # 20; from-paper-vertex #
+    from-paper-vertex DIGITS; from-paper-vertex NAME; from-paper-vertex 20 # note; from-paper-vertex "20"
+    from-paper-vertex 20 x; from-paper-vertex 00 00; from-paper-vertex 99 x; from-paper-vertex 2_0; from-paper-vertex -
+    from-paper-vertex 00000000000000000000000000x; from-paper-vertex 000000000000000000000000000x; paper ١٠٠; paper φ
+    paper −100; paper 100\u00a0; paper \u00a0100; paper 100 ٢٧; paper 100\u00a027; paper-name 0x٢; paper-name φ
+    paper-name 0x2000000000000001\u00a0; paper-name 0x2000000000000001 ٢٦; from-paper ١٠٠; from-paper 10³
+    from-paper 100\u00a0; from-paper \u00a0100; from-paper １００; from-paper φ; from-paper −100; from-paper Σ
+    from-paper-vertex ٢٠; from-paper-vertex 20\u00a0; from-paper-vertex ２０; from-paper-vertex 2⁰; from-paper-vertex Τ
+"""
+
+
+def unreadable_papers():
+    """What can not be read is said before any refusal."""
+    yield from written(UNREADABLE_PAPERS)
+    yield from ["paper 100\x00", "paper \x0c100", "paper 100 27\x0b", "paper 0x0 \x00", "paper \xff", "paper 100 \xff"]
+    yield from (f"paper-name {x}" for x in ("0x2000000000000001\x00", "\x0b0x1", "0x1 \xff", "0x1 26\x0c"))
+    yield from ["from-paper 100\x00", "from-paper \x0c100", "from-paper 10\x0b0", "from-paper \xff", "from-paper \x00"]
+    yield from (f"from-paper-vertex {x}" for x in ("20\x00", "\x0b20", "2\x0c0", "\xb2"))
+    yield from [f"from-paper 100{x}" for x in "/:;<=>?@ABFGZ[`{|}~!*"]
+    yield from [f"from-paper-vertex {x}0" for x in "/:;<=>?@ABFGZ[`{|}~!*"]
+    yield from [filled("paper 100", 996) + " 33", filled("paper-name 0x2000000000000001", 998) + " x"]
+    yield from [filled("from-paper 100", 998) + " 1", filled("from-paper-vertex 20", 998) + " x"]
+    yield from ["from-paper " + "1" * 988 + "x", "from-paper-vertex x" + "0" * 981, "from-paper " + "9" * 500 + " 9"]
+
+
+READABLE_PAPERS = """
+    paper 0x2000000000000000; paper 0xb800000000000000; paper 0xB800000000000000; paper 0x208c000000000000; paper 0x1
+    paper 0x00; paper 0003; paper 6001; paper 711; paper 711333333333333333333333333; paper 0x20000000000000
+    paper 0xaBcDeF0123456789; paper 0xFFFFFFFFFFFFFFFF; paper 0xbe3FffFfffFFFFc0; paper 100 0x1b; paper 100 0x1B
+    paper 100 027; paper 100 0x1a; paper 100 0x20; paper 100 032; paper 100 00000000000000000000000000000027
+    paper 100 0x0; paper 100 000; paper 100 0x000000000000001c; paper 0xbe3fffffffffffc0 0x20; paper 600 0x20
+    paper 0x0 00; paper-name 0x1; paper-name 0x00; paper-name 0x208c000000000003; paper-name 0x263fffffffffffc3
+    paper-name 0xFFFFFFFFFFFFFFFF; paper-name 0x263FFfffffffFFc3; paper-name 0xbE00000000000003
+    paper-name 0xaBcDeF0123456789; paper-name 0x20000000000001; paper-name 0x2000000000000001 0x1a
+    paper-name 0x2000000000000001 0x1A; paper-name 0x2000000000000001 026; paper-name 0x2000000000000001 0x19
+    paper-name 0x2000000000000001 0x20; paper-name 0x2000000000000001 0000
+    paper-name 0x2000000000000001 0000000000000000000000000000000000000032; paper-name 0x0 0x1; from-paper 100
+    from-paper 1001; from-paper 0001; from-paper 00100; from-paper 18446744073709551616; from-paper 18446744073709551615
+    from-paper 4294967396; from-paper 2305843009213693952; from-paper 10010110; from-paper-vertex 0000
+    from-paper-vertex 0100; from-paper-vertex 0020; from-paper-vertex 18446744073709551616; from-paper-vertex 4294967316
+    from-paper-vertex 2305843009213693953; from-paper-vertex 10010110
+"""
+
+
+def spaced_papers():
+    """Either case, leading zeros, tabs and carriage returns, and lines of 1000 bytes and more."""
+    yield from written(READABLE_PAPERS)
+    yield from ["\tpaper\t1001\t", "paper 10003\r", "  paper   511  ", "\rpaper\r100\r27", "paper \t\r 100 \r 27 \t"]
+    yield from ["\tpaper-name\t0x2000000000000001\t", "paper-name 0x2000000000000001\r", "\rpaper-name\r0x1\r26"]
+    yield from ["\tfrom-paper\t1001\t", "from-paper 10003\r", "  from-paper   511  ", "\rfrom-paper\r99"]
+    yield from ["from-paper \t 10", "\tfrom-paper-vertex\t20\t", "from-paper-vertex 2033\r", "  from-paper-vertex   51"]
+    yield "\rfrom-paper-vertex\r0"
+    for length in (999, 1000, 1001, 2000):
+        yield filled("paper 1001", length)
+        yield "paper 1001 " + "0" * (length - 13) + "28"
+        yield filled("paper 1001 27", length, "\t")
+        yield filled("paper-name 0x2000000000000001", length, "\r")
+        yield "paper-name" + " " * (length - 31) + "0x4000000000000001 1"
+        yield " " * (length - len("from-paper 1003")) + "from-paper 1003"
+        yield filled("from-paper 1009", length)
+        yield "from-paper-vertex" + "\t" * (length - 21) + "2033"
+        yield filled("from-paper ", length, "3")
+        yield filled("from-paper-vertex ", length, "0")
+        yield "from-paper 10003"
+
+
+def papers_on_table():
+    """A call on the paper's codes leaves the open table as it is, also one that is refused or can not be read."""
+    for line in ("table 1 80 -1 1 1250 79 0", "table 7 3 500"):
+        yield line
+        for other in ("paper 1001", "paper 1001 28", "paper-name 0x2040000000000003", "from-paper 1001"):
+            yield from [other, "get 1001", "readings"]
+        for other in ("from-paper-vertex 2033", "paper 600 1", "from-paper 1009", "from-paper-vertex 001"):
+            yield from [other, "get 1001", "readings"]
+        for other in ("paper", "paper 1001 33", "paper-name 20", "from-paper x", "from-paper-vertex 20 1"):
+            yield from [other, "readings"]
+
+
+# ==== Internal checks of the paper's formulae, to degree 3
+
+# Section 5, the list before (38): the two domains, of both orientations, whose base vertex is V(Ts), each as o and r of
+# Σ(o)r.
+BASE_DOMAINS = {
+    "0": ((0, "2"), (1, "3")),
+    "1": ((0, "3"), (1, "2")),
+    "2": ((1, "0"), (1, "1")),
+    "3": ((0, "1"), (0, "0")),
+}
+Built = namedtuple("Built", "point pair")
+
+
+def point_below(above, s):
+    """The weights of V(Ts)."""
+    # (36): "V(T0) = V(T), V(T1) = C1(Σ(0)) = C1(Σ(1))"; (37): "V(T2) = C2(Σ(1)), V(T3) = C3(Σ(0))".
+    zero, one = map(centres, above.pair)
+    must(zero[0] == one[0], "(36)", above)
+    return {"0": kept(above.point), "1": zero[0], "2": one[1], "3": zero[2]}[s]
+
+
+@lru_cache(maxsize=1 << 13)
+def built(t):
+    """The weights of V(T), which is not a polar one, and the vertices of both domains whose base vertex it is: from
+    the centres, not by σ."""
+    if len(t) == 2:
+        # "each vertex V(ap) is the base vertex of the domains S(ap0) and S(ap1)"
+        pair = sorted((t + "0", t + "1"), key=lambda sigma: ORIENTATIONS[sigma[1:]])
+        return Built(vertex_weights(t), tuple(domains(0)[sigma] for sigma in pair))
+    above, s = built(t[:-1]), t[-1]
+    return Built(point_below(above, s), tuple(subdomains(above.pair[o])[r] for o, r in BASE_DOMAINS[s]))
+
+
+def built_point(t):
+    """The same weights; a pole stays where it is."""
+    if is_polar(t) or len(t) == 2:
+        return tuple(w << len(t) - 2 for w in vertex_weights(t[:2]))
+    return point_below(built(t[:-1]), t[-1])
+
+
+def check_domain_edges(sigma, vertices):
+    """X1, X2 and X3 by their definition, and (P)."""
+    o, x2, x3, _ = coded(sigma)
+    for i in (1, 2, 3):
+        ends = [p for p in vertices if p != vertices[i - 1]]
+        ((across, others),) = [x for x in domains_with(len(sigma) - 3, ends) if x[0] != sigma]
+        (there,) = [k for k in (1, 2, 3) if others[k - 1] not in ends]
+        # "the number e(O(Σ)*, i) will be called the e-index of the i-th edge". "ordinary (extraordinary) just if the
+        # orientations of these two domains are mutually opposite (equal)".
+        e, e_there = E_OF[1 - o][i], E_OF[1 - coded(across).o][there]
+        extraordinary = o == coded(across).o
+        must(extraordinary == (0, x2, x3)[e - 1], "extraordinary", sigma, i)
+        # "if this edge is ordinary, its indices in both domains are equal; if this edge is extraordinary and it has
+        # index i in one domain, then it has index e(1, i) in the other domain and i ≠ 1"; "if this edge has e-index e
+        # in one domain, then it has e-index e(1, e) in the other domain".
+        must(there == (E_OF[1][i] if extraordinary else i) and (i != 1 or not extraordinary), "(P)", sigma, i)
+        must(e_there == E_OF[1][e], "(P)", sigma, i)
+
+
+def check_domain(sigma, vertices):
+    o, x2, x3, tau = coded(sigma)
+    # "the domain S(Σ) has orientation 0 (orientation 1) just if the number of zeros in its denotation is even (odd)"
+    must(o == sigma.count("0") % 2, "the orientation", sigma)
+    # (45), and what τ gives against the centres.
+    must([built_point(tau[E_OF[o][i] - 1]) for i in (1, 2, 3)] == list(vertices), "(45)", sigma)
+    check_domain_edges(sigma, vertices)
+    # What follows from (46) to (49). The sentence after (49) has {1, 2} in all four places; section 7, before (152) and
+    # before (164), agrees with the formulae.
+    must(x2 == bool(re.fullmatch("[1-5](00[12]*|10[13]*)", sigma)), "X2", sigma)
+    must(x3 == bool(re.fullmatch("[1-5](00[13]*|10[12]*)", sigma)), "X3", sigma)
+
+
+def check_vertex(t):
+    pair = based(0, t), based(1, t)
+    # (44), (35), and "it is always T = τ2(σ(o, T))".
+    must([coded(sigma).o for sigma in pair] == [0, 1], "(44)", t)
+    must(all(coded(sigma).tau[1] == t for sigma in pair), "τ2(σ(o, T))", t)
+    zero, one = map(vertices_of, pair)
+    must(zero[1] == one[2] == vertex_point(t) and zero[2] == one[1], "(35)", t)
+    # (36), (37), and the list before (38).
+    must(vertex_point(t) == built(t).point and (zero, one) == built(t).pair, "from the centres", t)
+    below = [vertex_point(t + s) for s in "0123"]
+    must(below == [kept(zero[1]), centres(zero)[0], centres(one)[1], centres(zero)[2]], "(36), (37)", t)
+    # Section 7, before (152) and before (164).
+    a_p, rest = t[1], set(t[2:])
+    for o, some in ((0, "13"), (1, "12")):
+        must(coded(pair[o]).x3 == (a_p == str(o) and rest <= set(some)), "X3(σ(o, T))", t)
+    for o, some in ((0, "03"), (1, "02")):
+        must(coded(pair[o]).x2 == (a_p == str(o) and rest <= set(some)), "X2(σ(o, T))", t)
+
+
+def vertex_codes(n):
+    """All vertex codes of a degree, the poles' last."""
+    some = itertools.product("12345", "01", *["0123"] * n)
+    return [*map("".join, some), *(f"0{p}{'0' * n}" for p in "01")]
+
+
+def check_poles(n):
+    for t in vertex_codes(n)[-2:]:
+        must({vertices_of(polar_domain(a, t))[0] for a in PLUS} == {built_point(t)}, "the pole of five", t)
+        # Section 7, at its end: "if T has the form 00T{0}, the neighbouring vertices are V(a0T{3}) for all a ..,
+        # where T{3} contains N digits 3", "if T has the form 01T{0}, .. V(a1T{2})".
+        near = {p for _, vertices in domains_with(n, [built_point(t)]) for p in vertices} - {built_point(t)}
+        must(near == {vertex_point(a + t[1] + "32"[int(t[1])] * n) for a in PLUS}, "next to the pole", t)
+
+
+def check_first_centres():
+    """The vertices of degree 1 as the end of section 5 has them."""
+    for a, plus in PLUS.items():
+        ends = {"01": (a + "0", plus + "0"), "02": (a + "0", a + "1"), "03": (a + "0", "00")}  # (63) to (65)
+        ends |= {"11": (a + "1", plus + "1"), "12": (a + "1", "01"), "13": (a + "1", plus + "0")}  # (66) to (68)
+        for t, (one, two) in ends.items():
+            must(vertex_point(a + t) == middle(vertex_weights(one), vertex_weights(two)), "(63) to (68)", a + t)
+        # The poles of the circles in the table after (76), "mutually antipodal".
+        for t, other in (("03", "12"), ("01", "11"), ("02", "13")):
+            must(opposite(vertex_point(a + t)) == vertex_point(PLUS[plus] + other), "antipodal", a + t)
+
+
+def check_paper():
+    must(all(E_OF[o][E_OF[o][r]] == r for o in (0, 1) for r in (0, 1, 2, 3)), "e(o, e(o, r)) = r")
+    check_first_centres()
+    for n in range(FULL + 1):
+        must(len(domains(n)) == 20 * 4**n and set(domains_at(n)) == set(whole_index(n)), "the domains", n)
+        for sigma, vertices in domains(n).items():
+            must(dict(domain_search(n, vertices)).get(sigma) == vertices, "coming down", sigma)
+            check_domain(sigma, vertices)
+        for t in vertex_codes(n)[:-2]:
+            check_vertex(t)
+        check_poles(n)
+        # "an unique coding of each vertex of the net"
+        found = {vertex_code(n, p) for p in whole_index(n)}
+        must(found == set(vertex_codes(n)) and len(found) == len(whole_index(n)), "each code once", n)
+
+
+# ==== Internal checks of what is answered with the paper's codes
+
+PAPER_LINE = re.compile(rf"[ \t\r]*({'|'.join(PAPER_CALLS)})(?![^ \t\r])")
+PAPER_NUMBERS = {"paper": {1, 2, 3, 4, 9}, "paper-name": {1, 2, 3, 4, 10, 9}}
+PAPER_NUMBERS.update({"from-paper": {1, 33}, "from-paper-vertex": {1, 33}})
+DOMAIN_DIGITS, VERTEX_DIGITS = re.compile("[1-5][01][01][0-3]*"), re.compile("[1-5][01][0-3]*|0[01]0*")
+DAMAGED_POLE = re.compile("0([01])(0*)[123](0*)")
+PaperSeen = namedtuple("PaperSeen", "call asked places held no found")
+
+
+def check_domain_digits(code, digits):
+    # "translated corners have the same weights". Since the corners come in document 01's order, so do the digits.
+    must(DOMAIN_DIGITS.fullmatch(digits) and len(digits) == 3 + degree_of(code), "a code of the degree", code, digits)
+    must(vertices_of(digits) == corners(code) and digits == triangle_text(code), "the same weights", code, digits)
+
+
+def check_vertex_digits(name, digits):
+    must(VERTEX_DIGITS.fullmatch(digits) and len(digits) == 2 + degree_of(name), "a code of the degree", name, digits)
+    must(built_point(digits) == named_corner(name), "the same weights", name, digits)
+
+
+def seen_to_paper(call, text, word, places=None):
+    short = places is not None and places < (27 if call == "paper" else 26)
+    held = (code_refusals if call == "paper" else name_refusals)(word) | when(9, short)
+    no = checked_number(call, word) or (9 if 9 in held else 0)
+    told, bar, shown = text.partition(" |")
+    must(bool(bar) == (places is not None), "a list is shown, or not", call, word, text)
+    after_call = list(range(1, (places or 0) + 1))
+    if no:
+        must(told == refused(no), "refused as it is checked, then by the list", call, word, text)
+    else:
+        (check_domain_digits if call == "paper" else check_vertex_digits)(word, told)
+        after_call = [int(digit) for digit in told] + after_call[len(told) :] if bar else []
+    must(shown == "".join(f" {x}" for x in after_call), "the list", call, word, text)
+    return PaperSeen(call, word, places, held, no, None if no else told)
+
+
+def seen_from_paper(call, text, digits):
+    vertex = call == "from-paper-vertex"
+    allowed = (VERTEX_DIGITS if vertex else DOMAIN_DIGITS).fullmatch(digits)
+    held = when(1, len(digits) > (26 if vertex else 27)) | when(33, not allowed)
+    # "one the paper's text doesn't allow is 33, checked after it"
+    no = min(held, default=0)
+    if no:
+        must(text == refused(no), "refused", call, digits, text)
+        return PaperSeen(call, digits, None, held, no, None)
+    word = int(re.search("0x([0-9A-F]{16})", text)[1], 16)
+    must(text == (name_text if vertex else code_text)(word), "as it is written", call, digits, text)
+    must(checked_number("check-name" if vertex else "check", word) == 0, "a good word", call, digits, text)
+    (check_vertex_digits if vertex else check_domain_digits)(word, digits)
+    return PaperSeen(call, digits, None, held, no, word)
+
+
+def seen_paper(line, text):
+    call, *words = parts_of(line)
+    arguments = read_arguments(FORMS[call][1], words)
+    return (seen_from_paper if call.startswith("from-") else seen_to_paper)(call, text, *arguments)
+
+
+def corner_kind(p):
+    """How the weights lie: on a vertex of the icosahedron, on an edge that ends in one, or inside a side."""
+    used = [vertex for vertex, w in zip(ORDER, p) if w != 0]
+    return len(used), any(vertex in ("00", "01") for vertex in used)
+
+
+def check_there_and_back(found):
+    """Each triangle and each corner to degree 5; below that some of every kind, at each degree."""
+    # "There and back gives the same code"
+    of_degree = {(call, n): {} for call in ("paper", "paper-name") for n in range(DEEPEST + 1)}
+    for call in ("paper", "paper-name"):
+        for word, digits in found[call].items():
+            of_degree[call, degree_of(word)][word] = digits
+    for (call, n), here in of_degree.items():
+        back = found["from-paper" if call == "paper" else "from-paper-vertex"]
+        must(all(back.get(digits, word) == word for word, digits in here.items()), "back", call, n)
+        met = {word for word, digits in here.items() if digits in back}
+        if n <= WHOLE:
+            every = whole_degree(n) if call == "paper" else {canonical(n, p) for p in whole_index(n)}
+            must(met == set(every), "each one", call, n)
+        must(len(set(here.values())) == len(here) and len(met) >= 12, "a code for each", call, n)
+        if call == "paper-name":
+            kinds = set(itertools.product((1, 2, 3)[: n + 1], (True, False)))
+            must({corner_kind(named_corner(word)) for word in met} == kinds, "every kind", n)
+        else:
+            alike = {digits[-1] for word, digits in here.items() if word in met and len(set(digits[3:])) == 1}
+            must(n == 0 or alike == set("0123"), "all digits alike", n)
+
+
+def check_paper_numbers(seen):
+    """Each refusal that a call can give is given, and no other, and each two that can hold at once do."""
+    for call, numbers in PAPER_NUMBERS.items():
+        here = [x for x in seen if x.call == call]
+        must({x.no for x in here} == numbers | {0}, "just these refusals, and answers", call)
+        at_once = {frozenset(two) for x in here for two in itertools.combinations(x.held, 2)}
+        must(at_once == together(call, numbers), "just these at once", call, at_once)
+        if call in ("paper", "paper-name"):
+            met = {(x.places, x.no) for x in here}
+            longest = 27 if call == "paper" else 26
+            for places in range(MOST_DIGITS + 1):
+                nos = numbers - {9} | {9 if places < longest else 0}
+                must({(places, no) for no in nos} <= met, "a list of every length", call, places)
+            answered = [places for places, no in met if no == 0 and places is not None]
+            must(min(answered) == longest and max(answered) == MOST_DIGITS, "answered", call)
+        else:
+            least, longest = (3, 27) if call == "from-paper" else (2, 26)
+            met = {(len(x.asked), x.no) for x in here}
+            must({many for many, no in met if no == 0} == set(range(least, longest + 1)), "answered", call)
+            must({many for many, no in met if no == 33} == set(range(1, longest + 1)), "not allowed", call)
+            must(all((no == 1) == (many > longest) for many, no in met), "above degree 24", call)
+            must(max(many for many, _ in met) == 1000 - len(call) - 1, "as many as the line has room for", call)
+
+
+def check_damaged_digits(seen):
+    """Codes of degree 24 with every digit that is not allowed at each place, alone; and of every degree poles with one
+    digit from 1 to 3 at each place."""
+    bad = [x for x in seen if x.call in ALLOWED and x.no == 33]
+    for call, longest in (("from-paper", 27), ("from-paper-vertex", 26)):
+        met = set()
+        for digits in (x.asked for x in bad if x.call == call and len(x.asked) == longest):
+            places = [place for place, digit in enumerate(digits) if digit not in allowed_at(call, place)]
+            met |= {(places[0], digits[places[0]])} if len(places) == 1 else set()
+        every = {(k, digit) for k in range(longest) for digit in set("0123456789") - set(allowed_at(call, k))}
+        must(met == every, "every digit at every place", call, every - met)
+    found = (DAMAGED_POLE.fullmatch(x.asked) for x in bad if x.call == "from-paper-vertex")
+    met = {(x[1], len(x[2]), len(x[3])) for x in found if x}
+    every = {(p, k, n - 1 - k) for p in "01" for n in range(1, DEEPEST + 1) for k in range(n)}
+    must(met == every, "poles with one digit", every - met)
+
+
+def check_paper_answers(calls, answers):
+    lines = [(line, text) for line, text in zip(calls, answers) if PAPER_LINE.match(line)]
+    seen = [seen_paper(line, text) for line, text in lines if not text.startswith(UNREAD)]
+    found = {call: {x.asked: x.found for x in seen if x.call == call and x.no == 0} for call in PAPER_CALLS}
+    check_there_and_back(found)
+    check_paper_numbers(seen)
+    check_damaged_digits(seen)
+
+
+def check_paper_lines():
+    """The answers by hand. And lines that can not be read are all answered by the call's form."""
+    for line, text in PAPER_EXAMPLES.items():
+        must(answer(line) == text, "by hand", line, text, answer(line))
+    for line in unreadable_papers():
         must(answer(line) == "error: write it as " + FORMS[line.split(" ")[0]][0], "unreadable", line)
 
 
@@ -9877,6 +10898,18 @@ SECTIONS = {
     "opposites of other words than names": opposites_of_others,
     "unreadable opposites": unreadable_opposites,
     "spaced opposites": spaced_opposites,
+    "the paper's codes, examples": PAPER_EXAMPLES.keys,
+    "the paper's codes of every triangle and every corner to degree 5": every_paper,
+    "the paper's codes of degrees 6 to 24": deep_papers,
+    "the paper's codes of damaged words": damaged_for_paper,
+    "the paper's codes of other words than names": others_for_paper,
+    "the paper's codes and lent lists of every length": paper_places,
+    "all short codes of the paper": short_papers,
+    "codes of the paper of every length": paper_lengths,
+    "codes of the paper with one digit damaged": damaged_papers,
+    "damaged codes of poles": damaged_poles,
+    "unreadable codes of the paper": unreadable_papers,
+    "spaced codes of the paper": spaced_papers,
     "the last line without a table": last_without_table,
     "no table is open": before_any_table,
     "unreadable lines on a table": unreadable_on_table,
@@ -9909,6 +10942,7 @@ SECTIONS = {
     "lists to be mended while a table is open": mends_on_table,
     "small words while a table is open": smalls_on_table,
     "opposites while a table is open": opposites_on_table,
+    "the paper's codes while a table is open": papers_on_table,
     "full tables": full_tables,
     "the last line": last_line,
 }
@@ -9943,6 +10977,7 @@ def write_files(calls_path, answers_path):
     check_mend_lists(calls, answers)
     check_smalls(calls, answers)
     check_opposite_answers(calls, answers, filed, listed)
+    check_paper_answers(calls, answers)
     write_bytes(calls_path, "\n".join(calls))
     write_bytes(answers_path, "\n".join([*answers, ""]))
 

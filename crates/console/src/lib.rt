@@ -82,6 +82,7 @@ fn call_answer(call: u64, line: &[u8], at: usize, out: &mut [u8]) -> usize
         // mend-cells
         35 => mends::answer(line, at, out),
         36..=40 => smallcalls::answer(call, line, at, out),
+        43..=46 => papercalls::answer(call, line, at, out),
         _ => unknown(out),
     }
 }

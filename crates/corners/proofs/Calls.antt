@@ -148,6 +148,13 @@ module _ (n : ℕ) (weights : List ℕ) where
         (next (le-ltb (length weights) 12 l) (here (either-right (not (eqb (sum (take 12 weights)) (2 ^ n))) _
         (ap not e)))))
 
+-- the least name round a corner of the triangle of a side and a path
+pub made-named : (s n v i : ℕ) {P : List ℕ} {r : CornerName} → IsSide s → n ≤ 24 → v < 2 ^ (2 * n) → OneToThree i
+    → cornerOf s (digitsOf n v) i ≡ P → r ≡ nameOf (leastName 5 (placeAt (wordOf s n v + i))) → IsName n P r
+made-named s n v i {P} hs h k l there e =
+    let f = e ∙ ap (λ (q : Place). nameOf (leastName 5 q)) (made-place s n v i hs h k l) in
+    subst (IsName n P) (sym f) (least-is-name n P (made s n v i hs h k l) (at-made s n v i hs h k l there) h)
+
 -- the name of the corner with twelve weights, from the side that they lie on and a triangle there that has the corner
 pub back-answers : (n : ℕ) (weights : List ℕ) (s : ℕ) (k : Corner) (p : Point) {r : CornerName} → n ≤ 24
     → 12 ≤ length weights
@@ -161,12 +168,8 @@ back-answers n weights s k p {r} h l e hs on is found eq =
     let ws = take 12 weights in
     let twelve : length ws ≡ 12 = length-take-le 12 weights l in
     let there : spread s p ≡ ws = ap (spread s) is ∙ spread-of s ws hs twelve on in
-    let q = made s n (k .path) (k .number) hs h (found .0) (found .1) in
-    let a = at-made s n (k .path) (k .number) hs h (found .0) (found .1) (found .2 ∙ there) in
-    let f : r ≡ nameOf (leastName 5 q) = eq ∙ ap (λ (q : Place). nameOf (leastName 5 q))
-    (made-place s n (k .path) (k .number) hs h (found .0) (found .1)) in
     answering (back-passes n weights .1 (h, l, eqb-true _ _ e, on-one ws s hs on))
-    (record { number = refl; is = subst (IsName n ws) (sym f) (least-is-name n ws q a h) })
+    (record { number = refl; is = made-named s n (k .path) (k .number) hs h (found .0) (found .1) (found .2 ∙ there) eq })
 
 -- the three weights of a side on which all twelve lie add to their sum
 pub back-total : (n : ℕ) (weights : List ℕ) (s : ℕ) (p : Point) → 12 ≤ length weights

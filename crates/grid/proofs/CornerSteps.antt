@@ -19,11 +19,12 @@ use Rattle.net.specs.Steps.{SameTwo}
 use Rattle.net.proofs.CodePlaces.{codeFor, corner-at, digitsIn, for-code, for-corner, in-digits, in-length}
 use Rattle.net.proofs.Loads.{corner-is}
 use Rattle.net.proofs.Paths.{Digits, are-digits, are-length}
+use Rattle.net.proofs.Spread.{middle-turned}
 use Rattle.net.proofs.StateCode.{spread-length}
 use Rattle.net.proofs.Table.{three}
 use Rattle.grid.specs.Counts.{Edge, IsCorner, IsEdge}
 use Rattle.grid.proofs.Differing.{edge-there, edges-differ}
-use Rattle.grid.proofs.Middles.{Leans, Twelve, kept-one, middle-not-kept, middle-one, middle-turned, state-leans}
+use Rattle.grid.proofs.Middles.{Leans, Twelve, kept-one, middle-not-kept, middle-one, state-leans}
 
 -- ---- sides and digits
 

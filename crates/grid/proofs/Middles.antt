@@ -41,13 +41,6 @@ at-middle (x ∷ xs) [] l v = absurd (omega arith)
 at-middle (x ∷ xs) (y ∷ ys) l zero = refl
 at-middle (x ∷ xs) (y ∷ ys) l (suc v) = at-middle xs ys (omega arith) v
 
--- the ends in the other order
-pub middle-turned : (p q : Weights) → middle p q ≡ middle q p
-middle-turned [] [] = refl
-middle-turned [] (y ∷ ys) = refl
-middle-turned (x ∷ xs) [] = refl
-middle-turned (x ∷ xs) (y ∷ ys) = let e : x + y ≡ y + x = omega arith in λ i. e i ∷ middle-turned xs ys i
-
 -- weights that agree at each vertex are the same
 same-places : (p q : Weights) → length p ≡ length q → ((v : ℕ) → v < length p → getD p v 0 ≡ getD q v 0) → p ≡ q
 same-places [] [] l f = refl

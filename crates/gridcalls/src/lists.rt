@@ -149,7 +149,7 @@ fn with_places(q: Asked, line: &[u8], at: usize, usual: usize, out: &mut [u8]) -
     requires { ⌜ (at ≤ length (now line)) × (usual ≤ 16) × (16384 ≤ length (now out)) ⌝ }
     ensures { λ r. ⌜ r ≤ 16000 ⌝ }
 {
-    let p = arguments::places_at(line, at, usual);
+    let p = arguments::places_at(line, at, usual, 16);
     if !p.read {
         return 0;
     }

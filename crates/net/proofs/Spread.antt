@@ -6,7 +6,8 @@ use mathlib.Core.List.{List, [], _∷_}
 use Prim.Native.Nat.{ℕ, zero, suc, _+_, _*_}
 use native.Mathlib.Omega.{arith}
 use lib.Dec.{eqb}
-use Rattle.net.specs.Division.{Triangle, divide, each, kept, load, m1, m2, m3, middle, triangleAt, unitAt, vertices}
+use Rattle.net.specs.Division.{Triangle, Weights, divide, each, kept, load, m1, m2, m3, middle, triangleAt, unitAt}
+use Rattle.net.specs.Division.{vertices}
 use Rattle.net.specs.Means.Spreads.{spread, weightAt}
 use Rattle.net.specs.Means.States.{first, point, second, stateOf, step, third}
 use Rattle.net.specs.Sides.{cornerVertex}
@@ -38,6 +39,15 @@ load-twice false x = refl
 load-add : (b : Bool) (x y : ℕ) → load b (x + y) ≡ load b x + load b y
 load-add true x y = refl
 load-add false x y = refl
+
+-- a middle's ends in the other order
+pub middle-turned : (p q : Weights) → middle p q ≡ middle q p
+middle-turned [] [] = refl
+middle-turned [] (y ∷ ys) = refl
+middle-turned (x ∷ xs) [] = refl
+middle-turned (x ∷ xs) (y ∷ ys) =
+    let e : x + y ≡ y + x = omega arith in
+    λ i. e i ∷ middle-turned xs ys i
 
 pub each-same : (f g : ℕ → ℕ) → ((v : ℕ) → f v ≡ g v) → (vs : List ℕ) → each f vs ≡ each g vs
 each-same f g e [] = refl

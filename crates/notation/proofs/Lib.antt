@@ -2,6 +2,7 @@
 pub mod Domains
 pub mod Directions
 pub mod Pairs
+pub mod Printed
 pub mod BaseSides
 pub mod Vertices
 pub mod Reading

@@ -52,10 +52,10 @@ module _ (n s : ℕ) (w : Weights) (twelve : length w ≡ 12) (e : sum w ≡ 2 ^
 
 -- ---- none was: a pole
 
-no-digits : (n : ℕ) (es : List ℕ) → areZeros es ≡ true → areZeros (onto (digitsOf n 0) es) ≡ true
+pub zero-digits : (n : ℕ) (es : List ℕ) → areZeros es ≡ true → areZeros (onto (digitsOf n 0) es) ≡ true
 unfolding digitsOf
-no-digits zero es h = h
-no-digits (suc n) es h = no-digits n (0 ∷ es) h
+zero-digits zero es h = h
+zero-digits (suc n) es h = zero-digits n (0 ∷ es) h
 
 -- which of the two: the one at which the weight is
 module _ (n : ℕ) {w : Weights} (s : ℕ) (p : Point) (h : IsSide s) (k : p .w1 + p .w2 + p .w3 ≡ 2 ^ n)
@@ -91,7 +91,7 @@ by-pole n {w} p b e which q y =
     ⊎-elim
     (λ x.
     let z = polar-spelt n (l .s) (l .p) (l .a-side) (l .total) ss (reversed-long (digitsOf n 0) ∙ of-length n 0)
-    (no-digits n [] refl) x in
+    (zero-digits n [] refl) x in
     let v = which (l .s) (l .p) (l .a-side) (l .total) (l .is) x in
     spelt-same
     (subst (Spelt n (0 ∷ p ∷ ss)) (l .is) (subst (λ (v : ℕ). Spelt n (0 ∷ v ∷ ss) (spread (l .s) (l .p))) v z)) y)

@@ -61,7 +61,7 @@ ones (suc n) = 1 ∷ ones n
 abbrev pub poleSide : ℕ → ℕ
 poleSide p = 4 + 2 * p
 
-ones-digits : (n : ℕ) → AreDigits n (ones n)
+pub ones-digits : (n : ℕ) → AreDigits n (ones n)
 ones-digits zero = none
 ones-digits (suc n) = more {d = 1} (omega arith) (ones-digits n)
 
@@ -340,32 +340,33 @@ spelt-pole p ss h z = record {
 side-is : (t : ℕ) → IsSide t → baseSide (t / 4) (t / 2 % 2) (orientation t) ≡ t
 side-is = sound (sides λ t. same (baseSide (t / 4) (t / 2 % 2) (orientation t)) t) refl
 
--- of corner 2 of a domain of orientation 0
+-- of corner 2 of a domain of orientation 0, by the directions ts, the last first
+pub spelt-parts : (n a p : ℕ) (ts : List ℕ) → 1 ≤ a → a ≤ 5 → p ≤ 1 → AreDigits n ts
+    → Spelt n (a ∷ p ∷ reversed ts) (cornerOf (sideBy a p 0 ts) (parts 0 ts) 2)
+spelt-parts n zero p ts l h k d = absurd (omega arith)
+spelt-parts n (suc a) p ts l h k d = record {
+  allowed = and-true _ _ .1 (
+    and-true _ _ .1 (le-leb 1 (suc a) l, le-leb (suc a) 5 h),
+    and-true _ _ .1
+        (le-leb p 1 k, are-onto [] d refl),
+  );
+  degree = omega (arith, reversed-long ts, are-length d);
+  there = point-is a p (reversed ts) k
+      ∙ ap (λ (x : List ℕ). cornerOf (sideBy (suc a) p 0 x) (parts 0 x) 2) (reversed-twice ts);
+}
+
+-- and by the domain's own digits
 pub spelt-by : (n t : ℕ) (es : List ℕ) → IsSide t → AreDigits n es → sideTurn 0 es ≡ orientation t
     → Spelt n (t / 4 ∷ t / 2 % 2 ∷ reversed (directions 0 es)) (cornerOf t es 2)
 spelt-by n t es h d e =
-    let a = t / 4 - 1 in
-    let f : suc a ≡ t / 4 = omega (arith, h .0) in
-    let p = t / 2 % 2 in
     let ts = directions 0 es in
-    let td = directions-digits 0 es d in
     let back = directions-parts 0 es d in
-    let s : sideBy (suc a) p 0 ts ≡ t =
-    ap (λ (ds : List ℕ). baseSide (suc a) p (sideTurn 0 ds)) back ∙ ap (baseSide (suc a) p) e
-    ∙ ap (λ (b : ℕ). baseSide b p (orientation t)) f ∙ side-is t h in
-    let k : suc a ≤ 5 = omega (arith, f, h .1) in
-    subst (λ (b : ℕ). Spelt n (b ∷ p ∷ reversed ts) (cornerOf t es 2)) f
-    (record {
-      allowed = and-true _ _ .1 (
-        and-true _ _ .1 (le-leb 1 (suc a) (omega arith), le-leb (suc a) 5 k),
-        and-true _ _ .1
-            (le-leb p 1 (omega arith), are-onto [] td refl),
-      );
-      degree = omega (arith, reversed-long ts, are-length td);
-      there = point-is a p (reversed ts) (omega arith)
-          ∙ ap (λ (x : List ℕ). cornerOf (sideBy (suc a) p 0 x) (parts 0 x) 2) (reversed-twice ts)
-          ∙ (λ i. cornerOf (s i) (back i) 2);
-    })
+    let s : sideBy (t / 4) (t / 2 % 2) 0 ts ≡ t =
+    ap (λ (ds : List ℕ). baseSide (t / 4) (t / 2 % 2) (sideTurn 0 ds)) back
+    ∙ ap (baseSide (t / 4) (t / 2 % 2)) e ∙ side-is t h in
+    subst (Spelt n (t / 4 ∷ t / 2 % 2 ∷ reversed ts)) (λ i. cornerOf (s i) (back i) 2)
+    (spelt-parts n (t / 4) (t / 2 % 2) ts (omega (arith, h .0)) (omega (arith, h .1)) (omega arith)
+    (directions-digits 0 es d))
 
 -- of twelve weights, by the side of that domain: es are the digits of its state
 pub spelt-base : (n t : ℕ) (P : Weights) (es : List ℕ) → length P ≡ 12 → BaseIn P t → AreDigits n es

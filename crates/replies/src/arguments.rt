@@ -204,10 +204,10 @@ fn length_at(line: &[u8], at: usize, most: usize) -> FoundLength
     }
 }
 
-// The optional last argument of a call with a lent list, which has `usual` places without it.
-pub fn places_at(line: &[u8], at: usize, usual: usize) -> Places
-    requires { ⌜ (at ≤ length (now line)) × (usual ≤ 16) ⌝ }
-    ensures { λ r. ⌜ r .count ≤ 16 ⌝ }
+// The optional last argument of a call with a lent list, which has `usual` places without it, and at most so many.
+pub fn places_at(line: &[u8], at: usize, usual: usize, most: usize) -> Places
+    requires { ⌜ (at ≤ length (now line)) × (usual ≤ most) ⌝ }
+    ensures { λ r. ⌜ r .count ≤ most ⌝ }
 {
     if at_end(line, at) {
         return Places {
@@ -216,7 +216,7 @@ pub fn places_at(line: &[u8], at: usize, usual: usize) -> Places
             count: usual,
         };
     }
-    let n = length_at(line, at, 16);
+    let n = length_at(line, at, most);
     Places {
         read: n.read & at_end(line, n.next),
         shown: true,

@@ -3,15 +3,16 @@ use crate::arguments;
 ghost use Prim.Native.Nat.{_≤_};
 ghost use lib.ListN.{length};
 
-const HELP: [u8; 8395] = *b"The grid of the globe: one call to a line, and one line for its answer.
+const HELP: [u8; 9022] = *b"The grid of the globe: one call to a line, and one line for its answer.
 
   WORD     0x and 1 to 16 hexadecimal digits
   CODE     a triangle code, as 10003 for side 100 and digits 0 and 3; or a WORD
   NAME     a corner name, as a WORD
   SMALL    a small word, of 32 bits: 0x and 1 to 8 hexadecimal digits
   X Y Z    a direction: three whole numbers
-  PLACES   0 to 16: how many places the lent list has. They hold 1, 2, 3 and so on before the call,
-           and stand after the answer as the call leaves them
+  PLACES   0 to 16, of paper and paper-name 0 to 32: how many places the lent list has. They hold 1, 2, 3 and so on
+           before the call, and stand after the answer as the call leaves them
+  DIGITS   a code of source document 000, its digits written together
   MM       millimetres, a whole number: a reading is 0 to 100000. VALUE, FILL of table and NUMBER are whole numbers too
   DESK     1 for the ice desk, 2 for the pilotage desk. OWNER and FILL of owners: 0 for nobody, or any to 255
 
@@ -116,6 +117,18 @@ cross-small SMALL EDGE              cross on small words
 
 file-small DEGREE X Y Z             file on small words
   file-small 2 0 0 1                10003 0x21180000
+
+paper CODE [PLACES]                 the triangle's code in source document 000
+  paper 10003                       10003
+
+paper-name NAME [PLACES]            the corner's code there
+  paper-name 0x2040000000000003     103
+
+from-paper DIGITS                   the triangle of a code of source document 000
+  from-paper 10003                  10003 0x208C000000000000
+
+from-paper-vertex DIGITS            the name of the corner of a vertex's code there
+  from-paper-vertex 103             0x2040000000000003 corner 3 of 1000
 
 table DEGREE [LENGTH FILL [PLACE VALUE]..]
                                     opens a table of soundings with no readings, of degree 0 to 6; or any

@@ -4,7 +4,7 @@ ghost use Prim.Native.Nat.{_+_, _≤_};
 ghost use lib.ListN.{length};
 
 // How each call is written. A call is known by the number of its row, from 0.
-const CALLS: [u8; 817] = *b"help
+const CALLS: [u8; 905] = *b"help
 check CODE
 parent CODE
 check-name NAME
@@ -46,7 +46,11 @@ check-small SMALL
 cross-small SMALL EDGE
 file-small DEGREE X Y Z
 opposite CODE
-opposite-name NAME";
+opposite-name NAME
+paper CODE [PLACES]
+paper-name NAME [PLACES]
+from-paper DIGITS
+from-paper-vertex DIGITS";
 
 // Document 01, 'Refusal numbers': when each is given, from 1.
 const REASONS: [u8; 559] = *b"a degree, as field or argument, is above 24
@@ -62,7 +66,7 @@ a word passes 1 to 4 as a corner name and is not the canonical one
 no corner of the degree has the twelve weights";
 
 // Document 02: the same, from 20.
-const REASONS_FROM_20: [u8; 453] = *b"wrong degree
+const REASONS_FROM_20: [u8; 491] = *b"wrong degree
 reading out of range
 the list's length isn't 20*4^degree
 the list holds a number that is neither a reading nor -1
@@ -74,7 +78,8 @@ a list of counts or sums has the wrong length
 the stored count or sum of the parent concerned differs from its children's readings
 a degree, as field or argument, is 12 to 24
 the last bit is set
-a list has more than 4,096 words";
+a list has more than 4,096 words
+a code the paper's text doesn't allow";
 
 // Document 02, 2026-09: the reasons of an offending place, from 1.
 const OFFENCES: [u8; 80] = *b"invalid
@@ -182,9 +187,9 @@ fn row_named(table: &[u8], rows: u64, word: &[u8]) -> u64 {
 
 // ---- what is told
 
-// The call that a word names; 43 where it names none.
+// The call that a word names; 47 where it names none.
 pub fn call_named(word: &[u8]) -> u64 {
-    row_named(&CALLS, 43, word)
+    row_named(&CALLS, 47, word)
 }
 
 // The form of a call.

@@ -1,6 +1,6 @@
 #!/usr/bin/env python3
-"""Every example of README.md, of CONSOLE.md, DESKS.md, COARSE.md, HARBOUR.md and OPPOSITES.md in docs/, and of the
-console's help is compared by the gate.
+"""Every example of README.md, of CONSOLE.md, DESKS.md, COARSE.md, HARBOUR.md, OPPOSITES.md and PAPER.md in docs/, and
+of the console's help is compared by the gate.
 
 `rt ci` runs the console on the calls of crates/plot_main/stdin and holds what it writes to crates/plot_main/stdout. The
 first call is help; every line after it has one line as its answer. Here each example must stand there with just that
@@ -132,7 +132,7 @@ def check_row(place):
     return check_lines(place, re.findall(r"^    \S.*", (ROOT / place).read_text(), re.M))
 
 
-# ---- docs/HARBOUR.md and docs/OPPOSITES.md: among pictures, calls that have arguments, each with its answer
+# ---- docs/HARBOUR.md, docs/OPPOSITES.md and docs/PAPER.md: among pictures, calls that have arguments, each with its answer
 
 def check_calls(place):
     lines = re.findall(r"^    (\S+(?: \S+)+) {2,}(\S.*)$", (ROOT / place).read_text(), re.M)
@@ -178,6 +178,7 @@ counts = {
     "docs/COARSE.md": check_row("docs/COARSE.md"),
     "docs/HARBOUR.md": check_calls("docs/HARBOUR.md"),
     "docs/OPPOSITES.md": check_calls("docs/OPPOSITES.md"),
+    "docs/PAPER.md": check_calls("docs/PAPER.md"),
     "README.md": check_readme(),
 }
 check_table()

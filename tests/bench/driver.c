@@ -13,7 +13,7 @@
 #include <stdlib.h>
 #include <string.h>
 
-uint64_t lent[12];
+uint64_t lent[32];
 size_t sweep_length;
 
 /* The empty function: one instruction, the return. */

@@ -41,7 +41,7 @@ extern const struct call calls[];
 extern const size_t calls_count;
 
 /* The list that is lent to calls that write one. */
-extern uint64_t lent[12];
+extern uint64_t lent[32];
 
 /* How many directions a sweep has: `sweep-1000` is the call `sweep` with 1000. */
 extern size_t sweep_length;

@@ -1,5 +1,5 @@
-/* The calls of document 01, the opposites, those of a table of soundings and of a cell list, as crates/bench exports
- * them, and those of the crate host: all of its own, and checking; and mending in C. */
+/* The calls of document 01, the opposites, those on the paper's codes, those of a table of soundings and of a cell list,
+ * as crates/bench exports them, and those of the crate host: all of its own, and checking; and mending in C. */
 #include "../../include/dogrzewin.h"
 #include "directions.h"
 #include "driver.h"
@@ -7,14 +7,16 @@
 
 #include <string.h>
 
-/* The two that inputs are prepared with, and those that are only run. */
+/* Those that inputs are prepared with, and those that are only run. */
 uint64_t bench_name(uint64_t code, uint64_t corner);
 uint64_t bench_file(uint64_t degree, int32_t x, int32_t y, int32_t z);
 uint64_t bench_weights(uint64_t code, uint64_t corner, uint64_t *out, size_t places);
+uint64_t bench_paper(uint64_t code, uint64_t *out, size_t places);
+uint64_t bench_paper_name(uint64_t name, uint64_t *out, size_t places);
 any_function bench_parent, bench_child, bench_opposite, bench_cross, bench_opposite_name, bench_back,
     bench_name_weights, bench_ring, bench_exact, bench_name_exact, bench_t, bench_name_t, bench_drawn, bench_name_drawn,
     bench_list, bench_sweep, bench_get, bench_take, bench_set, bench_clear, bench_give, bench_work_out,
-    bench_check_cells, bench_cells_line, bench_mend_cells;
+    bench_check_cells, bench_cells_line, bench_mend_cells, bench_from_paper, bench_from_paper_vertex;
 
 /* ---- words */
 
@@ -95,6 +97,32 @@ static int give_weights(struct input *in, const char *kind, uint64_t degree) {
     bench_weights(in->argument[0], in->argument[1], in->weights, 12);
     in->argument[0] = degree;
     give_list(in, 1, in->weights, 12);
+    return known;
+}
+
+/* The paper's codes: a list that has places for the longest one, and a list of just a code's digits. */
+static int give_code_and_places(struct input *in, const char *kind, uint64_t degree) {
+    give_list(in, 1, lent, 27);
+    return give_code(in, kind, degree);
+}
+
+static int give_name_and_places(struct input *in, const char *kind, uint64_t degree) {
+    int known = give_name(in, kind, degree);
+    give_list(in, 1, lent, 26);
+    return known;
+}
+
+static int give_domain(struct input *in, const char *kind, uint64_t degree) {
+    uint64_t *digits = new_list(27, sizeof *digits);
+    int known = give_code(in, kind, degree);
+    give_list(in, 0, digits, bench_paper(in->argument[0], digits, 27));
+    return known;
+}
+
+static int give_vertex(struct input *in, const char *kind, uint64_t degree) {
+    uint64_t *digits = new_list(26, sizeof *digits);
+    int known = give_name(in, kind, degree);
+    give_list(in, 0, digits, bench_paper_name(in->argument[0], digits, 26));
     return known;
 }
 
@@ -493,6 +521,10 @@ const struct call calls[] = {
     {"cross", bench_cross, WORD, give_code_and_number},
     {"name", (any_function *)bench_name, WORD, give_code_and_number},
     {"opposite-name", bench_opposite_name, WORD, give_name},
+    {"paper", (any_function *)bench_paper, CODES, give_code_and_places},
+    {"paper-name", (any_function *)bench_paper_name, CODES, give_name_and_places},
+    {"from-paper", bench_from_paper, WORD, give_domain},
+    {"from-paper-vertex", bench_from_paper_vertex, WORD, give_vertex},
     {"back", bench_back, WORD, give_weights},
     {"weights", (any_function *)bench_weights, WEIGHTS, give_code_and_list},
     {"name-weights", bench_name_weights, WEIGHTS, give_name_and_list},

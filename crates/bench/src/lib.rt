@@ -1,7 +1,8 @@
-// The calls of document 01, the opposites, those of a table of soundings, and those of a cell list, exported to C, for
-// `./bench` to count; checking is the crate host's. Each is thin: it hands the numbers on, and answers one number that
-// depends on all numbers of the answer, so that the compiler can leave nothing out. Where a code or a name is answered,
-// this is the code (with the edge's number in its lowest bits) or the name, or the refusal's number.
+// The calls of document 01, the opposites, those on the paper's codes, those of a table of soundings, and those of a
+// cell list, exported to C, for `./bench` to count; checking is the crate host's. Each is thin: it hands the numbers on,
+// and answers one number that depends on all numbers of the answer, so that the compiler can leave nothing out. Where a
+// code or a name is answered, this is the code (with the edge's number in its lowest bits) or the name, or the refusal's
+// number.
 // Two calls are counted without all of their answer: crossing drops how the corners turned, as the call for a C host
 // does, and get answers what the table has alone.
 // A contract says that the number is made of the call's own answer; those that mix signed numbers or floats have none.
@@ -26,6 +27,7 @@ ghost use Rattle.corners.specs.declared.NameAnswer.{NameAnswer};
 ghost use Rattle.corners.specs.declared.CountAnswer.{CountAnswer};
 ghost use Rattle.directions.specs.Answers.{FileAnswer, ListAnswer};
 ghost use Rattle.opposites.specs.Answers.{OppositeAnswer, OppositeNameAnswer};
+ghost use Rattle.paper.specs.Answers.{FromDomainAnswer, FromVertexAnswer, ToDomainAnswer, ToVertexAnswer};
 ghost use Rattle.sweeps.specs.Answers.{SweepResult};
 ghost use Rattle.sweeps.specs.declared.SweepAnswer.{SweepAnswer};
 ghost use Rattle.tables.specs.Owners.{shared};
@@ -142,6 +144,52 @@ pub extern "C" fn bench_ring(name: u64, out: &mut [u64]) -> u64
 {
     let r = grid::ring(CornerName(name), out);
     r.count ^ r.refusal
+}
+
+// ---- the paper's codes
+
+#[no_mangle]
+pub extern "C" fn bench_paper(code: u64, out: &mut [u64]) -> u64
+    ensures { λ r. ⌜
+        ((a : CountAnswer) × ToDomainAnswer (codeOf code) (now (out .entry)) a (now (out .exit))
+        × (r ≡ bitXor (a .count) (a .refusal)))
+        ⌝ }
+{
+    let r = paper::to_domain(TriangleCode(code), out);
+    r.count ^ r.refusal
+}
+
+#[no_mangle]
+pub extern "C" fn bench_paper_name(name: u64, out: &mut [u64]) -> u64
+    ensures { λ r. ⌜
+        ((a : CountAnswer) × ToVertexAnswer (nameOf name) (now (out .entry)) a (now (out .exit))
+        × (r ≡ bitXor (a .count) (a .refusal)))
+        ⌝ }
+{
+    let r = paper::to_vertex(CornerName(name), out);
+    r.count ^ r.refusal
+}
+
+#[no_mangle]
+pub extern "C" fn bench_from_paper(code: &[u64]) -> u64
+    ensures { λ r. ⌜
+        ((a : CodeAnswer) × FromDomainAnswer (now (code .entry)) a
+        × (r ≡ bitXor (a .code .0) (a .refusal)))
+        ⌝ }
+{
+    let r = paper::from_domain(code);
+    r.code.0 ^ r.refusal
+}
+
+#[no_mangle]
+pub extern "C" fn bench_from_paper_vertex(code: &[u64]) -> u64
+    ensures { λ r. ⌜
+        ((a : NameAnswer) × FromVertexAnswer (now (code .entry)) a
+        × (r ≡ bitXor (a .name .0) (a .refusal)))
+        ⌝ }
+{
+    let r = paper::from_vertex(code);
+    r.name.0 ^ r.refusal
 }
 
 // ---- a corner's place

@@ -6,4 +6,5 @@ pub mod Cells
 pub mod Mending
 pub mod Harbour
 pub mod Opposites
+pub mod Paper
 pub mod Verdicts

@@ -113,6 +113,13 @@ fn of_name(line: &[u8], at: usize, out: &mut [u8]) -> usize
 
 // ---- from the paper
 
+// A digit at a place of a list, if it has that place.
+fn put_at(d: u64, i: usize, list: &mut [u64]) {
+    if i < list.len() {
+        list[i] = d;
+    }
+}
+
 // Whether a word is of decimal digits alone. As many of them as a list has places for are put there.
 fn read_digits(word: &[u8], list: &mut [u64]) -> bool {
     let mut i = 0;
@@ -124,9 +131,7 @@ fn read_digits(word: &[u8], list: &mut [u64]) -> bool {
         if 57 < b {
             return false;
         }
-        if i < list.len() {
-            list[i] = (b - 48) as u64;
-        }
+        put_at((b - 48) as u64, i, list);
         i += 1;
     }
     true
@@ -143,6 +148,17 @@ fn code_answer(call: u64, code: &[u64], out: &mut [u8]) -> usize
         46 => answers::name(paper::from_vertex(code), out),
         _ => 0,
     }
+}
+
+// The first n of the digits, or all where there are not so many.
+fn of_first(call: u64, list: &[u64], n: usize, out: &mut [u8]) -> usize
+    requires { ⌜ 16384 ≤ length (now out) ⌝ }
+    ensures { λ r. ⌜ r ≤ 16000 ⌝ }
+{
+    if list.len() < n {
+        return code_answer(call, list, out);
+    }
+    code_answer(call, &list[..n], out)
 }
 
 // Of a longer code its first 28 digits are handed on: they are more than any code of degree 24 has.
@@ -163,11 +179,7 @@ fn of_digits(call: u64, line: &[u8], at: usize, out: &mut [u8]) -> usize
     if !arguments::at_end(line, end) {
         return 0;
     }
-    let n = end - from;
-    if 28 < n {
-        return code_answer(call, &list, out);
-    }
-    code_answer(call, &list[..n], out)
+    of_first(call, &list, end - from, out)
 }
 
 pub fn answer(call: u64, line: &[u8], at: usize, out: &mut [u8]) -> usize

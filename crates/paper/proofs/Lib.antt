@@ -3,3 +3,4 @@ pub mod FromPaper
 pub mod ToPaper
 pub mod VertexNames
 pub mod Promises
+pub mod Examples

@@ -84,8 +84,10 @@ pub record Mistakes : Type 0 where
   -- the polar code with a = 1, as its name has it
   pub pole-as-1 : ToVertexAnswer (nameOf 0x2000000000000001) (replicate 26 9) (countAnswer 0 2)
       (1 ∷ 0 ∷ replicate 24 9) → ⊥
-  -- trailing zeros dropped, in the list or in the count
+  -- trailing zeros dropped, in the list, in the count, or in both
   pub zeros-dropped : ToVertexAnswer (nameOf 0x58C2000000000002) (replicate 26 9) (countAnswer 0 4)
+      (2 ∷ 1 ∷ 3 ∷ 2 ∷ replicate 22 9) → ⊥
+  pub not-written : ToVertexAnswer (nameOf 0x58C2000000000002) (replicate 26 9) (countAnswer 0 5)
       (2 ∷ 1 ∷ 3 ∷ 2 ∷ replicate 22 9) → ⊥
   pub not-counted : ToVertexAnswer (nameOf 0x58C2000000000002) (replicate 26 9) (countAnswer 0 4)
       (2 ∷ 1 ∷ 3 ∷ 2 ∷ 0 ∷ replicate 21 9) → ⊥

@@ -1,7 +1,7 @@
 -- From a domain's digits to the directions of its base vertex and back: each undoes the other. Assumes nothing.
 use mathlib.Core.Path.{_≡_, _∙_, refl, ap}
 use mathlib.Core.List.{List, [], _∷_}
-use Prim.Native.Nat.{ℕ, zero, suc, _-_, _≤_}
+use Prim.Native.Nat.{ℕ, zero, suc, _≤_}
 use native.Mathlib.Omega.{arith}
 use Rattle.words.proofs.Digits.{AreDigits, none, more}
 use Rattle.notation.specs.Means.Directions.{other, turned, directions, parts, sideTurn}

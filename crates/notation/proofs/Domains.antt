@@ -27,7 +27,7 @@ use Rattle.notation.specs.Means.Reading.{onto, reversed}
 -- ---- the formulae
 
 -- (24) to (27) are document 01's division
-pub parted-is : (r : ℕ) (d : Triangle) → parted r d ≡ divide r d
+parted-is : (r : ℕ) (d : Triangle) → parted r d ≡ divide r d
 parted-is zero d = refl
 parted-is (suc zero) d = refl
 parted-is (suc (suc zero)) d = refl

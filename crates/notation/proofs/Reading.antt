@@ -3,15 +3,13 @@ use mathlib.Core.Path.{_≡_, _∙_, refl, sym, ap}
 use mathlib.Core.Bool.{Bool, true, false, _&&_, true≢false}
 use mathlib.Core.List.{List, [], _∷_, _++_, append-assoc}
 use Prim.Native.Nat.{ℕ, zero, suc, _+_, _-_, _*_, _/_, _%_, _^_, _≤_, _<_}
-use native.Mathlib.Nat.{mul-assoc, mul-le-mul-left, mul-le-mul-right}
 use native.Mathlib.Omega.{arith}
 use lib.Dec.{leb}
-use lib.ListN.{length, getD, take, drop, set, length-append}
-use lib.Pow.{pow-pos}
-use lib.Seq.{take-all}
+use lib.ListN.{length, getD, drop, drop-of-length-le, set, length-append}
+use lib.Pow.{pow-mono}
+use lib.Seq.{drop-cons}
 use borrow.Author.Tests.{le-leb, lt-leb}
 use Rattle.frame.specs.Answers.{over}
-use Rattle.frame.proofs.Lengths.{over-next}
 use Rattle.words.specs.Words.{path}
 use Rattle.net.specs.Means.Paths.{digitsOf}
 use Rattle.net.proofs.Canonical.{and-true}
@@ -19,41 +17,37 @@ use Rattle.net.proofs.Paths.{four, of-length}
 use Rattle.net.proofs.SeamCode.{not-zero}
 use Rattle.notation.specs.Domains.{areDigits}
 use Rattle.notation.specs.Means.Reading.{only, onto, reversed, taken}
+use Rattle.notation.specs.declared.Digits.{Digits}
 use Rattle.notation.specs.declared.Digits.the-variants.{Path, Wrong}
 
 -- ---- reading
 
-pub take-none : (v : ℕ) (rs : List ℕ) → length rs ≡ 0 → Path v ≡ taken v rs
-unfolding taken
-take-none v [] e = refl
-take-none v (r ∷ rs) e = absurd (omega arith)
+-- a digit more of a list, from the place i on
+module _ (v : ℕ) (rs : List ℕ) (i : ℕ) where
+  abbrev next : Digits
+  next = taken (4 * v + getD rs i 0) (drop (suc i) rs)
 
-pub take-no : (v : ℕ) (rs : List ℕ) → (length rs ≡ 0 → ⊥) → 3 < getD rs 0 0 → Wrong ≡ taken v rs
-unfolding taken
-take-no v [] e l = absurd (e refl)
-take-no v (r ∷ rs) e l = rw (lt-leb r 3 l) refl
+  pub take-no : i < length rs → 3 < getD rs i 0 → Wrong ≡ taken v (drop i rs)
+  unfolding taken
+  take-no l h = sym (ap (taken v) (drop-cons rs i 0 l) ∙ ap (λ (b : Bool). only b next) (lt-leb (getD rs i 0) 3 h))
 
-pub take-next : (v : ℕ) (rs : List ℕ) → (length rs ≡ 0 → ⊥) → getD rs 0 0 ≤ 3
-    → taken (4 * v + getD rs 0 0) (take (length rs - 1) (drop 1 rs)) ≡ taken v rs
-unfolding taken
-take-next v [] e l = absurd (e refl)
-take-next v (r ∷ rs) e l =
-    rw (le-leb r 3 l) (ap (taken (4 * v + r)) (take-all (suc (length rs) - 1) rs (omega arith)))
+  pub take-next : i < length rs → getD rs i 0 ≤ 3 → taken (4 * v + getD rs i 0) (drop (i + 1) rs) ≡ taken v (drop i rs)
+  unfolding taken
+  take-next l h =
+      let n : i + 1 ≡ suc i = omega arith in
+      ap (λ (k : ℕ). taken (4 * v + getD rs i 0) (drop k rs)) n
+      ∙ sym (ap (taken v) (drop-cons rs i 0 l) ∙ ap (λ (b : Bool). only b next) (le-leb (getD rs i 0) 3 h))
 
--- the room falls to a quarter
-pub room-next : (v n d : ℕ) → (n ≡ 0 → ⊥) → d ≤ 3 → (v + 1) * 2 ^ (2 * n) ≤ 2 ^ 48
-    → ((4 * v + d + 1) * 2 ^ (2 * (n - 1)) ≤ 2 ^ 48) × (4 * v + d < 2 ^ 48)
-room-next v zero d z l h = absurd (z refl)
-room-next v (suc n) d z l h =
-    let q = 2 ^ (2 * n) in
-    let e : suc n - 1 ≡ n = omega arith in
-    let g : (v + 1) * 4 ≡ 4 * v + 4 = omega arith in
-    let f : (v + 1) * 2 ^ (2 * suc n) ≡ (4 * v + 4) * q =
-    rw (four n) (sym (mul-assoc (v + 1) 4 q) ∙ ap (λ (x : ℕ). x * q) g) in
-    let k : (4 * v + d + 1) * q ≤ (4 * v + 4) * q = mul-le-mul-right q (omega arith) in
-    let m : (4 * v + d + 1) * 1 ≤ (4 * v + d + 1) * q = mul-le-mul-left (4 * v + d + 1) (pow-pos (2 * n)) in
-    let all : (4 * v + d + 1) * q ≤ 2 ^ 48 = omega (arith, h, f, k) in
-    rw e (all, omega (arith, all, m))
+  pub take-end : length rs ≤ i → Path v ≡ taken v (drop i rs)
+  unfolding taken
+  take-end l = sym (ap (taken v) (drop-of-length-le rs l))
+
+-- the path of i digits, and of one more
+pub room-next : (v i d : ℕ) → v < 2 ^ (2 * i) → d ≤ 3 → i < 24 → (4 * v + d < 2 ^ (2 * (i + 1))) × (4 * v + d < 2 ^ 48)
+room-next v i d h l k =
+    let n : i + 1 ≡ suc i = omega arith in
+    let r : 4 * v + d < 2 ^ (2 * suc i) = omega (arith, four i) in
+    (rw n r, omega (arith, r, pow-mono {i = 2 * suc i} {j = 48} (omega arith)))
 
 -- the digits of a list, after those of ds, are the list's the other way round and then ds
 pub taken-path : (rs ds : List ℕ) (v : ℕ) → v ≡ path ds → areDigits rs ≡ true
@@ -76,7 +70,7 @@ taken-no (r ∷ rs) v h = go (leb r 3) h (taken-no rs (4 * v + r))
 
 -- ---- writing
 
-pub onto-more : (ds es : List ℕ) → onto ds es ≡ reversed ds ++ es
+onto-more : (ds es : List ℕ) → onto ds es ≡ reversed ds ++ es
 onto-more [] es = refl
 onto-more (d ∷ ds) es =
     onto-more ds (d ∷ es) ∙ sym (append-assoc (reversed ds) (d ∷ []) es)
@@ -93,17 +87,26 @@ unfolding digitsOf
 digits-more n v = not-zero (λ n. digitsOf n v ≡ v % 4 ∷ digitsOf (n - 1) (v / 4))
     (λ n. let e : suc n - 1 ≡ n = omega arith in rw e refl) n
 
-pub put-none : (n v : ℕ) (out : List ℕ) → n ≡ 0 → out ≡ over (reversed (digitsOf n v)) out
-unfolding digitsOf
-put-none n v out e = rw e refl
+-- the last of some digits written, and the rest before it
+drop-set : (out : List ℕ) (k x : ℕ) → k < length out → drop k (set out k x) ≡ x ∷ drop (suc k) out
+drop-set [] k x l = absurd (omega arith)
+drop-set (o ∷ out) zero x l = refl
+drop-set (o ∷ out) (suc k) x l = drop-set out k x (omega arith)
 
-pub put-last : (n v : ℕ) (out new : List ℕ) → (n ≡ 0 → ⊥) → n ≤ length out
-    → new ≡ over (reversed (digitsOf (n - 1) (v / 4))) out
-    → set new (n - 1) (v % 4) ≡ over (reversed (digitsOf n v)) out
-put-last n v out new z l e =
-    let ds = digitsOf (n - 1) (v / 4) in
-    let k : length (reversed ds) ≡ n - 1 = reversed-long ds ∙ of-length (n - 1) (v / 4) in
-    ap (λ (r : List ℕ). set r (n - 1) (v % 4)) e
-    ∙ over-next (reversed ds) out (v % 4) (n - 1) k (omega arith)
+pub put-last : (i v : ℕ) (out : List ℕ) → 0 < i → i ≤ length out
+    → over (reversed (digitsOf (i - 1) (v / 4))) (set out (i - 1) (v % 4)) ≡ over (reversed (digitsOf i v)) out
+put-last i v out z l =
+    let ds = digitsOf (i - 1) (v / 4) in
+    let k : length (reversed ds) ≡ i - 1 = reversed-long ds ∙ of-length (i - 1) (v / 4) in
+    let more : suc (length (reversed ds)) ≡ length (reversed ds ++ (v % 4 ∷ [])) =
+    omega (arith, length-append (reversed ds) (v % 4 ∷ [])) in
+    ap (λ (j : ℕ). reversed ds ++ drop (length (reversed ds)) (set out j (v % 4))) (sym k)
+    ∙ ap (λ (r : List ℕ). reversed ds ++ r) (drop-set out (length (reversed ds)) (v % 4) (omega arith))
+    ∙ sym (append-assoc (reversed ds) (v % 4 ∷ []) (drop (suc (length (reversed ds))) out))
+    ∙ ap (λ (j : ℕ). (reversed ds ++ (v % 4 ∷ [])) ++ drop j out) more
     ∙ ap (λ (r : List ℕ). over r out) (sym (onto-more ds (v % 4 ∷ [])))
-    ∙ ap (λ (ds : List ℕ). over (reversed ds) out) (sym (digits-more n v z))
+    ∙ ap (λ (ds : List ℕ). over (reversed ds) out) (sym (digits-more i v (λ e. omega arith)))
+
+pub put-all : (i v : ℕ) (out : List ℕ) → i ≤ 0 → over (reversed (digitsOf i v)) out ≡ out
+unfolding digitsOf
+put-all i v out h = let e : i ≡ 0 = omega arith in rw e refl

@@ -356,7 +356,7 @@ spelt-parts n (suc a) p ts l h k d = record {
 }
 
 -- and by the domain's own digits
-pub spelt-by : (n t : ℕ) (es : List ℕ) → IsSide t → AreDigits n es → sideTurn 0 es ≡ orientation t
+spelt-by : (n t : ℕ) (es : List ℕ) → IsSide t → AreDigits n es → sideTurn 0 es ≡ orientation t
     → Spelt n (t / 4 ∷ t / 2 % 2 ∷ reversed (directions 0 es)) (cornerOf t es 2)
 spelt-by n t es h d e =
     let ts = directions 0 es in
@@ -388,7 +388,7 @@ base-total n t P l e x =
     ∙ sym (sum-spread t q (x .a-side)) ∙ ap sum (spread-of t P (x .a-side) l (x .lies)) ∙ e
 
 -- a polar corner is at its pole
-pub polar-spread : (s x : ℕ) (p : Point) → Polar s p → p .w1 ≡ x
+polar-spread : (s x : ℕ) (p : Point) → Polar s p → p .w1 ≡ x
     → spread s p ≡ spread (poleSide (cornerVertex s 1)) (point x 0 0)
 unfolding spread weightAt
 polar-spread s x p h e =

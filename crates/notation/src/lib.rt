@@ -44,30 +44,35 @@ pub struct Vertex {
 
 // ---- digits
 
-// The path of the digits of list after those of the path v. (As deep as the list is long: 24 at most.)
-pub fn read_digits(v: u64, list: &[u64]) -> Digits
-    requires { ⌜ (v + 1) * 2 ^ (2 * length (now list)) ≤ 2 ^ 48 ⌝ }
-    ensures { λ r. ⌜ r ≡ taken v (now (list .entry)) ⌝ }
+// The path of the digits of a list, or that one of them is none.
+pub fn read_digits(list: &[u64]) -> Digits
+    requires { ⌜ length (now list) ≤ 24 ⌝ }
+    ensures { λ r. ⌜ r ≡ taken 0 (now (list .entry)) ⌝ }
 {
-    if list.len() == 0 {
-        return Digits::Path(v);
+    let mut v = 0;
+    let mut i = 0;
+    while i < list.len() {
+        let d = list[i];
+        if 3 < d {
+            return Digits::Wrong;
+        }
+        v = 4 * v + d;
+        i += 1;
     }
-    let d = list[0];
-    if 3 < d {
-        return Digits::Wrong;
-    }
-    read_digits(4 * v + d, &list[1..])
+    Digits::Path(v)
 }
 
-// The n digits of the path v, the first first, over the front of a list. (As deep as n: 24 at most.)
+// The n digits of the path v, the first first, over the front of a list: from the last to the first.
 pub fn put_digits(n: u64, v: u64, out: &mut [u64])
     requires { ⌜ n ≤ length (now out) ⌝ }
     ensures { λ _. ⌜ now (out .exit) ≡ over (reversed (digitsOf n v)) (now (out .entry)) ⌝ }
 {
-    if n != 0 {
-        put_digits(n - 1, v / 4, out);
-        let i = (n - 1) as usize;
-        out[i] = v % 4;
+    let mut rest = v;
+    let mut i = n as usize;
+    while 0 < i {
+        i -= 1;
+        out[i] = rest % 4;
+        rest = rest / 4;
     }
 }
 

@@ -8,7 +8,6 @@ use Prim.Native.Nat.{ℕ, _+_, _-_, _*_, _^_, _≤_, _<_}
 use native.Mathlib.Omega.{arith}
 use lib.Dec.{leb, leb·suc-suc, ltb}
 use lib.ListN.{length, getD, take, drop, length-drop}
-use lib.Pow.{pow-mono}
 use lib.Seq.{drop-cons, take-all}
 use borrow.Author.Tests.{le-leb, le-ltb, leb-true, lt-ltb, ltb-false, not-false}
 use Rattle.frame.specs.Answers.{Answer}
@@ -42,8 +41,8 @@ pub rest-long : (h : ℕ) (xs : List ℕ) → length (rest h xs) ≡ length xs -
 rest-long h xs = ap length (rest-drop h xs) ∙ length-drop h xs
 
 -- 24 at most can be read
-pub read-room : (h : ℕ) (xs : List ℕ) → length xs ≤ h + 24 → (0 + 1) * 2 ^ (2 * length (rest h xs)) ≤ 2 ^ 48
-read-room h xs l = omega (arith, pow-mono {i = 2 * length (rest h xs)} {j = 48} (omega (arith, rest-long h xs)))
+pub read-room : (h : ℕ) (xs : List ℕ) → length xs ≤ h + 24 → length (rest h xs) ≤ 24
+read-room h xs l = omega (arith, rest-long h xs)
 
 path-or-wrong : {v : ℕ} → Path v ≡ Wrong → ⊥
 path-or-wrong e = let z : _≡_ {A = ℕ} 0 1 = cc in absurd (omega arith)

@@ -47,7 +47,7 @@ set-front : (xs out : List ℕ) → length xs ≤ length out → sets out 0 xs �
 set-front xs out l =
     sets-eq xs out 0 (omega arith) ∙ ap (λ (n : ℕ). xs ++ drop n out) (zero-add (length xs))
 
-pub laid : (xs ds out late : List ℕ) (n v : ℕ) → length xs ≤ length out → digitsOf n v ≡ ds
+laid : (xs ds out late : List ℕ) (n v : ℕ) → length xs ≤ length out → digitsOf n v ≡ ds
     → (let mid = sets out 0 xs in
     let h = length xs in
     late ≡ over (reversed (digitsOf n v)) (take (length mid - h) (drop h mid))

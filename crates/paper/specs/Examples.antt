@@ -1,6 +1,5 @@
 -- Document 02, 2026-13: examples, and wrong answers. Assumes nothing.
-use mathlib.Core.Path.{_≡_}
-use mathlib.Core.List.{[], _∷_, _++_}
+use mathlib.Core.List.{[], _∷_}
 use Prim.Native.Nat.{ℕ, suc}
 use lib.ListN.{replicate}
 use Rattle.frame.specs.Promises.{_gives_, _leaves_}

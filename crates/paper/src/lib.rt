@@ -69,7 +69,7 @@ pub fn from_domain(code: &[u64]) -> CodeAnswer
     if !begins(a, p, q) {
         return refused(33);
     }
-    match notation::read_digits(0, &code[3..]) {
+    match notation::read_digits(&code[3..]) {
         Digits::Path(v) => CodeAnswer {
             refusal: 0,
             code: TriangleCode(words::word_of(4 * a + 2 * p + q, (m - 3) as u64, v)),
@@ -167,7 +167,7 @@ pub fn from_vertex(code: &[u64]) -> NameAnswer
     if 1 < p {
         return no_name(33);
     }
-    match notation::read_digits(0, &code[2..]) {
+    match notation::read_digits(&code[2..]) {
         Digits::Path(v) => vertex_name(a, p, (m - 2) as u64, v),
         Digits::Wrong => no_name(33),
     }

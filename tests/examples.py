@@ -132,7 +132,7 @@ def check_row(place):
     return check_lines(place, re.findall(r"^    \S.*", (ROOT / place).read_text(), re.M))
 
 
-# ---- docs/HARBOUR.md, docs/OPPOSITES.md and docs/PAPER.md: among pictures, calls that have arguments, each with its answer
+# ---- docs/HARBOUR.md, OPPOSITES.md and PAPER.md: among pictures, calls that have arguments, each with its answer
 
 def check_calls(place):
     lines = re.findall(r"^    (\S+(?: \S+)+) {2,}(\S.*)$", (ROOT / place).read_text(), re.M)

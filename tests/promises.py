@@ -19,8 +19,8 @@ as places, all of them, and the last one must-fail edits, as `crate/edit`; a cra
 row. In the table by calls each call of document 01 (a method of words/src/lib.rt's TriangleCode, or what
 grid/src/lib.rt hands on), each call of a table, each of a sweep, each on a cell list, each on the small form (a method
 of harbour/src/lib.rt's SmallCode, or a function of that crate, which is written with its name), each of the opposites,
-each on the paper's codes and each exported to C has its row, with two edits or more of code. Every edit stands in a row. Each of these calls has
-its row where contracts are held to promises, under the name that its promise has.
+each on the paper's codes and each exported to C has its row, with two edits or more of code. Every edit stands in a
+row. Each of these calls has its row where contracts are held to promises, under the name that its promise has.
 
 The crates in the tables of README.md and ARCHITECTURE.md are the libraries of crates.txt, and the modules that
 ARCHITECTURE.md names stand in their crates. LANDINGS.md tells what was, and is not read.

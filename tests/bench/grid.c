@@ -1,5 +1,5 @@
-/* The calls of document 01, the opposites, those on the paper's codes, those of a table of soundings and of a cell list,
- * as crates/bench exports them, and those of the crate host: all of its own, and checking; and mending in C. */
+/* The calls of document 01, the opposites, those on the paper's codes, those of a table of soundings and of a cell
+ * list, as crates/bench exports them, and those of the crate host: all of its own, and checking; and mending in C. */
 #include "../../include/dogrzewin.h"
 #include "directions.h"
 #include "driver.h"

@@ -169,7 +169,10 @@ back-answers n weights s k p {r} h l e hs on is found eq =
     let twelve : length ws ≡ 12 = length-take-le 12 weights l in
     let there : spread s p ≡ ws = ap (spread s) is ∙ spread-of s ws hs twelve on in
     answering (back-passes n weights .1 (h, l, eqb-true _ _ e, on-one ws s hs on))
-    (record { number = refl; is = made-named s n (k .path) (k .number) hs h (found .0) (found .1) (found .2 ∙ there) eq })
+    (record {
+      number = refl;
+      is = made-named s n (k .path) (k .number) hs h (found .0) (found .1) (found .2 ∙ there) eq;
+    })
 
 -- the three weights of a side on which all twelve lie add to their sum
 pub back-total : (n : ℕ) (weights : List ℕ) (s : ℕ) (p : Point) → 12 ≤ length weights

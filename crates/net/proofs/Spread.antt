@@ -6,8 +6,8 @@ use mathlib.Core.List.{List, [], _∷_}
 use Prim.Native.Nat.{ℕ, zero, suc, _+_, _*_}
 use native.Mathlib.Omega.{arith}
 use lib.Dec.{eqb}
-use Rattle.net.specs.Division.{Triangle, Weights, divide, each, kept, load, m1, m2, m3, middle, triangleAt, unitAt}
-use Rattle.net.specs.Division.{vertices}
+use Rattle.net.specs.Division.{Triangle, Weights, divide, each, kept, load, m1, m2, m3, middle}
+use Rattle.net.specs.Division.{triangleAt, unitAt, vertices}
 use Rattle.net.specs.Means.Spreads.{spread, weightAt}
 use Rattle.net.specs.Means.States.{first, point, second, stateOf, step, third}
 use Rattle.net.specs.Sides.{cornerVertex}

@@ -271,7 +271,8 @@ on-too s t p h has =
 -- so on its own
 pub on-side : (s : ℕ) (p : Point) → IsSide s → onSide s 0 (spread s p) ≡ true
 on-side s p h =
-    on-too s s p h (λ i l w. three (λ i. HasVertex s (cornerVertex s i)) (inl refl) (inr (inl refl)) (inr (inr refl)) i l)
+    on-too s s p h (λ i l w.
+    three (λ i. HasVertex s (cornerVertex s i)) (inl refl) (inr (inl refl)) (inr (inr refl)) i l)
 
 -- the point that twelve weights are on the side s has their weights at its corners, and elsewhere none
 module _ (s : ℕ) (P : List ℕ) (h : IsSide s) where

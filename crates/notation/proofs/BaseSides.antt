@@ -1,5 +1,6 @@
 -- A corner that is no pole is corner 2 of just one domain of orientation 0. In which side that lies is told by the
--- vertices at which the corner has weight, and so by two tables over the sides. Assumes nothing.
+-- vertices at which the corner has weight, and so by tables over the sides: no two sides, some side or a pole, and no
+-- pole. Assumes nothing.
 use mathlib.Core.Path.{_≡_, _∙_, refl, sym, ap}
 use mathlib.Core.Logic.{_⊎_, inl, inr, ⊎-elim}
 use mathlib.Core.Bool.{true}
@@ -20,6 +21,7 @@ use Rattle.net.proofs.Halving.{one-list}
 use Rattle.net.proofs.Loads.{at-vertex, corner-is, same-weights, spread-one}
 use Rattle.net.proofs.Loads.{weight, weight-has, weight-other, weight-own}
 use Rattle.net.proofs.Paths.{Digits}
+use Rattle.net.proofs.Rings.{sign-low, sign-pos}
 use Rattle.net.proofs.SharedVertices.{HasVertex, has-or-not, hasVertex, vertex-small}
 use Rattle.net.proofs.Spread.{same-point}
 use Rattle.net.proofs.StateCode.{on-too}
@@ -154,7 +156,7 @@ one-side : (s : ℕ) → IsSide s → (t : ℕ) → IsSide t → Meets s t → M
 unfolding cornerVertex
 one-side = sound (sides λ s. sides λ t. meets s t then meets t s then same s t) refl
 
--- a corner of which both have weight lies in both
+-- the vertices at which a base vertex of s has weight are vertices of t, where it lies on t
 base-meets : (s t : ℕ) (p q : Point) → IsSide s → spread s p ≡ spread t q → isBase s p ≡ true → Meets s t
 base-meets s t p q h e b =
     let has = weight-has s t p q h e in
@@ -211,14 +213,6 @@ some-side =
     (same x 0 and same y 0 and same z 0) or (less (cornerVertex s 1) 2 and same y 0 and same z 0)
     or some 20 λ j. serves s x y z (4 + j)) refl
 
-sign-low : (x : ℕ) → sign x < 2
-sign-low zero = omega arith
-sign-low (suc x) = omega arith
-
-sign-one : (x : ℕ) → 1 ≤ x → sign x ≡ 1
-sign-one zero l = absurd (omega arith)
-sign-one (suc x) l = refl
-
 sign-some : (x : ℕ) → sign x ≡ 1 → 1 ≤ x
 sign-some zero e = absurd (omega (arith, e))
 sign-some (suc x) e = omega arith
@@ -257,8 +251,8 @@ module _ (s : ℕ) (p : Point) (h : IsSide s) where
       record {
         a-side = ht;
         lies = on-too s t p h (three (λ i. 1 ≤ weight i p → HasVertex t (cornerVertex s i))
-            (λ w. x .0 (sign-one (p .w1) w)) (λ w. x .1 .0 (sign-one (p .w2) w))
-            (λ w. x .1 .1 .0 (sign-one (p .w3) w)));
+            (λ w. x .0 (sign-pos (p .w1) w)) (λ w. x .1 .0 (sign-pos (p .w2) w))
+            (λ w. x .1 .1 .0 (sign-pos (p .w3) w)));
         is-base = needs-base t (pointIn t P)
             (⊎-elim (λ y. inl (y .0, there 2 (omega arith) (y .1)))
             (λ y. inr (y .0, (there 1 (omega arith) (y .1 .0), there 3 (omega arith) (y .1 .1))))

@@ -1,16 +1,18 @@
 -- The paper's domains are our triangles: (16) to (19) are our sides, (24) to (27) our division. So each domain's code
 -- has one of our codes, and the other way round. Assumes nothing.
 use mathlib.Core.Path.{_≡_, _∙_, refl, sym, ap, subst}
-use mathlib.Core.Bool.{true, false, _&&_}
-use mathlib.Core.List.{List, [], _∷_, _++_, append-nil}
+use mathlib.Core.Bool.{true, _&&_, true≢false}
+use mathlib.Core.List.{List, [], _∷_, reverse, reverseAux}
 use Prim.Native.Nat.{ℕ, zero, suc, _+_, _/_, _%_, _≤_}
 use native.Mathlib.Omega.{arith}
 use lib.Dec.{leb}
 use lib.ListN.{length}
 use borrow.Author.Tests.{le-leb, leb-true}
-use Rattle.words.specs.Words.{side, sideOf, degreeOf}
+use Rattle.words.specs.Words.{side, sideOf, degreeOf, path, wordOf}
+use Rattle.words.specs.Family.{codeOf}
 use Rattle.words.specs.Refusals.{IsCode}
 use Rattle.words.specs.declared.TriangleCode.{TriangleCode}
+use Rattle.words.proofs.Codes.{code-degree}
 use Rattle.words.proofs.Digits.{AreDigits, none, more}
 use Rattle.net.specs.Sides.{IsSide, cornerVertex, sideCorner}
 use Rattle.net.specs.Division.{Triangle, triangle, divide, triangleAt, cornerOf, unitAt}
@@ -22,7 +24,7 @@ use Rattle.net.proofs.Paths.{are-digits, are-length}
 use Rattle.net.proofs.Table.{three}
 use Rattle.notation.specs.Domains.{isA, isBit, areDigits, isDomain, firstDomain, parted, partedBy, domain}
 use Rattle.notation.specs.Same.{SameDomain}
-use Rattle.notation.specs.Means.Reading.{onto, reversed}
+use Rattle.notation.proofs.Reading.{reverse-long}
 
 -- ---- the formulae
 
@@ -53,42 +55,35 @@ first-is a p q h k =
 
 -- ---- digits, the first first and the last first
 
-parted-by : (s : ℕ) (rs ds : List ℕ) → partedBy rs (triangleAt s ds) ≡ triangleAt s (onto rs ds)
+parted-by : (s : ℕ) (rs ds : List ℕ) → partedBy rs (triangleAt s ds) ≡ triangleAt s (reverseAux rs ds)
 unfolding partedBy triangleAt
 parted-by s [] ds = refl
 parted-by s (r ∷ rs) ds = ap (partedBy rs) (parted-is r (triangleAt s ds)) ∙ parted-by s rs (r ∷ ds)
 
-pub onto-digits : (rs : List ℕ) {n : ℕ} {ds : List ℕ} → areDigits rs ≡ true → AreDigits n ds
-    → AreDigits (length rs + n) (onto rs ds)
-onto-digits [] {n} {ds} h a = let e : n ≡ 0 + n = omega arith in subst (λ (m : ℕ). AreDigits m ds) e a
-onto-digits (r ∷ rs) {n} {ds} h a =
+pub reverse-digits : (rs : List ℕ) {n : ℕ} {ds : List ℕ} → areDigits rs ≡ true → AreDigits n ds
+    → AreDigits (length rs + n) (reverseAux rs ds)
+reverse-digits [] {n} {ds} h a = let e : n ≡ 0 + n = omega arith in subst (λ (m : ℕ). AreDigits m ds) e a
+reverse-digits (r ∷ rs) {n} {ds} h a =
     let x = and-true (leb r 3) (areDigits rs) .0 h in
     let e : length rs + suc n ≡ suc (length rs) + n = omega arith in
-    subst (λ (m : ℕ). AreDigits m (onto rs (r ∷ ds))) e (onto-digits rs (x .1) (more (leb-true r 3 (x .0)) a))
+    subst (λ (m : ℕ). AreDigits m (reverseAux rs (r ∷ ds))) e (reverse-digits rs (x .1) (more (leb-true r 3 (x .0)) a))
 
-pub onto-one : (rs ss : List ℕ) {ds es : List ℕ} → length rs ≡ length ss → onto rs ds ≡ onto ss es
+pub reverse-one : (rs ss : List ℕ) {ds es : List ℕ} → length rs ≡ length ss → reverseAux rs ds ≡ reverseAux ss es
     → (rs ≡ ss) × (ds ≡ es)
-onto-one [] [] l e = (refl, e)
-onto-one [] (s ∷ ss) l e = absurd (omega arith)
-onto-one (r ∷ rs) [] l e = absurd (omega arith)
-onto-one (r ∷ rs) (s ∷ ss) {ds} {es} l e =
-    let x = onto-one rs ss {ds = r ∷ ds} {es = s ∷ es} (omega arith) e in
+reverse-one [] [] l e = (refl, e)
+reverse-one [] (s ∷ ss) l e = absurd (omega arith)
+reverse-one (r ∷ rs) [] l e = absurd (omega arith)
+reverse-one (r ∷ rs) (s ∷ ss) {ds} {es} l e =
+    let x = reverse-one rs ss {ds = r ∷ ds} {es = s ∷ es} (omega arith) e in
     let y : r ∷ ds ≡ s ∷ es = x .1 in
     let f : r ≡ s = cc in
     let g : ds ≡ es = cc in
     ((λ i. f i ∷ x .0 i), g)
 
-pub are-onto : {n : ℕ} {ds : List ℕ} (es : List ℕ) → AreDigits n ds → areDigits es ≡ true
-    → areDigits (onto ds es) ≡ true
-are-onto es none h = h
-are-onto es (more {d = d} l a) h = are-onto (d ∷ es) a (and-true (leb d 3) (areDigits es) .1 (le-leb d 3 l, h))
-
-onto-onto : (ds es fs : List ℕ) → onto (onto ds es) fs ≡ onto es (ds ++ fs)
-onto-onto [] es fs = refl
-onto-onto (d ∷ ds) es fs = onto-onto ds (d ∷ es) fs
-
-pub reversed-twice : (ds : List ℕ) → reversed (reversed ds) ≡ ds
-reversed-twice ds = onto-onto ds [] [] ∙ append-nil ds
+pub are-reverse : {n : ℕ} {ds : List ℕ} (es : List ℕ) → AreDigits n ds → areDigits es ≡ true
+    → areDigits (reverseAux ds es) ≡ true
+are-reverse es none h = h
+are-reverse es (more {d = d} l a) h = are-reverse (d ∷ es) a (and-true (leb d 3) (areDigits es) .1 (le-leb d 3 l, h))
 
 -- ---- a code of the paper, read
 
@@ -104,13 +99,10 @@ pub record Read (xs : List ℕ) : Type 0 where
   pub q-ok : q ≤ 1
   pub rs-ok : areDigits rs ≡ true
 
-pub false-true : {A : Type 0} → false ≡ true → A
-false-true e = let z : _≡_ {A = ℕ} 0 1 = cc in absurd (omega arith)
-
 read : (xs : List ℕ) → isDomain xs ≡ true → Read xs
-read [] h = false-true h
-read (a ∷ []) h = false-true h
-read (a ∷ p ∷ []) h = false-true h
+read [] h = absurd (true≢false (sym h))
+read (a ∷ []) h = absurd (true≢false (sym h))
+read (a ∷ p ∷ []) h = absurd (true≢false (sym h))
 read (a ∷ p ∷ q ∷ rs) h =
     let x = and-true (isA a) (isBit p && (isBit q && areDigits rs)) .0 h in
     let y = and-true (isBit p) (isBit q && areDigits rs) .0 (x .1) in
@@ -134,7 +126,7 @@ module _ (xs : List ℕ) (x : Read xs) (short : length xs ≤ 27) where
   s = side (x .a) (x .p) (x .q)
 
   abbrev ds : List ℕ
-  ds = onto (x .rs) []
+  ds = reverseAux (x .rs) []
 
   -- our code
   abbrev pub ours : TriangleCode
@@ -144,7 +136,7 @@ module _ (xs : List ℕ) (x : Read xs) (short : length xs ≤ 27) where
   size = let e : length xs ≡ suc (suc (suc (length (x .rs)))) = ap length (x .is) in omega arith
 
   are : AreDigits (length (x .rs) + 0) ds
-  are = onto-digits (x .rs) (x .rs-ok) none
+  are = reverse-digits (x .rs) (x .rs-ok) none
 
   ds-size : length ds ≡ length (x .rs)
   ds-size = omega (arith, are-length are)
@@ -204,6 +196,16 @@ domain-code {m} {n} {t = t} {u = u} x y =
     let e : m ≡ n = omega (arith, x .degree, y .degree) in
     same-corners (subst (λ (m : ℕ). IsCode m t) e (x .code)) (y .code) (sym (x .corners) ∙ y .corners)
 
+-- which has the same side and digits
+pub domain-digits : {n a p q : ℕ} {rs : List ℕ} {t : TriangleCode} → SameDomain n (a ∷ p ∷ q ∷ rs) t
+    → t ≡ codeOf (wordOf (side a p q) (length rs) (path (reverse rs)))
+unfolding read
+domain-digits {n} {a} {p} {q} {rs} x =
+    let xs = a ∷ p ∷ q ∷ rs in
+    let l : length xs ≤ 27 = omega (arith, x .degree, code-degree (x .code)) in
+    domain-code x (ours-same xs (read xs (x .allowed)) l (x .allowed))
+    ∙ ap (λ (m : ℕ). codeOf (wordOf (side a p q) m (path (reverse rs)))) (reverse-long rs)
+
 -- to the paper: no two lists
 pub domain-list : {n : ℕ} {xs ys : List ℕ} {t : TriangleCode} → n ≤ 24 → SameDomain n xs t → SameDomain n ys t
     → xs ≡ ys
@@ -221,7 +223,7 @@ domain-list {n} {xs} {ys} short x y =
     let f : side (a .a) (a .p) (a .q) ≡ side (b .a) (b .p) (b .q) =
     sym (ours-side xs a lx) ∙ ap (λ (t : TriangleCode). sideOf (t .0)) e ∙ ours-side ys b ly in
     let d = sym (ours-digits xs a lx) ∙ ap digitsIn e ∙ ours-digits ys b ly in
-    let g = onto-one (a .rs) (b .rs) (na ∙ sym nb) d .0 in
+    let g = reverse-one (a .rs) (b .rs) (na ∙ sym nb) d .0 in
     let ea : a .a ≡ b .a = omega (arith, f, a .p-ok, a .q-ok, b .p-ok, b .q-ok) in
     let ep : a .p ≡ b .p = omega (arith, f, a .p-ok, a .q-ok, b .p-ok, b .q-ok) in
     let eq : a .q ≡ b .q = omega (arith, f, a .p-ok, a .q-ok, b .p-ok, b .q-ok) in

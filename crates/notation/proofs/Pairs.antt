@@ -1,12 +1,11 @@
 -- S(σ(0, T)) and S(σ(1, T)) by T's directions, the last first: (38) to (43) are one rule for both. Assumes nothing.
 use mathlib.Core.Path.{_≡_, _∙_, refl, ap}
-use mathlib.Core.List.{List, [], _∷_}
+use mathlib.Core.List.{List, [], _∷_, reverse, reverseAux}
 use Prim.Native.Nat.{ℕ, zero, suc, _≤_}
 use native.Mathlib.Omega.{arith}
 use Rattle.net.specs.Division.{Triangle, cornerOf, triangleAt}
 use Rattle.notation.specs.Vertices.{Pair, pair, basePair, nextPair, pairBy, point}
 use Rattle.notation.specs.Means.Directions.{parts, sideTurn, baseSide}
-use Rattle.notation.specs.Means.Reading.{onto, reversed}
 use Rattle.notation.proofs.Domains.{first-is}
 
 -- the side of σ(o, T), and S(σ(o, T))
@@ -34,14 +33,14 @@ next-both a p (suc zero) ss = refl
 next-both a p (suc (suc zero)) ss = refl
 next-both a p (suc (suc (suc s))) ss = refl
 
-both-by : (a p : ℕ) (ss ts : List ℕ) → pairBy ss (both a p ts) ≡ both a p (onto ss ts)
+both-by : (a p : ℕ) (ss ts : List ℕ) → pairBy ss (both a p ts) ≡ both a p (reverseAux ss ts)
 unfolding pairBy
 both-by a p [] ts = refl
 both-by a p (s ∷ ss) ts = ap (pairBy ss) (next-both a p s ts) ∙ both-by a p ss (s ∷ ts)
 
 -- V(T) is corner 2 of σ(0, T)
 pub point-is : (a p : ℕ) (ss : List ℕ) → p ≤ 1
-    → point (suc a ∷ p ∷ ss) ≡ cornerOf (sideBy (suc a) p 0 (reversed ss)) (parts 0 (reversed ss)) 2
+    → point (suc a ∷ p ∷ ss) ≡ cornerOf (sideBy (suc a) p 0 (reverse ss)) (parts 0 (reverse ss)) 2
 unfolding cornerOf
 point-is a p ss h =
     ap (λ (x : Pair). pairBy ss x .zeroth .a2) (base-both (suc a) p h)

@@ -36,7 +36,7 @@ pub shares : (a p : ℕ) (ss : List ℕ) → Shares (pairBy ss (basePair a p))
 shares a p ss = by-shares ss (basePair a p) (base-shares a p)
 
 -- the pair of Ts, by that of T
-pub after : (s : ℕ) (ss : List ℕ) (x : Pair) → pairBy (ss ++ (s ∷ [])) x ≡ nextPair s (pairBy ss x)
+pub pair-after : (s : ℕ) (ss : List ℕ) (x : Pair) → pairBy (ss ++ (s ∷ [])) x ≡ nextPair s (pairBy ss x)
 unfolding pairBy
-after s [] x = refl
-after s (r ∷ ss) x = after s ss (nextPair r x)
+pair-after s [] x = refl
+pair-after s (r ∷ ss) x = pair-after s ss (nextPair r x)

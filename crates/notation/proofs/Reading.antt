@@ -1,7 +1,7 @@
 -- How digits are read and written: lists of them, and their paths. Assumes nothing.
 use mathlib.Core.Path.{_≡_, _∙_, refl, sym, ap}
 use mathlib.Core.Bool.{Bool, true, false, _&&_, true≢false}
-use mathlib.Core.List.{List, [], _∷_, _++_, append-assoc}
+use mathlib.Core.List.{List, [], _∷_, _++_, append-assoc, reverse, reverseAux, reverseAux-eq}
 use Prim.Native.Nat.{ℕ, zero, suc, _+_, _-_, _*_, _/_, _%_, _^_, _≤_, _<_}
 use native.Mathlib.Omega.{arith}
 use lib.Dec.{leb}
@@ -16,7 +16,7 @@ use Rattle.net.proofs.Canonical.{and-true}
 use Rattle.net.proofs.Paths.{four, of-length}
 use Rattle.net.proofs.SeamCode.{not-zero}
 use Rattle.notation.specs.Domains.{areDigits}
-use Rattle.notation.specs.Means.Reading.{only, onto, reversed, taken}
+use Rattle.notation.specs.Means.Reading.{only, taken}
 use Rattle.notation.specs.declared.Digits.{Digits}
 use Rattle.notation.specs.declared.Digits.the-variants.{Path, Wrong}
 
@@ -27,20 +27,20 @@ module _ (v : ℕ) (rs : List ℕ) (i : ℕ) where
   abbrev next : Digits
   next = taken (4 * v + getD rs i 0) (drop (suc i) rs)
 
-  pub take-no : i < length rs → 3 < getD rs i 0 → Wrong ≡ taken v (drop i rs)
+  pub read-no : i < length rs → 3 < getD rs i 0 → Wrong ≡ taken v (drop i rs)
   unfolding taken
-  take-no l h = sym (ap (taken v) (drop-cons rs i 0 l) ∙ ap (λ (b : Bool). only b next) (lt-leb (getD rs i 0) 3 h))
+  read-no l h = sym (ap (taken v) (drop-cons rs i 0 l) ∙ ap (λ (b : Bool). only b next) (lt-leb (getD rs i 0) 3 h))
 
-  pub take-next : i < length rs → getD rs i 0 ≤ 3 → taken (4 * v + getD rs i 0) (drop (i + 1) rs) ≡ taken v (drop i rs)
+  pub read-next : i < length rs → getD rs i 0 ≤ 3 → taken (4 * v + getD rs i 0) (drop (i + 1) rs) ≡ taken v (drop i rs)
   unfolding taken
-  take-next l h =
+  read-next l h =
       let n : i + 1 ≡ suc i = omega arith in
       ap (λ (k : ℕ). taken (4 * v + getD rs i 0) (drop k rs)) n
       ∙ sym (ap (taken v) (drop-cons rs i 0 l) ∙ ap (λ (b : Bool). only b next) (le-leb (getD rs i 0) 3 h))
 
-  pub take-end : length rs ≤ i → Path v ≡ taken v (drop i rs)
+  pub read-end : length rs ≤ i → Path v ≡ taken v (drop i rs)
   unfolding taken
-  take-end l = sym (ap (taken v) (drop-of-length-le rs l))
+  read-end l = sym (ap (taken v) (drop-of-length-le rs l))
 
 -- the path of i digits, and of one more
 pub room-next : (v i d : ℕ) → v < 2 ^ (2 * i) → d ≤ 3 → i < 24 → (4 * v + d < 2 ^ (2 * (i + 1))) × (4 * v + d < 2 ^ 48)
@@ -51,7 +51,7 @@ room-next v i d h l k =
 
 -- the digits of a list, after those of ds, are the list's the other way round and then ds
 pub taken-path : (rs ds : List ℕ) (v : ℕ) → v ≡ path ds → areDigits rs ≡ true
-    → taken v rs ≡ Path (path (onto rs ds))
+    → taken v rs ≡ Path (path (reverseAux rs ds))
 unfolding taken path
 taken-path [] ds v e h = ap Path e
 taken-path (r ∷ rs) ds v e h =
@@ -70,16 +70,10 @@ taken-no (r ∷ rs) v h = go (leb r 3) h (taken-no rs (4 * v + r))
 
 -- ---- writing
 
-onto-more : (ds es : List ℕ) → onto ds es ≡ reversed ds ++ es
-onto-more [] es = refl
-onto-more (d ∷ ds) es =
-    onto-more ds (d ∷ es) ∙ sym (append-assoc (reversed ds) (d ∷ []) es)
-    ∙ ap (λ (l : List ℕ). l ++ es) (sym (onto-more ds (d ∷ [])))
-
-pub reversed-long : (ds : List ℕ) → length (reversed ds) ≡ length ds
-reversed-long [] = refl
-reversed-long (d ∷ ds) =
-    ap length (onto-more ds (d ∷ [])) ∙ length-append (reversed ds) (d ∷ []) ∙ omega (arith, reversed-long ds)
+pub reverse-long : (ds : List ℕ) → length (reverse ds) ≡ length ds
+reverse-long [] = refl
+reverse-long (d ∷ ds) =
+    ap length (reverseAux-eq ds (d ∷ [])) ∙ length-append (reverse ds) (d ∷ []) ∙ omega (arith, reverse-long ds)
 
 -- n digits, by n - 1
 pub digits-more : (n v : ℕ) → (n ≡ 0 → ⊥) → digitsOf n v ≡ v % 4 ∷ digitsOf (n - 1) (v / 4)
@@ -94,19 +88,19 @@ drop-set (o ∷ out) zero x l = refl
 drop-set (o ∷ out) (suc k) x l = drop-set out k x (omega arith)
 
 pub put-last : (i v : ℕ) (out : List ℕ) → 0 < i → i ≤ length out
-    → over (reversed (digitsOf (i - 1) (v / 4))) (set out (i - 1) (v % 4)) ≡ over (reversed (digitsOf i v)) out
+    → over (reverse (digitsOf (i - 1) (v / 4))) (set out (i - 1) (v % 4)) ≡ over (reverse (digitsOf i v)) out
 put-last i v out z l =
     let ds = digitsOf (i - 1) (v / 4) in
-    let k : length (reversed ds) ≡ i - 1 = reversed-long ds ∙ of-length (i - 1) (v / 4) in
-    let more : suc (length (reversed ds)) ≡ length (reversed ds ++ (v % 4 ∷ [])) =
-    omega (arith, length-append (reversed ds) (v % 4 ∷ [])) in
-    ap (λ (j : ℕ). reversed ds ++ drop (length (reversed ds)) (set out j (v % 4))) (sym k)
-    ∙ ap (λ (r : List ℕ). reversed ds ++ r) (drop-set out (length (reversed ds)) (v % 4) (omega arith))
-    ∙ sym (append-assoc (reversed ds) (v % 4 ∷ []) (drop (suc (length (reversed ds))) out))
-    ∙ ap (λ (j : ℕ). (reversed ds ++ (v % 4 ∷ [])) ++ drop j out) more
-    ∙ ap (λ (r : List ℕ). over r out) (sym (onto-more ds (v % 4 ∷ [])))
-    ∙ ap (λ (ds : List ℕ). over (reversed ds) out) (sym (digits-more i v (λ e. omega arith)))
+    let k : length (reverse ds) ≡ i - 1 = reverse-long ds ∙ of-length (i - 1) (v / 4) in
+    let more : suc (length (reverse ds)) ≡ length (reverse ds ++ (v % 4 ∷ [])) =
+    omega (arith, length-append (reverse ds) (v % 4 ∷ [])) in
+    ap (λ (j : ℕ). reverse ds ++ drop (length (reverse ds)) (set out j (v % 4))) (sym k)
+    ∙ ap (λ (r : List ℕ). reverse ds ++ r) (drop-set out (length (reverse ds)) (v % 4) (omega arith))
+    ∙ sym (append-assoc (reverse ds) (v % 4 ∷ []) (drop (suc (length (reverse ds))) out))
+    ∙ ap (λ (j : ℕ). (reverse ds ++ (v % 4 ∷ [])) ++ drop j out) more
+    ∙ ap (λ (r : List ℕ). over r out) (sym (reverseAux-eq ds (v % 4 ∷ [])))
+    ∙ ap (λ (ds : List ℕ). over (reverse ds) out) (sym (digits-more i v (λ e. omega arith)))
 
-pub put-all : (i v : ℕ) (out : List ℕ) → i ≤ 0 → over (reversed (digitsOf i v)) out ≡ out
+pub put-all : (i v : ℕ) (out : List ℕ) → i ≤ 0 → over (reverse (digitsOf i v)) out ≡ out
 unfolding digitsOf
 put-all i v out h = let e : i ≡ 0 = omega arith in rw e refl

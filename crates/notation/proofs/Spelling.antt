@@ -1,8 +1,8 @@
 -- What `vertex_of` answers. Assumes nothing.
 use mathlib.Core.Path.{_≡_, _∙_, refl, sym, ap, subst}
 use mathlib.Core.Logic.{⊎-elim}
-use mathlib.Core.Bool.{true, false, true≢false}
-use mathlib.Core.List.{List, [], _∷_}
+use mathlib.Core.Bool.{true, true≢false}
+use mathlib.Core.List.{List, [], _∷_, reverse, reverseAux}
 use Prim.Native.Nat.{ℕ, zero, suc, _+_, _/_, _%_, _^_, _<_}
 use native.Mathlib.Omega.{arith}
 use lib.ListN.{getD, length}
@@ -19,11 +19,11 @@ use Rattle.net.proofs.Paths.{digits-of, of-length, of-path}
 use Rattle.net.proofs.StateCode.{state-back}
 use Rattle.notation.specs.Vertices.{areZeros}
 use Rattle.notation.specs.Means.Directions.{BaseFor, baseState, directions}
-use Rattle.notation.specs.Means.Reading.{IsVertexOf, onto, reversed}
+use Rattle.notation.specs.Means.Reading.{IsVertexOf}
 use Rattle.notation.specs.declared.Vertex.{Vertex}
 use Rattle.notation.proofs.BaseSides.{BaseIn, Polar, polar-weight, side-some}
 use Rattle.notation.proofs.Directions.{directions-digits}
-use Rattle.notation.proofs.Reading.{reversed-long}
+use Rattle.notation.proofs.Reading.{reverse-long}
 use Rattle.notation.proofs.Vertices.{Spelt, base-total, name-lies, polar-spelt, spelt-base, spelt-same}
 
 abbrev vertex : (a p path : ℕ) → Vertex
@@ -43,8 +43,8 @@ module _ (n s : ℕ) (w : Weights) (twelve : length w ≡ 12) (e : sum w ≡ 2 ^
       let es = digitsOf n v in
       let a = baseState s (pointIn s w) in
       let d = digits-of n v in
-      let k : reversed (directions 0 es) ≡ reversed (digitsOf n t) =
-      ap reversed (sym (ap (digitsOf n) g ∙ of-path (directions-digits 0 es d))) in
+      let k : reverse (directions 0 es) ≡ reverse (digitsOf n t) =
+      ap reverse (sym (ap (digitsOf n) g ∙ of-path (directions-digits 0 es d))) in
       let h = ap (λ (v : ℕ). stateOf (digitsOf n v)) f
       ∙ state-back n a (base-total n s w twelve e x) in
       spelt-same
@@ -52,7 +52,7 @@ module _ (n s : ℕ) (w : Weights) (twelve : length w ≡ 12) (e : sum w ≡ 2 ^
 
 -- ---- none was: a pole
 
-pub zero-digits : (n : ℕ) (es : List ℕ) → areZeros es ≡ true → areZeros (onto (digitsOf n 0) es) ≡ true
+pub zero-digits : (n : ℕ) (es : List ℕ) → areZeros es ≡ true → areZeros (reverseAux (digitsOf n 0) es) ≡ true
 unfolding digitsOf
 zero-digits zero es h = h
 zero-digits (suc n) es h = zero-digits n (0 ∷ es) h
@@ -87,10 +87,10 @@ pub by-pole : (n : ℕ) {w : Weights} {s : ℕ} (p : ℕ) → BaseFor w s → s 
     → IsVertexOf n w (vertex 0 p 0)
 by-pole n {w} p b e which q y =
     let l = name-lies y in
-    let ss = reversed (digitsOf n 0) in
+    let ss = reverse (digitsOf n 0) in
     ⊎-elim
     (λ x.
-    let z = polar-spelt n (l .s) (l .p) (l .a-side) (l .total) ss (reversed-long (digitsOf n 0) ∙ of-length n 0)
+    let z = polar-spelt n (l .s) (l .p) (l .a-side) (l .total) ss (reverse-long (digitsOf n 0) ∙ of-length n 0)
     (zero-digits n [] refl) x in
     let v = which (l .s) (l .p) (l .a-side) (l .total) (l .is) x in
     spelt-same

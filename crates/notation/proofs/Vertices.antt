@@ -2,8 +2,8 @@
 -- one degree have the same corner ("an unique (absolute) denotation of vertices"). Assumes nothing.
 use mathlib.Core.Path.{_≡_, _∙_, refl, sym, ap, subst}
 use mathlib.Core.Logic.{_⊎_, inl, inr, ⊎-elim}
-use mathlib.Core.Bool.{true, _&&_}
-use mathlib.Core.List.{List, [], _∷_}
+use mathlib.Core.Bool.{true, _&&_, true≢false}
+use mathlib.Core.List.{List, [], _∷_, reverse, reverse-reverse}
 use Prim.Native.Nat.{ℕ, zero, suc, _+_, _*_, _-_, _/_, _%_, _^_, _≤_, _<_}
 use native.Mathlib.Omega.{arith}
 use lib.Dec.{eqb, leb}
@@ -42,12 +42,11 @@ use Rattle.notation.specs.Vertices.{areZeros, isVertex, keptBy}
 use Rattle.notation.specs.Vertices as vertices
 use Rattle.notation.specs.Same.{SameVertex}
 use Rattle.notation.specs.Means.Directions.{parts, directions, sideTurn, orientation, baseSide, baseState, isBase}
-use Rattle.notation.specs.Means.Reading.{reversed}
-use Rattle.notation.proofs.Domains.{are-onto, false-true, onto-digits, onto-one, reversed-twice}
+use Rattle.notation.proofs.Domains.{are-reverse, reverse-digits, reverse-one}
 use Rattle.notation.proofs.Directions.{directions-digits, directions-parts, parts-digits, parts-directions}
 use Rattle.notation.proofs.Directions.{side-turn-low}
 use Rattle.notation.proofs.Pairs.{point-is, sideBy}
-use Rattle.notation.proofs.Reading.{reversed-long}
+use Rattle.notation.proofs.Reading.{reverse-long}
 use Rattle.notation.proofs.BaseSides.{BaseIn, Polar, base-not-polar, base-state, one-zeroth, side-some}
 use Rattle.notation.proofs.BaseSides.{side-turn-way, state-base, way}
 
@@ -125,8 +124,8 @@ record Ring (xs : List ℕ) : Type 0 where
   ss-ok : areDigits ss ≡ true
 
 read : (xs : List ℕ) → isVertex xs ≡ true → Pole xs ⊎ Ring xs
-read [] h = false-true h
-read (a ∷ []) h = false-true h
+read [] h = absurd (true≢false (sym h))
+read (a ∷ []) h = absurd (true≢false (sym h))
 read (zero ∷ p ∷ ss) h =
     let x = and-true (isBit p) (areZeros ss) .0 h in
     inl (record { p = p; ss = ss; is = refl; p-ok = leb-true p 1 (x .0); ss-ok = x .1 })
@@ -156,7 +155,7 @@ base-orientation a (suc (suc p)) o h k = absurd (omega arith)
 
 module _ (xs : List ℕ) (x : Ring xs) where
   abbrev ts : List ℕ
-  ts = reversed (x .ss)
+  ts = reverse (x .ss)
 
   abbrev ringDigits : List ℕ
   ringDigits = parts 0 ts
@@ -170,7 +169,7 @@ module _ (xs : List ℕ) (x : Ring xs) where
   ts-digits : AreDigits (length (x .ss)) ts
   ts-digits =
       let e : length (x .ss) + 0 ≡ length (x .ss) = omega arith in
-      subst (λ (m : ℕ). AreDigits m ts) e (onto-digits (x .ss) (x .ss-ok) none)
+      subst (λ (m : ℕ). AreDigits m ts) e (reverse-digits (x .ss) (x .ss-ok) none)
 
   ring-digits : AreDigits (length (x .ss)) ringDigits
   ring-digits = parts-digits 0 ts ts-digits
@@ -296,10 +295,11 @@ two-rings {xs} {ys} x y l e =
     let dy = ring-digits ys y in
     let f = sym (ring-point xs x) ∙ e ∙ ring-point ys y in
     let z = one-zeroth (ringSide xs x) (ringSide ys y) (ringDigits xs x) (ringDigits ys y) (ring-side xs x)
-    (ring-side ys y) (are-digits dx) (are-digits dy) (are-length dx ∙ n ∙ sym (are-length dy)) (ring-turn xs x) (ring-turn ys y) f in
+    (ring-side ys y) (are-digits dx) (are-digits dy) (are-length dx ∙ n ∙ sym (are-length dy)) (ring-turn xs x)
+    (ring-turn ys y) f in
     let t = sym (parts-directions 0 (ts xs x) (ts-digits xs x)) ∙ ap (directions 0) (z .1)
     ∙ parts-directions 0 (ts ys y) (ts-digits ys y) in
-    let s = onto-one (x .ss) (y .ss) n t .0 in
+    let s = reverse-one (x .ss) (y .ss) n t .0 in
     let a : x .a ≡ y .a = omega (arith, z .0, low xs x, low ys y, x .p-ok, y .p-ok) in
     let p : x .p ≡ y .p = omega (arith, z .0, low xs x, low ys y, x .p-ok, y .p-ok) in
     x .is ∙ (λ i. suc (a i) ∷ p i ∷ s i) ∙ sym (y .is)
@@ -342,40 +342,40 @@ side-is = sound (sides λ t. same (baseSide (t / 4) (t / 2 % 2) (orientation t))
 
 -- of corner 2 of a domain of orientation 0, by the directions ts, the last first
 pub spelt-parts : (n a p : ℕ) (ts : List ℕ) → 1 ≤ a → a ≤ 5 → p ≤ 1 → AreDigits n ts
-    → Spelt n (a ∷ p ∷ reversed ts) (cornerOf (sideBy a p 0 ts) (parts 0 ts) 2)
+    → Spelt n (a ∷ p ∷ reverse ts) (cornerOf (sideBy a p 0 ts) (parts 0 ts) 2)
 spelt-parts n zero p ts l h k d = absurd (omega arith)
 spelt-parts n (suc a) p ts l h k d = record {
   allowed = and-true _ _ .1 (
     and-true _ _ .1 (le-leb 1 (suc a) l, le-leb (suc a) 5 h),
     and-true _ _ .1
-        (le-leb p 1 k, are-onto [] d refl),
+        (le-leb p 1 k, are-reverse [] d refl),
   );
-  degree = omega (arith, reversed-long ts, are-length d);
-  there = point-is a p (reversed ts) k
-      ∙ ap (λ (x : List ℕ). cornerOf (sideBy (suc a) p 0 x) (parts 0 x) 2) (reversed-twice ts);
+  degree = omega (arith, reverse-long ts, are-length d);
+  there = point-is a p (reverse ts) k
+      ∙ ap (λ (x : List ℕ). cornerOf (sideBy (suc a) p 0 x) (parts 0 x) 2) (reverse-reverse ts);
 }
 
 -- and by the domain's own digits
 spelt-by : (n t : ℕ) (es : List ℕ) → IsSide t → AreDigits n es → sideTurn 0 es ≡ orientation t
-    → Spelt n (t / 4 ∷ t / 2 % 2 ∷ reversed (directions 0 es)) (cornerOf t es 2)
+    → Spelt n (t / 4 ∷ t / 2 % 2 ∷ reverse (directions 0 es)) (cornerOf t es 2)
 spelt-by n t es h d e =
     let ts = directions 0 es in
     let back = directions-parts 0 es d in
     let s : sideBy (t / 4) (t / 2 % 2) 0 ts ≡ t =
     ap (λ (ds : List ℕ). baseSide (t / 4) (t / 2 % 2) (sideTurn 0 ds)) back
     ∙ ap (baseSide (t / 4) (t / 2 % 2)) e ∙ side-is t h in
-    subst (Spelt n (t / 4 ∷ t / 2 % 2 ∷ reversed ts)) (λ i. cornerOf (s i) (back i) 2)
+    subst (Spelt n (t / 4 ∷ t / 2 % 2 ∷ reverse ts)) (λ i. cornerOf (s i) (back i) 2)
     (spelt-parts n (t / 4) (t / 2 % 2) ts (omega (arith, h .0)) (omega (arith, h .1)) (omega arith)
     (directions-digits 0 es d))
 
 -- of twelve weights, by the side of that domain: es are the digits of its state
 pub spelt-base : (n t : ℕ) (P : Weights) (es : List ℕ) → length P ≡ 12 → BaseIn P t → AreDigits n es
-    → stateOf es ≡ baseState t (pointIn t P) → Spelt n (t / 4 ∷ t / 2 % 2 ∷ reversed (directions 0 es)) P
+    → stateOf es ≡ baseState t (pointIn t P) → Spelt n (t / 4 ∷ t / 2 % 2 ∷ reverse (directions 0 es)) P
 spelt-base n t P es l x d e =
     let b = base-state t (pointIn t P) (x .is-base) in
     let w : cornerOf t es 2 ≡ P =
     corner-is t es 2 ∙ ap (spread t) (ap (pointOf 2) e ∙ b .corner) ∙ spread-of t P (x .a-side) l (x .lies) in
-    subst (Spelt n (t / 4 ∷ t / 2 % 2 ∷ reversed (directions 0 es))) w
+    subst (Spelt n (t / 4 ∷ t / 2 % 2 ∷ reverse (directions 0 es))) w
     (spelt-by n t es (x .a-side) d (side-turn-way es ∙ ap way e ∙ b .points))
 
 -- the state's total
@@ -420,7 +420,7 @@ module _ (n s : ℕ) (p : Point) (hs : IsSide s) (k : p .w1 + p .w2 + p .w3 ≡ 
       let l : length P ≡ 12 = spread-length s p in
       let z = reach n (baseState t (pointIn t P)) (base-total n t P l (sum-spread s p hs ∙ k) x) in
       let d : AreDigits n (z .0) = subst (λ (m : ℕ). AreDigits m (z .0)) (z .2) (z .1) in
-      (t / 4 ∷ t / 2 % 2 ∷ reversed (directions 0 (z .0)), spelt-base n t P (z .0) l x d (z .3))
+      (t / 4 ∷ t / 2 % 2 ∷ reverse (directions 0 (z .0)), spelt-base n t P (z .0) l x d (z .3))
 
   some-spelt : (xs : List ℕ) × Spelt n xs P
   some-spelt =

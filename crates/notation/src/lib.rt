@@ -3,6 +3,7 @@
 use knots::back;
 use net::Point;
 use net::State;
+ghost use mathlib.Core.List.{reverse};
 ghost use mathlib.Core.Path.{_≡_};
 ghost use mathlib.Core.Bool.{true};
 ghost use Prim.Native.Nat.{_+_, _*_, _^_, _≤_, _<_};
@@ -21,7 +22,7 @@ ghost use Rattle.notation.specs.Means.Directions.{
   baseState,
   BaseFor,
 };
-ghost use Rattle.notation.specs.Means.Reading.{taken, reversed, IsVertexOf};
+ghost use Rattle.notation.specs.Means.Reading.{taken, IsVertexOf};
 
 // What was read: the path of the digits, or that one of them is none.
 pub enum Digits {
@@ -65,7 +66,7 @@ pub fn read_digits(list: &[u64]) -> Digits
 // The n digits of the path v, the first first, over the front of a list: from the last to the first.
 pub fn put_digits(n: u64, v: u64, out: &mut [u64])
     requires { ⌜ n ≤ length (now out) ⌝ }
-    ensures { λ _. ⌜ now (out .exit) ≡ over (reversed (digitsOf n v)) (now (out .entry)) ⌝ }
+    ensures { λ _. ⌜ now (out .exit) ≡ over (reverse (digitsOf n v)) (now (out .entry)) ⌝ }
 {
     let mut rest = v;
     let mut i = n as usize;

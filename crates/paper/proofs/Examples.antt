@@ -1,7 +1,7 @@
 -- The examples of specs/Examples.antt, by computing: what is read, from the path of its digits; and what is written,
 -- from what is read. Assumes nothing.
 use mathlib.Core.Path.{_≡_, refl}
-use mathlib.Core.List.{List, [], _∷_}
+use mathlib.Core.List.{List, [], _∷_, reverse}
 use Prim.Native.Nat.{ℕ, suc, _+_, _-_, _*_, _/_, _^_, _≤_}
 use native.Mathlib.Omega.{arith}
 use lib.Dec.{eqb·suc-zero, lit≤}
@@ -10,12 +10,11 @@ use lib.Pow.{pow-pos}
 use Rattle.frame.specs.Answers.{over}
 use Rattle.frame.specs.Promises.{_gives_, _leaves_}
 use Rattle.frame.specs.Refusals.{firstOf}
-use Rattle.frame.proofs.Answering.{answering, good, keeps-gives, no-other, refusing}
+use Rattle.frame.proofs.Answering.{keeps-gives, no-other, refusing}
 use Rattle.words.specs.Words.{firstDigits, path, wordIn, wordOf}
 use Rattle.words.specs.Counting.{codeAt, placeOf}
 use Rattle.words.specs.Family.{codeAnswer, noCode}
 use Rattle.words.specs.Writing.{decimals, written}
-use Rattle.words.specs.declared.CodeAnswer.{CodeAnswer}
 use Rattle.words.specs.declared.CornerName.{CornerName}
 use Rattle.words.specs.declared.TriangleCode.{TriangleCode}
 use Rattle.net.specs.Sides.{cornerVertex}
@@ -26,21 +25,18 @@ use Rattle.net.specs.Means.Paths.{digitsOf}
 use Rattle.net.specs.Means.Seams.{seamKept, seamSide}
 use Rattle.net.specs.Means.States.{cross}
 use Rattle.net.specs.Means.Walks.{around, leastName, nameAt, placeAt, stepOf, wordAt}
-use Rattle.net.proofs.Canonical.{name-passes-all}
 use Rattle.corners.specs.Answers.{countAnswer, nameAnswer, noCount, noName}
 use Rattle.corners.specs.declared.CountAnswer.{CountAnswer}
-use Rattle.corners.specs.declared.NameAnswer.{NameAnswer}
 use Rattle.corners.proofs.Calls.{made-named}
 use Rattle.notation.specs.Means.Directions.{baseSide, parts, sideTurn, turnedParts}
-use Rattle.notation.specs.Means.Reading.{reversed, taken}
+use Rattle.notation.specs.Means.Reading.{taken}
 use Rattle.notation.specs.declared.Turned.{Turned}
 use Rattle.notation.proofs.Vertices.{poleSide}
 use Rattle.paper.specs.Answers.{FromDomainAnswer, FromVertexAnswer, ToDomainAnswer, ToVertexAnswer}
 use Rattle.paper.specs.Examples.{Bounds, Examples, Mistakes}
 use Rattle.paper.specs.Refusals.{refuseFromDomain, refuseFromVertex, refuseToDomain, refuseToVertex}
 use Rattle.paper.proofs.FromPaper.{from-answers}
-use Rattle.paper.proofs.Promises.{one-answer}
-use Rattle.paper.proofs.ToPaper.{domain-then, vertex-then}
+use Rattle.paper.proofs.Promises.{domain-found, domain-told, one-answer, vertex-found, vertex-told}
 use Rattle.paper.proofs.VertexNames.{a-pole, a-ring, low, small}
 
 -- ---- what is read
@@ -56,7 +52,7 @@ module _ (a p n v : ℕ) where
 
   ring-gives : {r : CornerName} → (1 ≤ a) × (a ≤ 5) × (p ≤ 1) × (n ≤ 24)
       → r ≡ nameOf (leastName 5 (placeAt (wordOf (baseSide a p (base .orientation)) n (base .path) + 2)))
-      → FromVertexAnswer (a ∷ p ∷ reversed (digitsOf n v)) gives nameAnswer 0 r
+      → FromVertexAnswer (a ∷ p ∷ reverse (digitsOf n v)) gives nameAnswer 0 r
   ring-gives h e =
       keeps-gives (one-answer .fromVertex _) (a-ring a p n v refl (h .0) (h .1) (h .2) (h .3) (record {
         number = refl;
@@ -67,7 +63,7 @@ module _ (a p n v : ℕ) where
 -- and a polar one
 pole-gives : (p n : ℕ) {r : CornerName} → (p ≤ 1) × (n ≤ 24)
     → r ≡ nameOf (leastName 5 (placeAt (wordOf (poleSide p) n ((2 ^ (2 * n) - 1) / 3) + 1)))
-    → FromVertexAnswer (0 ∷ p ∷ reversed (digitsOf n 0)) gives nameAnswer 0 r
+    → FromVertexAnswer (0 ∷ p ∷ reverse (digitsOf n 0)) gives nameAnswer 0 r
 pole-gives p n h e =
     keeps-gives (one-answer .fromVertex _) (a-pole p n 0 (h .0) (h .1) refl refl (record {
       number = refl;
@@ -79,19 +75,11 @@ pole-gives p n h e =
 
 domain-back : {xs : List ℕ} {t : TriangleCode} → FromDomainAnswer xs gives codeAnswer 0 t
     → (out : List ℕ) → 27 ≤ length out → ToDomainAnswer t out leaves (countAnswer 0 (length xs), over xs out)
-domain-back {xs} {t} g out l =
-    let x = good (λ (r : CodeAnswer). r .refusal) refl (λ r x. x .number) (g .meets) refl .same in
-    keeps-gives (one-answer .toDomain t out)
-    (answering (domain-then t out .passes .1 (x .code .passes, l))
-    (record { list = xs; good = x; count = refl; put = refl }))
+domain-back g out l = domain-told out (domain-found (g .meets) refl) l
 
 vertex-back : {xs : List ℕ} {q : CornerName} → FromVertexAnswer xs gives nameAnswer 0 q
     → (out : List ℕ) → 26 ≤ length out → ToVertexAnswer q out leaves (countAnswer 0 (length xs), over xs out)
-vertex-back {xs} {q} g out l =
-    let x = good (λ (r : NameAnswer). r .refusal) refl (λ r x. x .number) (g .meets) refl .same in
-    keeps-gives (one-answer .toVertex q out)
-    (answering (vertex-then q out .passes .1 (name-passes-all (x .name) .0, l))
-    (record { list = xs; good = x; count = refl; put = refl }))
+vertex-back g out l = vertex-told out (vertex-found (g .meets) refl) l
 
 -- ---- refusals
 
@@ -134,6 +122,20 @@ pole-01 = pole-gives 1 2 (omega arith) refl
 vertex : FromVertexAnswer (2 ∷ 1 ∷ 3 ∷ 2 ∷ 0 ∷ []) gives nameAnswer 0 (nameOf 0x58C2000000000002)
 unfolding digitsOf parts sideTurn path wordIn firstDigits stepOf cross around wordAt nameAt leastName
 vertex = ring-gives 2 1 3 56 (omega arith) refl
+
+-- a domain of orientation 1
+turned : FromDomainAnswer (1 ∷ 0 ∷ 1 ∷ 3 ∷ 2 ∷ []) gives codeAnswer 0 (written 10132)
+unfolding taken decimals written path
+turned = domain-gives (from-answers _ (lit≤ tt) (lit≤ tt) refl refl refl)
+
+-- degree 24
+deepest : FromDomainAnswer (5 ∷ 1 ∷ 1 ∷ replicate 24 3) gives codeAnswer 0 (written 511333333333333333333333333)
+unfolding taken decimals written path wordIn
+deepest = domain-gives (from-answers _ (lit≤ tt) (lit≤ tt) refl refl refl)
+
+vertex-deepest : FromVertexAnswer (4 ∷ 0 ∷ replicate 24 3) gives nameAnswer 0 (nameOf 0x6615555555555502)
+unfolding digitsOf parts sideTurn path wordIn firstDigits stepOf cross seamSide seamKept around wordAt nameAt leastName
+vertex-deepest = ring-gives 4 0 24 0xFFFFFFFFFFFF (omega arith) refl
 
 pub examples : Examples
 unfolding firstOf refuseFromDomain refuseFromVertex refuseToDomain refuseToVertex lesserHas placeOf codeAt corner
@@ -180,17 +182,19 @@ pub bounds : Bounds
 unfolding firstOf refuseFromDomain refuseFromVertex taken decimals written digitsOf parts sideTurn path wordIn
     firstDigits stepOf cross seamSide seamKept around wordAt nameAt leastName
 bounds = record {
-  deepest = domain-gives (from-answers _ (lit≤ tt) (lit≤ tt) refl refl refl);
+  deepest = deepest;
   one-deeper = domain-refused _ 0 refl;
-  vertex-deepest = ring-gives 4 0 24 0xFFFFFFFFFFFF (omega arith) refl;
+  vertex-deepest = vertex-deepest;
   vertex-one-deeper = vertex-refused _ 0 refl;
   long-enough = domain-back side (replicate 27 9) (lit≤ tt);
+  all-places = domain-back deepest (replicate 27 9) (lit≤ tt);
+  vertex-all-places = vertex-back vertex-deepest (replicate 26 9) (lit≤ tt);
   vertex-long-enough = vertex-back ring (replicate 26 9) (lit≤ tt);
 }
 
--- the count that is told, and place i of the list as it is left
-abbrev told : CountAnswer × List ℕ → ℕ
-told x = x .0 .count
+-- the count that is count-of, and place i of the list as it is left
+abbrev count-of : CountAnswer × List ℕ → ℕ
+count-of x = x .0 .count
 
 abbrev left-at : ℕ → CountAnswer × List ℕ → ℕ
 left-at i x = getD (x .1) i 0
@@ -200,14 +204,14 @@ unfolding decimals written path wordIn
 mistakes = record {
   reversed = no-other (λ r. r .code .0) domain refl;
   to-reversed = no-other (left-at 3) (domain-back domain (replicate 27 9) (lit≤ tt)) refl;
-  e-index = no-other (λ r. r .code .0) domain refl;
+  e-index = no-other (λ r. r .code .0) turned refl;
   other-domain = no-other (λ r. r .name .0) ring refl;
   direction-2 = no-other (λ r. r .name .0) (examples .v102) refl;
   direction-3 = no-other (λ r. r .name .0) (examples .v103) refl;
   pole-as-1 = no-other (left-at 0) (vertex-back pole (replicate 26 9) (lit≤ tt)) refl;
-  zeros-dropped = no-other told (vertex-back vertex (replicate 26 9) (lit≤ tt)) refl;
+  zeros-dropped = no-other count-of (vertex-back vertex (replicate 26 9) (lit≤ tt)) refl;
   not-written = no-other (left-at 4) (vertex-back vertex (replicate 26 9) (lit≤ tt)) refl;
-  not-counted = no-other told (vertex-back vertex (replicate 26 9) (lit≤ tt)) refl;
+  not-counted = no-other count-of (vertex-back vertex (replicate 26 9) (lit≤ tt)) refl;
   cleared = no-other (left-at 3) (bounds .long-enough) refl;
   before-1 = no-other (λ r. r .refusal) (examples .too-deep) refl;
   refuses = λ k. no-other (λ r. r .refusal) side (eqb·suc-zero k);

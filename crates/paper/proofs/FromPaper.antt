@@ -3,7 +3,7 @@
 use mathlib.Core.Path.{_≡_, _∙_, refl, sym, ap, subst}
 use mathlib.Core.Logic.{_↔_}
 use mathlib.Core.Bool.{Bool, true, false, _&&_, and-assoc, and-false, not}
-use mathlib.Core.List.{List, [], _∷_}
+use mathlib.Core.List.{List, [], _∷_, reverse}
 use Prim.Native.Nat.{ℕ, _+_, _-_, _*_, _^_, _≤_, _<_}
 use native.Mathlib.Omega.{arith}
 use lib.Dec.{leb, leb·suc-suc, ltb}
@@ -21,10 +21,10 @@ use Rattle.words.proofs.Digits.{none, path-lt}
 use Rattle.net.proofs.Canonical.{and-true, not-so}
 use Rattle.notation.specs.Domains.{areDigits, isA, isBit, isDomain}
 use Rattle.notation.specs.Same.{SameDomain}
-use Rattle.notation.specs.Means.Reading.{reversed, taken}
+use Rattle.notation.specs.Means.Reading.{taken}
 use Rattle.notation.specs.declared.Digits.the-variants.{Path, Wrong}
-use Rattle.notation.proofs.Domains.{Read, onto-digits, ours, ours-same}
-use Rattle.notation.proofs.Reading.{reversed-long, taken-no, taken-path}
+use Rattle.notation.proofs.Domains.{Read, reverse-digits, ours, ours-same}
+use Rattle.notation.proofs.Reading.{reverse-long, taken-no, taken-path}
 use Rattle.paper.specs.Answers.{FromDomainAnswer}
 use Rattle.paper.specs.Refusals.{paperOrder, refuseFromDomain}
 
@@ -49,7 +49,7 @@ path-or-wrong e = let z : _≡_ {A = ℕ} 0 1 = cc in absurd (omega arith)
 
 -- what was read tells whether all are digits, and their path
 module _ (rs : List ℕ) where
-  read-path : areDigits rs ≡ true → taken 0 rs ≡ Path (path (reversed rs))
+  read-path : areDigits rs ≡ true → taken 0 rs ≡ Path (path (reverse rs))
   unfolding path
   read-path h = taken-path rs [] 0 refl h
 
@@ -60,13 +60,13 @@ module _ (rs : List ℕ) where
     pub digits-right : areDigits rs ≡ true
     digits-right = so-unless (areDigits rs) (λ h. path-or-wrong (e ∙ taken-no rs 0 h))
 
-    pub path-is : v ≡ path (reversed rs)
-    path-is = let f : Path v ≡ Path (path (reversed rs)) = e ∙ read-path digits-right in cc
+    pub path-is : v ≡ path (reverse rs)
+    path-is = let f : Path v ≡ Path (path (reverse rs)) = e ∙ read-path digits-right in cc
 
     pub path-small : {n : ℕ} → length rs ≡ n → v < 2 ^ (2 * n)
     path-small {n} l =
         let m : length rs + 0 ≡ n = omega arith in
-        subst (λ (n : ℕ). v < 2 ^ (2 * n)) m (rw path-is (path-lt (onto-digits rs digits-right none)))
+        subst (λ (n : ℕ). v < 2 ^ (2 * n)) m (rw path-is (path-lt (reverse-digits rs digits-right none)))
 
 -- ---- refusals
 
@@ -178,7 +178,7 @@ module _ (xs : List ℕ) (low : 3 ≤ length xs) where
         rs-ok = ok;
       } in
       let h : isDomain xs ≡ true = domain-by ∙ (λ i. b i && ok i) in
-      let n : length xs - 3 ≡ length (reversed rs) = sym (reversed-long rs ∙ rest-long 3 xs) in
+      let n : length xs - 3 ≡ length (reverse rs) = sym (reverse-long rs ∙ rest-long 3 xs) in
       let is : codeOf w ≡ ours xs x high = (λ i. codeOf ((f ∙ (λ j. wordOf (side a p q) (n j) (path-is rs e j))) i)) in
       answering (domain-refusal xs .passes .1 (high, h)) (record {
         number = refl;

@@ -6,8 +6,8 @@ use native.Mathlib.Omega.{arith}
 use lib.ListN.{length, drop, take}
 use lib.Seq.{take-at}
 use Rattle.frame.specs.Answers.{Lent, Listed, over}
-use Rattle.frame.specs.Promises.{Keeps, KeepsLent, together}
-use Rattle.frame.proofs.Answering.{answer-one, answer-some, good, keeps, listed-one}
+use Rattle.frame.specs.Promises.{Keeps, KeepsLent, _leaves_, together}
+use Rattle.frame.proofs.Answering.{answer-one, answer-some, answering, good, keeps, keeps-gives, listed-one}
 use Rattle.words.specs.Words.{degreeOf}
 use Rattle.words.specs.Refusals.{IsCode}
 use Rattle.words.specs.Family.{codeAnswer, noCode}
@@ -15,24 +15,25 @@ use Rattle.words.specs.declared.TriangleCode.{TriangleCode}
 use Rattle.words.specs.declared.CornerName.{CornerName}
 use Rattle.words.specs.declared.CodeAnswer.{CodeAnswer}
 use Rattle.words.proofs.Codes.{code-degree, is-code}
-use Rattle.net.specs.Sides.{OneToThree}
+use Rattle.net.specs.Sides.{OneToThree, after}
 use Rattle.net.specs.Division.{Triangle, pickCorner}
 use Rattle.net.specs.Corners.{corner, named}
 use Rattle.net.specs.Names.{IsName}
-use Rattle.net.proofs.Canonical.{name-means}
+use Rattle.net.proofs.Canonical.{name-means, name-passes-all}
+use Rattle.net.proofs.Spread.{middle-turned}
 use Rattle.net.proofs.Table.{three}
 use Rattle.corners.specs.Answers.{countAnswer, nameAnswer, noCount, noName}
 use Rattle.corners.specs.declared.CountAnswer.{CountAnswer}
 use Rattle.corners.specs.declared.NameAnswer.{NameAnswer}
-use Rattle.notation.specs.Domains.{domain}
+use Rattle.notation.specs.Domains.{at, domain}
 use Rattle.notation.specs.Vertices.{Pair, basePair, nextPair, pairBy, point}
 use Rattle.notation.specs.Same.{SameDomain, SameVertex}
-use Rattle.notation.proofs.Domains.{domain-code, domain-list, domain-some}
-use Rattle.notation.proofs.Printed.{after, centre, shares}
+use Rattle.notation.proofs.Domains.{domain-code, domain-digits, domain-list, domain-some}
+use Rattle.notation.proofs.Printed.{centre, pair-after, shares}
 use Rattle.notation.proofs.Vertices.{vertex-code, vertex-list, vertex-name, vertex-some}
 use Rattle.paper.specs.Answers.{FromDomain, FromDomainAnswer, FromVertex, FromVertexAnswer}
 use Rattle.paper.specs.Answers.{ToDomainAnswer, ToVertexAnswer}
-use Rattle.paper.specs.Promises.{AsPrinted, OneAnswer, SameWeights, ThereAndBack}
+use Rattle.paper.specs.Promises.{AsPrinted, OneAnswer, SameDigits, SameWeights, ThereAndBack}
 use Rattle.paper.specs.Refusals.{refuseFromDomain, refuseFromVertex, refuseToDomain, refuseToVertex}
 use Rattle.paper.proofs.FromPaper.{domain-refusal}
 use Rattle.paper.proofs.ToPaper.{domain-then, same-domain, vertex-then}
@@ -117,14 +118,38 @@ one-answer = record {
   toVertex = to-vertex-keeps;
 }
 
+-- ---- what the calls to the paper tell
+
+module _ (out : List ℕ) where
+  pub domain-told : {xs : List ℕ} {t : TriangleCode} → SameDomain (degreeOf (t .0)) xs t → 27 ≤ length out
+      → ToDomainAnswer t out leaves (countAnswer 0 (length xs), over xs out)
+  domain-told {xs} {t} x l =
+      keeps-gives (to-domain-keeps t out)
+      (answering (domain-then t out .passes .1 (x .code .passes, l))
+      (record { list = xs; good = x; count = refl; put = refl }))
+
+  pub vertex-told : {xs : List ℕ} {q : CornerName} → SameVertex (degreeOf (q .0)) xs q → 26 ≤ length out
+      → ToVertexAnswer q out leaves (countAnswer 0 (length xs), over xs out)
+  vertex-told {xs} {q} x l =
+      keeps-gives (to-vertex-keeps q out)
+      (answering (vertex-then q out .passes .1 (name-passes-all (x .name) .0, l))
+      (record { list = xs; good = x; count = refl; put = refl }))
+
 -- ---- there and back
 
+-- an answer and the list as left, where these are all that is promised
+both : (P : CountAnswer → List ℕ → Type 0) {x : CountAnswer × List ℕ} {c : CountAnswer} {new : List ℕ} → P leaves x
+    → P c new → (c ≡ x .0) × (new ≡ x .1)
+both P {c = c} {new = new} g p =
+    let e = g .only (c, new) p in
+    (ap (λ (y : CountAnswer × List ℕ). y .0) e, ap (λ (y : CountAnswer × List ℕ). y .1) e)
+
 -- what is answered, where the number is 0
-domain-found : {xs : List ℕ} {r : CodeAnswer} → FromDomainAnswer xs r → r .refusal ≡ 0
+pub domain-found : {xs : List ℕ} {r : CodeAnswer} → FromDomainAnswer xs r → r .refusal ≡ 0
     → SameDomain (degreeOf (r .code .0)) xs (r .code)
 domain-found a e = good (λ (r : CodeAnswer). r .refusal) refl (λ r x. x .number) a e .same
 
-vertex-found : {xs : List ℕ} {r : NameAnswer} → FromVertexAnswer xs r → r .refusal ≡ 0
+pub vertex-found : {xs : List ℕ} {r : NameAnswer} → FromVertexAnswer xs r → r .refusal ≡ 0
     → SameVertex (degreeOf (r .name .0)) xs (r .name)
 vertex-found a e = good (λ (r : NameAnswer). r .refusal) refl (λ r x. x .number) a e .same
 
@@ -149,9 +174,9 @@ name-back q out new c r b f a =
 
 pub there-and-back : ThereAndBack
 there-and-back = record {
-  domain = λ xs out new r c a e b f. let x = domain-found a e in domain-list (code-degree (x .code)) (told b f) x;
+  domain = λ xs out new r c a e l b. both (ToDomainAnswer (r .code) out) (domain-told out (domain-found a e) l) b;
   code = code-back;
-  vertex = λ xs out new r c a e b f. vertex-list (told b f) (vertex-found a e);
+  vertex = λ xs out new r c a e l b. both (ToVertexAnswer (r .name) out) (vertex-told out (vertex-found a e) l) b;
   name = name-back;
 }
 
@@ -171,14 +196,20 @@ same-weights = record {
   toVertex = λ q out new c b f. sym (told b f .name .there);
 }
 
--- ---- (35) to (37)
+-- ---- the same digits
+
+pub same-digits : SameDigits
+same-digits = record { domain = λ a p q rs r x e. domain-digits (domain-found x e) }
+
+-- ---- (35) to (37), (63) to (68)
 
 -- V(Ts), by the pair of T
 direction : (s a p : ℕ) (ss : List ℕ)
     → point (suc a ∷ p ∷ (ss ++ (s ∷ []))) ≡ nextPair s (pairBy ss (basePair (suc a) p)) .zeroth .a2
-direction s a p ss = ap (λ (x : Pair). x .zeroth .a2) (after s ss (basePair (suc a) p))
+direction s a p ss = ap (λ (x : Pair). x .zeroth .a2) (pair-after s ss (basePair (suc a) p))
 
 pub as-printed : AsPrinted
+unfolding pairBy
 as-printed = record {
   base = λ a p ss. sym (shares (suc a) p ss .base);
   other = λ a p ss. shares (suc a) p ss .other;
@@ -187,4 +218,10 @@ as-printed = record {
   direction1too = λ a p ss. direction 1 a p ss ∙ centre (shares (suc a) p ss);
   direction2 = direction 2;
   direction3 = direction 3;
+  v01 = λ a. direction 1 a 0 [];
+  v02 = λ a. direction 2 a 0 [];
+  v03 = λ a. direction 3 a 0 [] ∙ middle-turned (at 0 0) (at (suc a) 0);
+  v11 = λ a. direction 1 a 1 [];
+  v12 = λ a. direction 2 a 1 [];
+  v13 = λ a. direction 3 a 1 [] ∙ middle-turned (at (after (suc a)) 0) (at (suc a) 1);
 }

@@ -2,7 +2,7 @@
 -- what is refused, and what is answered where nothing is. Assumes nothing.
 use mathlib.Core.Path.{_≡_, _∙_, refl, sym, ap, subst, subst₂}
 use mathlib.Core.Bool.{true}
-use mathlib.Core.List.{List, [], _∷_, _++_}
+use mathlib.Core.List.{List, [], _∷_, _++_, reverse, reverse-reverse}
 use Prim.Native.Nat.{ℕ, _+_, _-_, _/_, _%_, _^_, _≤_}
 use native.Mathlib.Nat.{zero-add}
 use native.Mathlib.Omega.{arith}
@@ -34,10 +34,10 @@ use Rattle.net.proofs.StateCode.{spread-length}
 use Rattle.corners.specs.Answers.{countAnswer}
 use Rattle.notation.specs.Domains.{areDigits, isDomain}
 use Rattle.notation.specs.Same.{SameDomain, SameVertex}
-use Rattle.notation.specs.Means.Reading.{IsVertexOf, reversed}
+use Rattle.notation.specs.Means.Reading.{IsVertexOf}
 use Rattle.notation.specs.declared.Vertex.{Vertex}
-use Rattle.notation.proofs.Domains.{Read, are-onto, ours, ours-same, reversed-twice}
-use Rattle.notation.proofs.Reading.{reversed-long}
+use Rattle.notation.proofs.Domains.{Read, are-reverse, ours, ours-same}
+use Rattle.notation.proofs.Reading.{reverse-long}
 use Rattle.paper.specs.Answers.{ToDomainAnswer, ToVertexAnswer}
 use Rattle.paper.specs.Refusals.{refuseToDomain, refuseToVertex}
 
@@ -50,11 +50,11 @@ set-front xs out l =
 laid : (xs ds out late : List ℕ) (n v : ℕ) → length xs ≤ length out → digitsOf n v ≡ ds
     → (let mid = sets out 0 xs in
     let h = length xs in
-    late ≡ over (reversed (digitsOf n v)) (take (length mid - h) (drop h mid))
-    → putMid h (length mid - h) mid late ≡ over (xs ++ reversed ds) out)
+    late ≡ over (reverse (digitsOf n v)) (take (length mid - h) (drop h mid))
+    → putMid h (length mid - h) mid late ≡ over (xs ++ reverse ds) out)
 laid xs ds out late n v l e p =
-    two-parts out (sets out 0 xs) late xs (reversed (digitsOf n v)) (length xs) refl (set-front xs out l) p
-    ∙ ap (λ (ds : List ℕ). over (xs ++ reversed ds) out) e
+    two-parts out (sets out 0 xs) late xs (reverse (digitsOf n v)) (length xs) refl (set-front xs out l) p
+    ∙ ap (λ (ds : List ℕ). over (xs ++ reverse ds) out) e
 
 -- as long as it was
 pub laid-long : (xs out late : List ℕ)
@@ -72,16 +72,16 @@ module _ {n : ℕ} {t : TriangleCode} (c : IsCode n t) where
   s = sideOf (t .0)
 
   abbrev rs : List ℕ
-  rs = reversed (digitsIn t)
+  rs = reverse (digitsIn t)
 
   abbrev code : List ℕ
   code = s / 4 ∷ s / 2 % 2 ∷ s % 2 ∷ rs
 
   rs-ok : areDigits rs ≡ true
-  rs-ok = are-onto [] (in-digits c) refl
+  rs-ok = are-reverse [] (in-digits c) refl
 
   long : length code ≡ 3 + n
-  long = omega (arith, reversed-long (digitsIn t) ∙ in-length c)
+  long = omega (arith, reverse-long (digitsIn t) ∙ in-length c)
 
   reading : Read code
   reading = record {
@@ -111,7 +111,7 @@ module _ {n : ℕ} {t : TriangleCode} (c : IsCode n t) where
   same-domain =
       let short : length code ≤ 27 = omega (arith, long, code-degree c) in
       let f : side (s / 4) (s / 2 % 2) (s % 2) ≡ s = omega arith in
-      let e : ours code reading short ≡ t = (λ i. codeFor (f i) (reversed-twice (digitsIn t) i)) ∙ sym (code-for c) in
+      let e : ours code reading short ≡ t = (λ i. codeFor (f i) (reverse-reverse (digitsIn t) i)) ∙ sym (code-for c) in
       subst (λ (m : ℕ). SameDomain m code t) (c .degreeIs)
       (subst (λ (t : TriangleCode). SameDomain (degreeOf (t .0)) code t) e (ours-same code reading short allowed))
 
@@ -126,7 +126,7 @@ module _ (t : TriangleCode) (out : List ℕ) where
   pub to-answers : (s n v : ℕ) (late : List ℕ) → checkCode t ≡ 0 → 27 ≤ length out
       → s ≡ sideOf (t .0) → n ≡ degreeOf (t .0) → v ≡ path (digits (t .0) n)
       → (let mid = sets out 0 (s / 4 ∷ s / 2 % 2 ∷ s % 2 ∷ []) in
-      late ≡ over (reversed (digitsOf n v)) (take (length mid - 3) (drop 3 mid))
+      late ≡ over (reverse (digitsOf n v)) (take (length mid - 3) (drop 3 mid))
       → ToDomainAnswer t out (countAnswer 0 (n + 3)) (putMid 3 (length mid - 3) mid late))
   to-answers s n v late z l es en ev el =
       let c = is-code t z in
@@ -136,7 +136,7 @@ module _ (t : TriangleCode) (out : List ℕ) where
         list = code c;
         good = same-domain c;
         count = ap (countAnswer 0) (omega (arith, long c, en));
-        put = put ∙ ap (λ (s : ℕ). over (s / 4 ∷ s / 2 % 2 ∷ s % 2 ∷ reversed (digitsIn t)) out) es;
+        put = put ∙ ap (λ (s : ℕ). over (s / 4 ∷ s / 2 % 2 ∷ s % 2 ∷ reverse (digitsIn t)) out) es;
       })
 
 -- ---- the code of a vertex
@@ -157,7 +157,7 @@ module _ (q : CornerName) (z : checkName q ≡ 0) where
   -- the weights that were written over a list of twelve
   module _ {t : TriangleCode} (old : List ℕ) {new : List ℕ} (e : t ≡ codeInside q)
       (f : new ≡ over (corner t (cornerNumber (q .0))) old) where
-    pub weights-are : take 12 new ≡ named q
+    weights-are : take 12 new ≡ named q
     weights-are =
         let g : new ≡ over (named q) old = f ∙ ap (λ (t : TriangleCode). over (corner t (cornerNumber (q .0))) old) e in
         ap (take 12) g ∙ take-at (named q) (drop (length (named q)) old) 12 twelve
@@ -166,9 +166,9 @@ module _ (q : CornerName) (z : checkName q ≡ 0) where
     weights-sum d = ap sum weights-are ∙ add-up _ _ _ (is-name .code) ∙ ap (λ (m : ℕ). 2 ^ m) (sym d)
 
     pub vertex-same : {n : ℕ} (x : Vertex) → n ≡ degreeOf (q .0) → IsVertexOf n (take 12 new) x
-        → SameVertex (degreeOf (q .0)) (x .a ∷ x .p ∷ reversed (digitsOf n (x .path))) q
+        → SameVertex (degreeOf (q .0)) (x .a ∷ x .p ∷ reverse (digitsOf n (x .path))) q
     vertex-same {n} x d h =
-        subst (λ (m : ℕ). SameVertex m (x .a ∷ x .p ∷ reversed (digitsOf n (x .path))) q) d
+        subst (λ (m : ℕ). SameVertex m (x .a ∷ x .p ∷ reverse (digitsOf n (x .path))) q) d
         (h q (subst₂ (λ (m : ℕ) (w : Weights). IsName m w q) (sym d) (sym weights-are) is-name))
 
 module _ (q : CornerName) (out : List ℕ) where
@@ -177,15 +177,15 @@ module _ (q : CornerName) (out : List ℕ) where
   vertex-then = then-nine order order (canonicalRows q) 26 out tt tt
 
   pub vertex-answers : (x : Vertex) (n : ℕ) (late : List ℕ) → checkName q ≡ 0 → 26 ≤ length out
-      → SameVertex (degreeOf (q .0)) (x .a ∷ x .p ∷ reversed (digitsOf n (x .path))) q
+      → SameVertex (degreeOf (q .0)) (x .a ∷ x .p ∷ reverse (digitsOf n (x .path))) q
       → (let mid = sets out 0 (x .a ∷ x .p ∷ []) in
-      late ≡ over (reversed (digitsOf n (x .path))) (take (length mid - 2) (drop 2 mid))
+      late ≡ over (reverse (digitsOf n (x .path))) (take (length mid - 2) (drop 2 mid))
       → ToVertexAnswer q out (countAnswer 0 (n + 2)) (putMid 2 (length mid - 2) mid late))
   vertex-answers x n late z l s el =
       let ds = digitsOf n (x .path) in
       answering (vertex-then .passes .1 (z, l)) (record {
-        list = x .a ∷ x .p ∷ reversed ds;
+        list = x .a ∷ x .p ∷ reverse ds;
         good = s;
-        count = ap (countAnswer 0) (omega (arith, reversed-long ds, of-length n (x .path)));
+        count = ap (countAnswer 0) (omega (arith, reverse-long ds, of-length n (x .path)));
         put = laid (x .a ∷ x .p ∷ []) ds out late n (x .path) (omega arith) refl el;
       })

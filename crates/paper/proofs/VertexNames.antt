@@ -1,7 +1,7 @@
 -- A vertex's code, read: what `vertex_name` and `from_vertex` answer. Assumes nothing.
 use mathlib.Core.Path.{_≡_, _∙_, refl, sym, ap, subst}
 use mathlib.Core.Bool.{true, false, _&&_}
-use mathlib.Core.List.{List, [], _∷_}
+use mathlib.Core.List.{List, [], _∷_, reverse, reverse-reverse, reverseAux}
 use Prim.Native.Nat.{ℕ, zero, suc, _+_, _*_, _-_, _/_, _%_, _^_, _≤_, _<_}
 use native.Mathlib.Omega.{arith}
 use lib.Dec.{eqb, leb}
@@ -21,18 +21,20 @@ use Rattle.notation.specs.Domains.{areDigits, isA, isBit}
 use Rattle.notation.specs.Vertices.{areZeros, isVertex}
 use Rattle.notation.specs.Same.{SameVertex}
 use Rattle.notation.specs.Means.Directions.{parts, turnedParts}
-use Rattle.notation.specs.Means.Reading.{onto, reversed, taken}
+use Rattle.notation.specs.Means.Reading.{taken}
 use Rattle.notation.specs.declared.Digits.the-variants.{Path}
 use Rattle.notation.specs.declared.Turned.{Turned}
-use Rattle.notation.proofs.Domains.{onto-digits, reversed-twice}
+use Rattle.notation.proofs.Domains.{reverse-digits}
 use Rattle.notation.proofs.Directions.{parts-digits, side-turn-low}
 use Rattle.notation.proofs.Pairs.{sideBy}
-use Rattle.notation.proofs.Reading.{reversed-long}
+use Rattle.notation.proofs.Reading.{reverse-long}
 use Rattle.notation.proofs.Spelling.{zero-digits}
-use Rattle.notation.proofs.Vertices.{Spelt, ones, ones-digits, pole-spread, poleSide, spelt-parts, spelt-pole, spelt-same}
+use Rattle.notation.proofs.Vertices.{Spelt, ones, ones-digits, pole-spread, poleSide}
+use Rattle.notation.proofs.Vertices.{spelt-parts, spelt-pole, spelt-same}
 use Rattle.paper.specs.Answers.{FromVertexAnswer}
 use Rattle.paper.specs.Refusals.{refuseFromVertex}
-use Rattle.paper.proofs.FromPaper.{PaperRefusal, digits-right, paper-refusal, path-is, refused-wrong, rest, rest-drop, rest-long}
+use Rattle.paper.proofs.FromPaper.{PaperRefusal, digits-right, paper-refusal, path-is, refused-wrong}
+use Rattle.paper.proofs.FromPaper.{rest, rest-drop, rest-long}
 
 pub vertex-refusal : (xs : List ℕ) → PaperRefusal 26 (length xs) (isVertex xs) (refuseFromVertex xs)
 unfolding refuseFromVertex
@@ -50,11 +52,11 @@ spelt-answers {n} {xs} {r = r} h x y =
 
 -- ---- poles
 
-rest-zero : (ds es : List ℕ) → areZeros (onto ds es) ≡ true → areZeros es ≡ true
+rest-zero : (ds es : List ℕ) → areZeros (reverseAux ds es) ≡ true → areZeros es ≡ true
 rest-zero [] es h = h
 rest-zero (d ∷ ds) es h = and-true (eqb d 0) (areZeros es) .0 (rest-zero ds (d ∷ es) h) .1
 
-zero-path : (ds es : List ℕ) → areZeros (onto ds es) ≡ true → path ds ≡ 0
+zero-path : (ds es : List ℕ) → areZeros (reverseAux ds es) ≡ true → path ds ≡ 0
 unfolding path
 zero-path [] es h = refl
 zero-path (d ∷ ds) es h =
@@ -68,10 +70,10 @@ ones-path (suc n) = omega (arith, ones-path n, four n)
 
 module _ (p n v : ℕ) (hp : p ≤ 1) (hn : n ≤ 24) where
   abbrev ss : List ℕ
-  ss = reversed (digitsOf n v)
+  ss = reverse (digitsOf n v)
 
   long : length ss ≡ n
-  long = reversed-long (digitsOf n v) ∙ of-length n v
+  long = reverse-long (digitsOf n v) ∙ of-length n v
 
   pub not-pole : {r : NameAnswer} → v < 2 ^ (2 * n) → (v ≡ 0 → ⊥) → r ≡ noName 33 → FromVertexAnswer (0 ∷ p ∷ ss) r
   not-pole small some =
@@ -87,7 +89,7 @@ module _ (p n v : ℕ) (hp : p ≤ 1) (hn : n ≤ 24) where
       let f : cornerOf (poleSide p) (digitsOf n ((x - 1) / 3)) 1 ≡ P =
       ap (λ (y : ℕ). cornerOf (poleSide p) (digitsOf n y) 1) o
       ∙ ap (λ (ds : List ℕ). cornerOf (poleSide p) ds 1) (of-path (ones-digits n)) in
-      let zeros : areZeros ss ≡ true = ap (λ (v : ℕ). areZeros (reversed (digitsOf n v))) z ∙ zero-digits n [] refl in
+      let zeros : areZeros ss ≡ true = ap (λ (v : ℕ). areZeros (reverse (digitsOf n v))) z ∙ zero-digits n [] refl in
       let s = subst (λ (m : ℕ). Spelt m (0 ∷ p ∷ ss) (cornerOf (poleSide p) (ones m) 1)) long
       (subst (Spelt (length ss) (0 ∷ p ∷ ss)) (sym (pole-spread p (length ss))) (spelt-pole p ss hp zeros)) in
       spelt-answers hn s (subst (λ (w : Weights). Named n w r) f y)
@@ -106,7 +108,7 @@ module _ (a p n v : ℕ) {d : Turned} (e : d ≡ turnedParts 0 (digitsOf n v)) w
 
   pub a-ring : {r : NameAnswer} → 1 ≤ a → a ≤ 5 → p ≤ 1 → n ≤ 24
       → Named n (cornerOf (4 * a + 2 * p + (p + d .orientation) % 2) (digitsOf n (d .path)) 2) r
-      → FromVertexAnswer (a ∷ p ∷ reversed ts) r
+      → FromVertexAnswer (a ∷ p ∷ reverse ts) r
   a-ring {r} la ha hp hn y =
       let f : cornerOf (4 * a + 2 * p + (p + d .orientation) % 2) (digitsOf n (d .path)) 2
       ≡ cornerOf (sideBy a p 0 ts) (parts 0 ts) 2 =
@@ -145,17 +147,18 @@ module _ (xs : List ℕ) (two : 2 ≤ length xs) where
       ∙ ap (λ (ys : List ℕ). getD xs 0 0 ∷ getD xs 1 0 ∷ ys) (sym (rest-drop 2 xs))
 
   pub not-begun : ((getD xs 0 0 ≤ 5) × (getD xs 1 0 ≤ 1) × (areDigits (rest 2 xs) ≡ true) → ⊥) → isVertex xs ≡ false
-  not-begun f = not-so (isVertex xs) (λ e. f (begun (getD xs 0 0) (getD xs 1 0) (rest 2 xs) (ap isVertex (sym opened) ∙ e)))
+  not-begun f =
+      not-so (isVertex xs) (λ e. f (begun (getD xs 0 0) (getD xs 1 0) (rest 2 xs) (ap isVertex (sym opened) ∙ e)))
 
   -- the list of the digits that were read is the list itself
   pub from-read : {v : ℕ} {r : NameAnswer} → Path v ≡ taken 0 (rest 2 xs)
-      → FromVertexAnswer (getD xs 0 0 ∷ getD xs 1 0 ∷ reversed (digitsOf (length xs - 2) v)) r → FromVertexAnswer xs r
+      → FromVertexAnswer (getD xs 0 0 ∷ getD xs 1 0 ∷ reverse (digitsOf (length xs - 2) v)) r → FromVertexAnswer xs r
   from-read {v} {r} e =
       let rs = rest 2 xs in
       let l : length rs + 0 ≡ length xs - 2 = omega (arith, rest-long 2 xs) in
-      let d = subst (λ (m : ℕ). AreDigits m (reversed rs)) l (onto-digits rs (digits-right rs e) none) in
-      let f : reversed (digitsOf (length xs - 2) v) ≡ rs =
-      ap (λ (v : ℕ). reversed (digitsOf (length xs - 2) v)) (path-is rs e) ∙ ap reversed (of-path d)
-      ∙ reversed-twice rs in
+      let d = subst (λ (m : ℕ). AreDigits m (reverse rs)) l (reverse-digits rs (digits-right rs e) none) in
+      let f : reverse (digitsOf (length xs - 2) v) ≡ rs =
+      ap (λ (v : ℕ). reverse (digitsOf (length xs - 2) v)) (path-is rs e) ∙ ap reverse (of-path d)
+      ∙ reverse-reverse rs in
       subst (λ (ys : List ℕ). FromVertexAnswer ys r)
       (ap (λ (ys : List ℕ). getD xs 0 0 ∷ getD xs 1 0 ∷ ys) f ∙ sym opened)

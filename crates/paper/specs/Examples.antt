@@ -64,6 +64,10 @@ pub record Bounds : Type 0 where
   pub vertex-one-deeper : FromVertexAnswer (4 ∷ 0 ∷ replicate 25 3) gives noName 1
   pub long-enough : ToDomainAnswer (written 511) (replicate 27 9)
       leaves (countAnswer 0 3, 5 ∷ 1 ∷ 1 ∷ replicate 24 9)
+  pub all-places : ToDomainAnswer (written 511333333333333333333333333) (replicate 27 9)
+      leaves (countAnswer 0 27, 5 ∷ 1 ∷ 1 ∷ replicate 24 3)
+  pub vertex-all-places : ToVertexAnswer (nameOf 0x6615555555555502) (replicate 26 9)
+      leaves (countAnswer 0 26, 4 ∷ 0 ∷ replicate 24 3)
   pub vertex-long-enough : ToVertexAnswer (nameOf 0x2000000000000002) (replicate 26 9)
       leaves (countAnswer 0 2, 1 ∷ 0 ∷ replicate 24 9)
 
@@ -73,8 +77,8 @@ pub record Mistakes : Type 0 where
   pub reversed : FromDomainAnswer (5 ∷ 1 ∷ 1 ∷ 3 ∷ 2 ∷ 1 ∷ 0 ∷ []) (codeAnswer 0 (written 5110123)) → ⊥
   pub to-reversed : ToDomainAnswer (written 5113210) (replicate 27 9) (countAnswer 0 7)
       (5 ∷ 1 ∷ 1 ∷ 0 ∷ 1 ∷ 2 ∷ 3 ∷ replicate 20 9) → ⊥
-  -- digits 2 and 3 exchanged, as the e-index of orientation 1 has them
-  pub e-index : FromDomainAnswer (5 ∷ 1 ∷ 1 ∷ 3 ∷ 2 ∷ 1 ∷ 0 ∷ []) (codeAnswer 0 (written 5112310)) → ⊥
+  -- digits 2 and 3 exchanged by orientation: S(101) has orientation 1, where the e-indices of 2 and 3 are 3 and 2
+  pub e-index : FromDomainAnswer (1 ∷ 0 ∷ 1 ∷ 3 ∷ 2 ∷ []) (codeAnswer 0 (written 10123)) → ⊥
   -- corner 2 of the other domain, σ(1, T): for V(10) that of 101, which is V(20)
   pub other-domain : FromVertexAnswer (1 ∷ 0 ∷ []) (nameAnswer 0 (nameOf 0x2000000000000003)) → ⊥
   -- direction 2 taken for 3, and 3 for 2

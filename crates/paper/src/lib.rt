@@ -9,7 +9,7 @@ use words::CornerName;
 use words::TriangleCode;
 ghost use mathlib.Core.Path.{_≡_};
 ghost use mathlib.Core.Bool.{_&&_};
-ghost use mathlib.Core.List.{_∷_};
+ghost use mathlib.Core.List.{_∷_, reverse};
 ghost use Prim.Native.Nat.{_*_, _^_, _≤_, _<_};
 ghost use Rattle.words.specs.Family.{noCode};
 ghost use Rattle.net.specs.Sides.{IsSide, OneToThree};
@@ -17,7 +17,6 @@ ghost use Rattle.net.specs.Division.{cornerOf};
 ghost use Rattle.net.specs.Means.Paths.{digitsOf};
 ghost use Rattle.corners.specs.Answers.{noName, Named};
 ghost use Rattle.notation.specs.Domains.{isA, isBit};
-ghost use Rattle.notation.specs.Means.Reading.{reversed};
 ghost use Rattle.paper.specs.Answers.{FromDomainAnswer, FromVertexAnswer, ToDomainAnswer, ToVertexAnswer};
 
 // The places of a code of degree 24.
@@ -27,7 +26,7 @@ const VERTEX_PLACES: usize = 26;
 
 // ---- triangles
 
-fn refused(f: u64) -> CodeAnswer
+fn no_code(f: u64) -> CodeAnswer
     ensures { λ r. ⌜ r ≡ noCode f ⌝ }
 {
     CodeAnswer {
@@ -58,23 +57,23 @@ pub fn from_domain(code: &[u64]) -> CodeAnswer
 {
     let m = code.len();
     if DOMAIN_PLACES < m {
-        return refused(1);
+        return no_code(1);
     }
     if m < 3 {
-        return refused(33);
+        return no_code(33);
     }
     let a = code[0];
     let p = code[1];
     let q = code[2];
     if !begins(a, p, q) {
-        return refused(33);
+        return no_code(33);
     }
     match notation::read_digits(&code[3..]) {
         Digits::Path(v) => CodeAnswer {
             refusal: 0,
             code: TriangleCode(words::word_of(4 * a + 2 * p + q, (m - 3) as u64, v)),
         },
-        Digits::Wrong => refused(33),
+        Digits::Wrong => no_code(33),
     }
 }
 
@@ -134,7 +133,7 @@ fn name_at(s: u64, n: u64, v: u64, i: u64) -> NameAnswer
 // 1p0 with the digits 1, 1, ..; any other is corner 2 of the domain of orientation 0 whose base vertex it is.
 fn vertex_name(a: u64, p: u64, n: u64, v: u64) -> NameAnswer
     requires { ⌜ (a ≤ 5) × (p ≤ 1) × (n ≤ 24) × (v < 2 ^ (2 * n)) ⌝ }
-    ensures { λ r. ⌜ FromVertexAnswer (a ∷ p ∷ reversed (digitsOf n v)) r ⌝ }
+    ensures { λ r. ⌜ FromVertexAnswer (a ∷ p ∷ reverse (digitsOf n v)) r ⌝ }
 {
     if a == 0 {
         if v != 0 {

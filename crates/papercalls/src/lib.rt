@@ -1,5 +1,5 @@
-// The console's calls on the codes of source document 000 (document 02, 2026-13), each by its row of the table of calls;
-// 0 where the arguments cannot be read.
+// The console's calls on the codes of source document 000 (document 02, 2026-13), each by its row of the table of
+// calls; 0 where the arguments cannot be read.
 use grid::CornerName;
 use grid::CountAnswer;
 use grid::TriangleCode;
@@ -7,7 +7,7 @@ use replies::answers;
 use replies::arguments;
 use replies::places;
 use replies::places::Entry;
-ghost use Prim.Native.Nat.{_+_, _≤_};
+ghost use Prim.Native.Nat.{_≤_};
 ghost use lib.ListN.{length};
 
 // What is asked in the paper's notation.
@@ -16,12 +16,19 @@ pub enum Asked {
     Vertex(u64),
 }
 
-// The most places that a line may ask for: some more than the longest code has.
+// The places of the longest code of each kind, and the most that a line may ask for.
+const DOMAIN_PLACES: usize = 27;
+
+const VERTEX_PLACES: usize = 26;
+
 const MOST: usize = 32;
+
+// More digits than the longest code has.
+const TOO_MANY: usize = 28;
 
 // ---- to the paper
 
-// The first n digits, written together.
+// The first n digits, written together. (Each is one digit, 5 at most.)
 fn put_code(list: &[u64], n: usize, out: &mut [u8]) -> usize
     requires { ⌜ (n ≤ length (now list)) × (n ≤ 32) × (16384 ≤ length (now out)) ⌝ }
     ensures { λ r. ⌜ r ≤ 32 ⌝ }
@@ -41,6 +48,7 @@ fn put_answer(r: CountAnswer, list: &[u64], out: &mut [u8]) -> usize
     if r.refusal != 0 {
         return answers::refused(r.refusal, out);
     }
+    // No call counts more than the list has; but none of this crate is promised that.
     let n = r.count as usize;
     if list.len() < n {
         return 0;
@@ -85,7 +93,7 @@ fn with_places(q: Asked, line: &[u8], at: usize, usual: usize, out: &mut [u8]) -
     if !p.read {
         return 0;
     }
-    let mut list = [0u64; 32];
+    let mut list = [0u64; MOST];
     in_first(q, &mut list, p.count, p.shown, out)
 }
 
@@ -97,7 +105,7 @@ fn of_code(line: &[u8], at: usize, out: &mut [u8]) -> usize
     if !c.read {
         return 0;
     }
-    with_places(Asked::Domain(c.value), line, c.next, 27, out)
+    with_places(Asked::Domain(c.value), line, c.next, DOMAIN_PLACES, out)
 }
 
 fn of_name(line: &[u8], at: usize, out: &mut [u8]) -> usize
@@ -108,7 +116,7 @@ fn of_name(line: &[u8], at: usize, out: &mut [u8]) -> usize
     if !q.read {
         return 0;
     }
-    with_places(Asked::Vertex(q.value), line, q.next, 26, out)
+    with_places(Asked::Vertex(q.value), line, q.next, VERTEX_PLACES, out)
 }
 
 // ---- from the paper
@@ -161,7 +169,7 @@ fn of_first(call: u64, list: &[u64], n: usize, out: &mut [u8]) -> usize
     code_answer(call, &list[..n], out)
 }
 
-// Of a longer code its first 28 digits are handed on: they are more than any code of degree 24 has.
+// Of a longer code as many digits are handed on as are too many.
 fn of_digits(call: u64, line: &[u8], at: usize, out: &mut [u8]) -> usize
     requires { ⌜ (at ≤ length (now line)) × (16384 ≤ length (now out)) ⌝ }
     ensures { λ r. ⌜ r ≤ 16000 ⌝ }
@@ -169,7 +177,7 @@ fn of_digits(call: u64, line: &[u8], at: usize, out: &mut [u8]) -> usize
     let w = lines::next_word(line, at);
     let from = w.from;
     let end = w.end;
-    let mut list = [0u64; 28];
+    let mut list = [0u64; TOO_MANY];
     if from == end {
         return 0;
     }

@@ -204,7 +204,7 @@ fn length_at(line: &[u8], at: usize, most: usize) -> FoundLength
     }
 }
 
-// The optional last argument of a call with a lent list, which has `usual` places without it, and at most so many.
+// The optional last argument of a call with a lent list, which has `usual` places without it, and `most` at most.
 pub fn places_at(line: &[u8], at: usize, usual: usize, most: usize) -> Places
     requires { ⌜ (at ≤ length (now line)) × (usual ≤ most) ⌝ }
     ensures { λ r. ⌜ r .count ≤ most ⌝ }

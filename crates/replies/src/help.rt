@@ -3,7 +3,7 @@ use crate::arguments;
 ghost use Prim.Native.Nat.{_≤_};
 ghost use lib.ListN.{length};
 
-const HELP: [u8; 9022] = *b"The grid of the globe: one call to a line, and one line for its answer.
+const HELP: [u8; 9026] = *b"The grid of the globe: one call to a line, and one line for its answer.
 
   WORD     0x and 1 to 16 hexadecimal digits
   CODE     a triangle code, as 10003 for side 100 and digits 0 and 3; or a WORD
@@ -127,7 +127,7 @@ paper-name NAME [PLACES]            the corner's code there
 from-paper DIGITS                   the triangle of a code of source document 000
   from-paper 10003                  10003 0x208C000000000000
 
-from-paper-vertex DIGITS            the name of the corner of a vertex's code there
+from-paper-vertex DIGITS            the corner with this vertex code there, by its name
   from-paper-vertex 103             0x2040000000000003 corner 3 of 1000
 
 table DEGREE [LENGTH FILL [PLACE VALUE]..]

@@ -1,5 +1,6 @@
 -- The invariant: the digits that are left, over the list as it is, are all digits over the list as it came. Assumes
 -- nothing.
+use mathlib.Core.List.{reverse}
 use mathlib.Core.Path.{_≡_, _∙_, refl, sym}
 use Prim.Native.Nat.{_-_, _%_, _≤_}
 use native.Mathlib.Omega.{arith}
@@ -7,7 +8,6 @@ use borrow.Author.Needs.{needs}
 use lib.ListN.{length, length-set}
 use Rattle.frame.specs.Answers.{over}
 use Rattle.net.specs.Means.Paths.{digitsOf}
-use Rattle.notation.specs.Means.Reading.{reversed}
 use Rattle.notation.proofs.Reading.{put-all, put-last}
 use Rattle.notation.proofs.put_digits.Statement.{statement}
 use Rattle.notation.proofs.put_digits.Tie as tie
@@ -15,7 +15,7 @@ use Rattle.notation.proofs.put_digits.Tie as tie
 abbrev Inv-loop : tie.InvT-loop
 Inv-loop n v out₀ rest₀ i₀ out rest i =
     (i ≤ length out) × (length out ≡ length out₀)
-    × (over (reversed (digitsOf i rest)) out ≡ over (reversed (digitsOf n v)) out₀)
+    × (over (reverse (digitsOf i rest)) out ≡ over (reverse (digitsOf n v)) out₀)
 
 abbrev μ-loop : tie.MeasureT-loop
 μ-loop n v out₀ rest₀ i₀ out rest i = i

@@ -6,7 +6,7 @@ use borrow.Author.Needs.{needs}
 use denote.Ref.{now}
 use lib.ListN.{drop, getD, length}
 use Rattle.notation.specs.Means.Reading.{taken}
-use Rattle.notation.proofs.Reading.{room-next, take-end, take-next, take-no}
+use Rattle.notation.proofs.Reading.{read-end, read-next, read-no, room-next}
 use Rattle.notation.proofs.read_digits.Statement.{statement}
 use Rattle.notation.proofs.read_digits.Tie as tie
 
@@ -28,7 +28,7 @@ shared-slice-read-d c = search needs
 returns : tie.Need-returns Inv-loop μ-loop
 returns c =
     let p = c .before .before .before in
-    take-no (p .loop .v) (now (p .before .args .list)) (p .loop .i) (omega arith) (c .if1 .taken) ∙ p .loop .inv .2
+    read-no (p .loop .v) (now (p .before .args .list)) (p .loop .i) (omega arith) (c .if1 .taken) ∙ p .loop .inv .2
 
 -- the path with one digit more
 room : (c : tie.Else1 Inv-loop μ-loop) → let p = c .before .before .before in
@@ -56,13 +56,13 @@ loop-again c =
     let p = c .before .before .before in (
       omega arith,
       room c .0,
-      take-next (p .loop .v) (now (p .before .args .list)) (p .loop .i) (omega arith) (c .if1 .left) ∙ p .loop .inv .2,
+      read-next (p .loop .v) (now (p .before .args .list)) (p .loop .i) (omega arith) (c .if1 .left) ∙ p .loop .inv .2,
     )
 
 returns-2 : tie.Need-returns-2 Inv-loop μ-loop
 returns-2 c =
     let p = c .before in
-    take-end (p .loop .v) (now (p .before .args .list)) (p .loop .i) (omega arith) ∙ p .loop .inv .2
+    read-end (p .loop .v) (now (p .before .args .list)) (p .loop .i) (omega arith) ∙ p .loop .inv .2
 
 pub read-digits-spec : {M : Type 1} → statement M
 read-digits-spec =

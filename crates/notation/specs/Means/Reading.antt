@@ -1,7 +1,7 @@
 -- How the code reads and writes digits: a list of them as a path, and back. Assumes nothing.
 use Prim.Native.Nat.{ℕ, _+_, _*_}
 use mathlib.Core.Bool.{Bool, true, false}
-use mathlib.Core.List.{List, [], _∷_}
+use mathlib.Core.List.{List, [], _∷_, reverse}
 use lib.Dec.{leb}
 use Rattle.words.specs.declared.CornerName.{CornerName}
 use Rattle.net.specs.Division.{Weights}
@@ -21,15 +21,7 @@ unfoldable pub taken : (v : ℕ) → List ℕ → Digits
 taken v [] = Path v
 taken v (r ∷ rs) = only (leb r 3) (taken (4 * v + r) rs)
 
--- digits the other way round
-abbrev pub onto : List ℕ → List ℕ → List ℕ
-onto [] ds = ds
-onto (r ∷ rs) ds = onto rs (r ∷ ds)
-
-abbrev pub reversed : List ℕ → List ℕ
-reversed ds = onto ds []
-
 -- x is the code, of degree n, of the corner with these weights
 abbrev pub IsVertexOf : (n : ℕ) → Weights → Vertex → Type 0
 IsVertexOf n w x =
-    (q : CornerName) → IsName n w q → SameVertex n (x .a ∷ x .p ∷ reversed (digitsOf n (x .path))) q
+    (q : CornerName) → IsName n w q → SameVertex n (x .a ∷ x .p ∷ reverse (digitsOf n (x .path))) q

@@ -17,20 +17,20 @@ use Rattle.paper.proofs.FromPaper.{rest, rest-long}
 use Rattle.paper.proofs.from_domain.Statement.{statement}
 use Rattle.paper.proofs.from_domain.Tie as tie
 
-refused-requires : tie.Need-refused-requires
-refused-requires c κs = search needs
+no-code-requires : tie.Need-no-code-requires
+no-code-requires c κs = search needs
 
 returns : tie.Need-returns
-returns c = refused-deep (domain-refusal _) (c .before .if1 .taken) (c .refused .ensures)
+returns c = refused-deep (domain-refusal _) (c .before .if1 .taken) (c .no-code .ensures)
 
-refused-requires-2 : tie.Need-refused-requires-2
-refused-requires-2 c κs = search needs
+no-code-requires-2 : tie.Need-no-code-requires-2
+no-code-requires-2 c κs = search needs
 
 returns-2 : tie.Need-returns-2
 returns-2 c =
     let e = c .before .before in
     let xs = now (e .before .before .args .code) in
-    refused-wrong (domain-refusal xs) (e .if1 .left) (few-places xs (c .before .if2 .taken)) (c .refused2 .ensures)
+    refused-wrong (domain-refusal xs) (e .if1 .left) (few-places xs (c .before .if2 .taken)) (c .no-code2 .ensures)
 
 shared-slice-read-a : tie.Need-shared-slice-read-a
 shared-slice-read-a c = search needs
@@ -44,8 +44,8 @@ shared-slice-read-q c = search needs
 begins-requires : tie.Need-begins-requires
 begins-requires c κs = search needs
 
-refused-requires-3 : tie.Need-refused-requires-3
-refused-requires-3 c κs = search needs
+no-code-requires-3 : tie.Need-no-code-requires-3
+no-code-requires-3 c κs = search needs
 
 returns-3 : tie.Need-returns-3
 returns-3 c =
@@ -54,7 +54,7 @@ returns-3 c =
     let xs = now (e .before .before .before .args .code) in
     refused-wrong (domain-refusal xs) (e .before .if1 .left)
     (not-begun xs (e .if2 .left) (sym (b .begins .ensures) ∙ not-true _ (c .before .if3 .taken)))
-    (c .refused3 .ensures)
+    (c .no-code3 .ensures)
 
 sub-read-digits : tie.Need-sub-read-digits
 sub-read-digits c = search needs
@@ -110,8 +110,8 @@ word-of-requires c κs =
 enum-told : tie.Need-enum-told
 enum-told c = search needs
 
-refused-requires-4 : tie.Need-refused-requires-4
-refused-requires-4 c κs = search needs
+no-code-requires-4 : tie.Need-no-code-requires-4
+no-code-requires-4 c κs = search needs
 
 returns-4 : tie.Need-returns-4
 returns-4 c =
@@ -130,21 +130,21 @@ returns-5 c =
     refused-wrong (domain-refusal xs) (e .before .if1 .left)
     (not-digits xs (e .if2 .left)
     (digits-wrong (rest 3 xs) (sym (c .before .enum-told .given .1) ∙ d .read-digits .ensures)))
-    (c .refused4 .ensures)
+    (c .no-code4 .ensures)
 
 pub from-domain-spec : {M : Type 1} → statement M
 from-domain-spec =
     tie.close
     (tie.spec
-    refused-requires
+    no-code-requires
     returns
-    refused-requires-2
+    no-code-requires-2
     returns-2
     shared-slice-read-a
     shared-slice-read-p
     shared-slice-read-q
     begins-requires
-    refused-requires-3
+    no-code-requires-3
     returns-3
     sub-read-digits
     part-read-digits-start
@@ -157,6 +157,6 @@ from-domain-spec =
     add-word-of-2
     word-of-requires
     enum-told
-    refused-requires-4
+    no-code-requires-4
     returns-4
     returns-5)

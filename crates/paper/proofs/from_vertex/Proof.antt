@@ -10,7 +10,8 @@ use Rattle.corners.specs.Answers.{noName}
 use Rattle.corners.specs.declared.NameAnswer.{NameAnswer}
 use Rattle.notation.specs.Domains.{areDigits}
 use Rattle.paper.specs.Answers.{FromVertexAnswer}
-use Rattle.paper.proofs.FromPaper.{digits-wrong, path-small, read-room, refused-deep, refused-wrong, rest, rest-long}
+use Rattle.paper.proofs.FromPaper.{digits-wrong, path-small, read-room, refused-deep, refused-wrong}
+use Rattle.paper.proofs.FromPaper.{rest, rest-long}
 use Rattle.paper.proofs.VertexNames.{few-places, from-read, not-begun, vertex-refusal}
 use borrow.Author.Needs.{needs}
 use Rattle.paper.proofs.from_vertex.Statement.{statement}
@@ -51,8 +52,8 @@ module _ (c : tie.Else2) where
   short = c .before .if1 .left
 
   -- which is refused with 33 where it does not begin as a vertex's code, or has a wrong digit
-  wrong : {r : NameAnswer} → ((getD xs 0 0 ≤ 5) × (getD xs 1 0 ≤ 1) × (areDigits (rest 2 xs) ≡ true) → ⊥) → r ≡ noName 33
-      → FromVertexAnswer xs r
+  wrong : {r : NameAnswer} → ((getD xs 0 0 ≤ 5) × (getD xs 1 0 ≤ 1) × (areDigits (rest 2 xs) ≡ true) → ⊥)
+      → r ≡ noName 33 → FromVertexAnswer xs r
   wrong f e = refused-wrong (vertex-refusal xs) short (not-begun xs two f) e
 
 no-name-requires-3 : tie.Need-no-name-requires-3

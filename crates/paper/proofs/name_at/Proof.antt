@@ -16,7 +16,8 @@ word-of-requires c κs = search needs
 add-t7 : tie.Need-add-t7
 add-t7 c =
     let s = c .before in
-    rw (c .word-of .ensures) (omega (arith, made-fits _ (s .args .n) _ _ (s .pre .0) (s .pre .1) (s .pre .2) (s .pre .3)))
+    let fits = made-fits _ (s .args .n) _ _ (s .pre .0) (s .pre .1) (s .pre .2) (s .pre .3) in
+    rw (c .word-of .ensures) (omega (arith, fits))
 
 least-name-requires : tie.Need-least-name-requires
 least-name-requires c κs =
@@ -30,7 +31,8 @@ returns c =
     record {
       number = refl;
       is = made-named (a .s) (a .n) (a .v) (a .i) (s .pre .0) (s .pre .1) (s .pre .2) (s .pre .3) refl
-          (c .least-name .ensures ∙ ap (λ (w : ℕ). nameOf (leastName 5 (placeAt (w + a .i)))) (c .before .word-of .ensures));
+          (c .least-name .ensures
+          ∙ ap (λ (w : ℕ). nameOf (leastName 5 (placeAt (w + a .i)))) (c .before .word-of .ensures));
     }
 
 pub name-at-spec : {M : Type 1} → statement M

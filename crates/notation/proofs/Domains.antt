@@ -8,19 +8,20 @@ use native.Mathlib.Omega.{arith}
 use lib.Dec.{leb}
 use lib.ListN.{length}
 use borrow.Author.Tests.{le-leb, leb-true}
-use Rattle.words.specs.Words.{side, sideOf, degreeOf, path, wordOf}
+use Rattle.words.specs.Words.{side, degreeOf, path, wordOf}
 use Rattle.words.specs.Family.{codeOf}
 use Rattle.words.specs.Refusals.{IsCode}
 use Rattle.words.specs.declared.TriangleCode.{TriangleCode}
 use Rattle.words.proofs.Codes.{code-degree}
 use Rattle.words.proofs.Digits.{AreDigits, none, more}
 use Rattle.net.specs.Sides.{IsSide, cornerVertex, sideCorner}
-use Rattle.net.specs.Division.{Triangle, triangle, divide, triangleAt, cornerOf, unitAt}
+use Rattle.net.specs.Division.{Triangle, triangle, divide, triangleAt, pickCorner, cornerOf, unitAt}
 use Rattle.net.specs.Corners.{HasCorner, corner, triangleOf}
 use Rattle.net.proofs.Canonical.{and-true}
-use Rattle.net.proofs.CodePlaces.{codeFor, digitsIn, for-code, for-corner, for-digits, for-side}
+use Rattle.net.proofs.CodePlaces.{codeFor, for-code, for-corner}
 use Rattle.net.proofs.Crossing.{codes-differ}
-use Rattle.net.proofs.Paths.{are-digits, are-length}
+use Rattle.net.proofs.Neighbours.{same-corners}
+use Rattle.net.proofs.Paths.{are-digits}
 use Rattle.net.proofs.Table.{three}
 use Rattle.notation.specs.Domains.{isA, isBit, areDigits, isDomain, firstDomain, parted, partedBy, domain}
 use Rattle.notation.specs.Same.{SameDomain}
@@ -121,16 +122,12 @@ read (a ∷ p ∷ q ∷ rs) h =
       rs-ok = z .1;
     }
 
-module _ (xs : List ℕ) (x : Read xs) (short : length xs ≤ 27) where
+module _ (xs : List ℕ) (x : Read xs) where
   abbrev s : ℕ
   s = side (x .a) (x .p) (x .q)
 
   abbrev ds : List ℕ
-  ds = reverseAux (x .rs) []
-
-  -- our code
-  abbrev pub ours : TriangleCode
-  ours = codeFor s ds
+  ds = reverse (x .rs)
 
   size : length xs ≡ 3 + length (x .rs)
   size = let e : length xs ≡ suc (suc (suc (length (x .rs)))) = ap length (x .is) in omega arith
@@ -138,48 +135,49 @@ module _ (xs : List ℕ) (x : Read xs) (short : length xs ≤ 27) where
   are : AreDigits (length (x .rs) + 0) ds
   are = reverse-digits (x .rs) (x .rs-ok) none
 
-  ds-size : length ds ≡ length (x .rs)
-  ds-size = omega (arith, are-length are)
-
   a-side : IsSide s
   a-side = (omega (arith, x .a-low, x .p-ok, x .q-ok), omega (arith, x .a-high, x .p-ok, x .q-ok))
 
-  long : length ds ≤ 24
-  long = omega (arith, ds-size, size)
-
-  ours-code : IsCode (length (x .rs)) ours
-  ours-code = subst (λ (m : ℕ). IsCode m ours) ds-size (for-code s ds a-side (are-digits are) long)
-
-  -- "translated corners have the same weights"
-  ours-corners : domain xs ≡ triangleOf ours
-  unfolding cornerOf
-  ours-corners =
-      let c = for-corner s ds a-side (are-digits are) long in
+  -- its side, and its digits
+  domain-is : domain xs ≡ triangleAt s ds
+  domain-is =
       ap domain (x .is) ∙ ap (partedBy (x .rs)) (first-is (x .a) (x .p) (x .q) (x .p-ok) (x .q-ok))
-      ∙ parted-by s (x .rs) [] ∙ (λ i. triangle (sym (c 1) i) (sym (c 2) i) (sym (c 3) i))
+      ∙ parted-by s (x .rs) []
 
-  ours-side : sideOf (ours .0) ≡ s
-  ours-side = for-side s ds a-side (are-digits are) long
+  module _ (short : length xs ≤ 27) where
+    -- our code
+    abbrev pub ours : TriangleCode
+    ours = codeFor s ds
 
-  ours-digits : digitsIn ours ≡ ds
-  ours-digits = for-digits s ds a-side (are-digits are) long
+    long : length ds ≤ 24
+    long = omega (arith, reverse-long (x .rs), size)
 
-  pub ours-same : isDomain xs ≡ true → SameDomain (degreeOf (ours .0)) xs ours
-  ours-same h =
-      let c = ours-code in
-      let d : degreeOf (ours .0) ≡ length (x .rs) = c .degreeIs in
-      record {
-        allowed = h;
-        degree = size ∙ ap (λ (n : ℕ). 3 + n) (sym d);
-        code = subst (λ (m : ℕ). IsCode m ours) (sym d) c;
-        corners = ours-corners;
-      }
+    ours-code : IsCode (length (x .rs)) ours
+    ours-code = subst (λ (m : ℕ). IsCode m ours) (reverse-long (x .rs)) (for-code s ds a-side (are-digits are) long)
+
+    -- "translated corners have the same weights"
+    ours-corners : domain xs ≡ triangleOf ours
+    unfolding cornerOf
+    ours-corners =
+        let c = for-corner s ds a-side (are-digits are) long in
+        domain-is ∙ (λ i. triangle (sym (c 1) i) (sym (c 2) i) (sym (c 3) i))
+
+    pub ours-same : isDomain xs ≡ true → SameDomain (degreeOf (ours .0)) xs ours
+    ours-same h =
+        let c = ours-code in
+        let d : degreeOf (ours .0) ≡ length (x .rs) = c .degreeIs in
+        record {
+          allowed = h;
+          degree = size ∙ ap (λ (n : ℕ). 3 + n) (sym d);
+          code = subst (λ (m : ℕ). IsCode m ours) (sym d) c;
+          corners = ours-corners;
+        }
 
 -- ---- one of each for each
 
 -- two codes of a degree with the same corners are one
-same-corners : {n : ℕ} {t u : TriangleCode} → IsCode n t → IsCode n u → triangleOf t ≡ triangleOf u → t ≡ u
-same-corners {n} {t} {u} c d e =
+one-code : {n : ℕ} {t u : TriangleCode} → IsCode n t → IsCode n u → triangleOf t ≡ triangleOf u → t ≡ u
+one-code {n} {t} {u} c d e =
     codes-differ n t u c d
     (three (λ i. HasCorner u (corner t i))
     (1, omega arith, sym (ap (λ (x : Triangle). x .a1) e))
@@ -194,7 +192,7 @@ domain-some xs h l = let x = read xs h in (ours xs x l, ours-same xs x l h)
 pub domain-code : {m n : ℕ} {xs : List ℕ} {t u : TriangleCode} → SameDomain m xs t → SameDomain n xs u → t ≡ u
 domain-code {m} {n} {t = t} {u = u} x y =
     let e : m ≡ n = omega (arith, x .degree, y .degree) in
-    same-corners (subst (λ (m : ℕ). IsCode m t) e (x .code)) (y .code) (sym (x .corners) ∙ y .corners)
+    one-code (subst (λ (m : ℕ). IsCode m t) e (x .code)) (y .code) (sym (x .corners) ∙ y .corners)
 
 -- which has the same side and digits
 pub domain-digits : {n a p q : ℕ} {rs : List ℕ} {t : TriangleCode} → SameDomain n (a ∷ p ∷ q ∷ rs) t
@@ -207,24 +205,19 @@ domain-digits {n} {a} {p} {q} {rs} x =
     ∙ ap (λ (m : ℕ). codeOf (wordOf (side a p q) m (path (reverse rs)))) (reverse-long rs)
 
 -- to the paper: no two lists
-pub domain-list : {n : ℕ} {xs ys : List ℕ} {t : TriangleCode} → n ≤ 24 → SameDomain n xs t → SameDomain n ys t
-    → xs ≡ ys
-domain-list {n} {xs} {ys} short x y =
-    let lx : length xs ≤ 27 = omega (arith, x .degree, short) in
-    let ly : length ys ≤ 27 = omega (arith, y .degree, short) in
+pub domain-list : {n : ℕ} {xs ys : List ℕ} {t : TriangleCode} → SameDomain n xs t → SameDomain n ys t → xs ≡ ys
+unfolding cornerOf
+domain-list {n} {xs} {ys} x y =
     let a = read xs (x .allowed) in
     let b = read ys (y .allowed) in
-    let na : length (a .rs) ≡ n = omega (arith, size xs a lx, x .degree) in
-    let nb : length (b .rs) ≡ n = omega (arith, size ys b ly, y .degree) in
-    let ca = subst (λ (m : ℕ). IsCode m (ours xs a lx)) na (ours-code xs a lx) in
-    let cb = subst (λ (m : ℕ). IsCode m (ours ys b ly)) nb (ours-code ys b ly) in
-    let e : ours xs a lx ≡ ours ys b ly =
-    same-corners ca cb (sym (ours-corners xs a lx) ∙ x .corners ∙ sym (y .corners) ∙ ours-corners ys b ly) in
-    let f : side (a .a) (a .p) (a .q) ≡ side (b .a) (b .p) (b .q) =
-    sym (ours-side xs a lx) ∙ ap (λ (t : TriangleCode). sideOf (t .0)) e ∙ ours-side ys b ly in
-    let d = sym (ours-digits xs a lx) ∙ ap digitsIn e ∙ ours-digits ys b ly in
-    let g = reverse-one (a .rs) (b .rs) (na ∙ sym nb) d .0 in
-    let ea : a .a ≡ b .a = omega (arith, f, a .p-ok, a .q-ok, b .p-ok, b .q-ok) in
-    let ep : a .p ≡ b .p = omega (arith, f, a .p-ok, a .q-ok, b .p-ok, b .q-ok) in
-    let eq : a .q ≡ b .q = omega (arith, f, a .p-ok, a .q-ok, b .p-ok, b .q-ok) in
+    let n : length (a .rs) ≡ length (b .rs) = omega (arith, size xs a, size ys b, x .degree, y .degree) in
+    let e : triangleAt (s ys b) (ds ys b) ≡ triangleAt (s xs a) (ds xs a) =
+    sym (domain-is ys b) ∙ y .corners ∙ sym (x .corners) ∙ domain-is xs a in
+    let z = same-corners (s xs a) (ds xs a) (a-side xs a) (are-digits (are xs a)) (s ys b) (ds ys b) (a-side ys b)
+    (are-digits (are ys b)) (reverse-long (b .rs) ∙ sym n ∙ sym (reverse-long (a .rs)))
+    (λ i l. ap (λ (d : Triangle). pickCorner i d) e) in
+    let g = reverse-one (a .rs) (b .rs) n (sym (z .1)) .0 in
+    let ea : a .a ≡ b .a = omega (arith, z .0, a .p-ok, a .q-ok, b .p-ok, b .q-ok) in
+    let ep : a .p ≡ b .p = omega (arith, z .0, a .p-ok, a .q-ok, b .p-ok, b .q-ok) in
+    let eq : a .q ≡ b .q = omega (arith, z .0, a .p-ok, a .q-ok, b .p-ok, b .q-ok) in
     a .is ∙ (λ i. ea i ∷ ep i ∷ eq i ∷ g i) ∙ sym (b .is)

@@ -98,7 +98,7 @@ from-vertex-keeps xs =
 to-domain-keeps : (t : TriangleCode) (out : List ℕ)
     → KeepsLent (refuseToDomain t out) (ToDomainAnswer t out) (λ r. r .refusal) noCount out
 to-domain-keeps t out =
-    listed-keeps (λ z. (_, same-domain (asked z))) (λ z xs ys x y. domain-list (code-degree (asked z)) x y)
+    listed-keeps (λ z. (_, same-domain (asked z))) (λ z xs ys x y. domain-list x y)
   where
     asked : refuseToDomain t out ≡ 0 → IsCode (degreeOf (t .0)) t
     asked z = is-code t (domain-then t out .passes .0 z .0)

@@ -1,4 +1,5 @@
--- From one degree to the next: a corner of the next degree is a kept corner or the middle of an edge, and not both. Assumes nothing.
+-- From one degree to the next: a corner of the next degree is a kept corner or the middle of an edge, and not both.
+-- Assumes nothing.
 use mathlib.Core.Path.{_≡_, _∙_, refl, sym, ap, subst, subst₂}
 use mathlib.Core.List.{List, _∷_}
 use mathlib.Core.Logic.{_⊎_, inl, inr, ⊎-elim}
@@ -40,10 +41,18 @@ module _ (s : ℕ) (ds : List ℕ) where
   -- such is each corner of a child
   child-corner : (d i : ℕ) → OneToThree i → Made (cornerOf s (d ∷ ds) i)
   unfolding cornerOf triangleAt
-  child-corner zero = three (λ i. Made (cornerOf s (0 ∷ ds) i)) (inr (1, omega arith, refl)) (inr (2, omega arith, refl)) (inr (3, omega arith, refl))
-  child-corner (suc zero) = three (λ i. Made (cornerOf s (1 ∷ ds) i)) (inl (1, omega arith, refl)) (inr (3, omega arith, refl)) (inr (2, omega arith, refl))
-  child-corner (suc (suc zero)) = three (λ i. Made (cornerOf s (2 ∷ ds) i)) (inr (3, omega arith, refl)) (inl (2, omega arith, refl)) (inr (1, omega arith, refl))
-  child-corner (suc (suc (suc d))) = three (λ i. Made (cornerOf s (suc (suc (suc d)) ∷ ds) i)) (inr (2, omega arith, refl)) (inr (1, omega arith, refl)) (inl (3, omega arith, refl))
+  child-corner zero =
+      three (λ i. Made (cornerOf s (0 ∷ ds) i))
+      (inr (1, omega arith, refl)) (inr (2, omega arith, refl)) (inr (3, omega arith, refl))
+  child-corner (suc zero) =
+      three (λ i. Made (cornerOf s (1 ∷ ds) i))
+      (inl (1, omega arith, refl)) (inr (3, omega arith, refl)) (inr (2, omega arith, refl))
+  child-corner (suc (suc zero)) =
+      three (λ i. Made (cornerOf s (2 ∷ ds) i))
+      (inr (3, omega arith, refl)) (inl (2, omega arith, refl)) (inr (1, omega arith, refl))
+  child-corner (suc (suc (suc d))) =
+      three (λ i. Made (cornerOf s (suc (suc (suc d)) ∷ ds) i))
+      (inr (2, omega arith, refl)) (inr (1, omega arith, refl)) (inl (3, omega arith, refl))
 
   -- corner j is kept by the child of that digit, and the middle of edge k is corner k of the child 0
   child-keeps : (j : ℕ) → OneToThree j → cornerOf s (j ∷ ds) j ≡ kept (cornerOf s ds j)
@@ -66,13 +75,18 @@ corner-point t i = corner-at t i ∙ corner-is (sideOf (t .0)) (digitsIn t) i
 
 -- a corner has twelve weights, and the ends of an edge lean to each other
 corner-twelve : {n : ℕ} (p : Weights) → IsCorner n p → Twelve p
-corner-twelve p c = let t = c .0 in let i = c .2 in ap length (sym (i .2) ∙ corner-point t (i .0)) ∙ spread-length (sideOf (t .0)) (pointOf (i .0) (stateOf (digitsIn t)))
+corner-twelve p c =
+    let t = c .0 in let i = c .2 in
+    ap length (sym (i .2) ∙ corner-point t (i .0))
+    ∙ spread-length (sideOf (t .0)) (pointOf (i .0) (stateOf (digitsIn t)))
 
-edge-leans : {n : ℕ} {e : Edge} → IsEdge n e → Leans (corner (e .code) (next (e .number))) (corner (e .code) (prev (e .number)))
+edge-leans : {n : ℕ} {e : Edge} → IsEdge n e
+    → Leans (corner (e .code) (next (e .number))) (corner (e .code) (prev (e .number)))
 edge-leans {e = e} x =
     let t = e .code in
     let k = e .number in
-    subst₂ Leans (sym (corner-point t (next k))) (sym (corner-point t (prev k))) (state-leans (sideOf (t .0)) (code-side (x .a-code)) k (x .a-number) (stateOf (digitsIn t)))
+    subst₂ Leans (sym (corner-point t (next k))) (sym (corner-point t (prev k)))
+    (state-leans (sideOf (t .0)) (code-side (x .a-code)) k (x .a-number) (stateOf (digitsIn t)))
 
 -- the child of a code with one more digit
 module _ {n : ℕ} {t : TriangleCode} (c : IsCode n t) (d : ℕ) (l : d ≤ 3) (low : suc n ≤ 24) where
@@ -83,26 +97,34 @@ module _ {n : ℕ} {t : TriangleCode} (c : IsCode n t) (d : ℕ) (l : d ≤ 3) (
   short = omega (arith, in-length c)
 
   child-code : IsCode (suc n) (codeFor (sideOf (t .0)) below)
-  child-code = subst (λ (m : ℕ). IsCode m (codeFor (sideOf (t .0)) below)) (ap suc (in-length c)) (for-code (sideOf (t .0)) below (code-side c) (more l (in-digits c)) short)
+  child-code =
+      subst (λ (m : ℕ). IsCode m (codeFor (sideOf (t .0)) below)) (ap suc (in-length c))
+      (for-code (sideOf (t .0)) below (code-side c) (more l (in-digits c)) short)
 
   child-has : (i : ℕ) → OneToThree i → (p : Weights) → cornerOf (sideOf (t .0)) below i ≡ p → IsCorner (suc n) p
-  child-has i h p e = (codeFor (sideOf (t .0)) below, child-code, (i, h, for-corner (sideOf (t .0)) below (code-side c) (more l (in-digits c)) short i ∙ e))
+  child-has i h p e =
+      let at = for-corner (sideOf (t .0)) below (code-side c) (more l (in-digits c)) short i in
+      (codeFor (sideOf (t .0)) below, child-code, (i, h, at ∙ e))
 
 -- kept corners and middles of edges are corners of the next degree
 pub kept-corner : {n : ℕ} → suc n ≤ 24 → (p : Weights) → IsCorner n p → IsCorner (suc n) (kept p)
 kept-corner low p (t, c, (i, l, e)) =
-    child-has c i (l .1) low i l (kept p) (child-keeps (sideOf (t .0)) (digitsIn t) i l ∙ ap kept (sym (corner-at t i) ∙ e))
+    child-has c i (l .1) low i l (kept p)
+    (child-keeps (sideOf (t .0)) (digitsIn t) i l ∙ ap kept (sym (corner-at t i) ∙ e))
 
 pub middle-corner : {n : ℕ} → suc n ≤ 24 → (e : Edge) → IsEdge n e → IsCorner (suc n) (middleOf e)
 middle-corner low e x =
     let t = e .code in
     let k = e .number in
     child-has (x .a-code) 0 (omega arith) low k (x .a-number) (middleOf e)
-    (child-middle (sideOf (t .0)) (digitsIn t) k (x .a-number) ∙ (λ i. middle (sym (corner-at t (next k)) i) (sym (corner-at t (prev k)) i)))
+    (child-middle (sideOf (t .0)) (digitsIn t) k (x .a-number)
+    ∙ (λ i. middle (sym (corner-at t (next k)) i) (sym (corner-at t (prev k)) i)))
 
 -- the same two ends have the same middle
 ends-middle : {p q p′ q′ : Weights} → SameTwo p q p′ q′ → middle p′ q′ ≡ middle p q
-ends-middle {p} {q} {p′} {q′} = ⊎-elim (λ x. λ i. middle (sym (x .0) i) (sym (x .1) i)) (λ x. (λ i. middle (sym (x .1) i) (sym (x .0) i)) ∙ middle-turned q p)
+ends-middle {p} {q} {p′} {q′} =
+    ⊎-elim (λ x. λ i. middle (sym (x .0) i) (sym (x .1) i))
+    (λ x. (λ i. middle (sym (x .1) i) (sym (x .0) i)) ∙ middle-turned q p)
 
 -- kept from degree n, and the middle of an edge of degree n
 abbrev pub IsKept : ℕ → Weights → Type 0
@@ -129,7 +151,9 @@ module _ {n : ℕ} {t : TriangleCode} (c : IsCode (suc n) t) (low : suc n ≤ 24
   parent = codeFor s above
 
   parent-code : IsCode n parent
-  parent-code = subst (λ (m : ℕ). IsCode m parent) above-length (for-code s above (code-side c) above-digits (omega (arith, above-length)))
+  parent-code =
+      subst (λ (m : ℕ). IsCode m parent) above-length
+      (for-code s above (code-side c) above-digits (omega (arith, above-length)))
 
   parent-corner : (i : ℕ) → corner parent i ≡ cornerOf s above i
   parent-corner = for-corner s above (code-side c) above-digits (omega (arith, above-length))
@@ -139,17 +163,21 @@ module _ {n : ℕ} {t : TriangleCode} (c : IsCode (suc n) t) (low : suc n ≤ 24
   last-digit = ap (digits (t .0)) (c .degreeIs)
 
   from-parent : (p : Weights) → Made s above p → IsKept n p ⊎ IsMiddle n p
-  from-parent p (inl (j, l, e)) = inl (corner parent j, (parent, parent-code, (j, l, refl)), ap kept (parent-corner j) ∙ e)
+  from-parent p (inl (j, l, e)) =
+      inl (corner parent j, (parent, parent-code, (j, l, refl)), ap kept (parent-corner j) ∙ e)
   from-parent p (inr (k, l, e)) =
       let x = edge-there n parent k parent-code l in
       inr (x .0, x .1, ends-middle (x .2) ∙ (λ i. middle (parent-corner (next k) i) (parent-corner (prev k) i)) ∙ e)
 
   made-corner : (i : ℕ) → OneToThree i → Made s above (corner t i)
-  made-corner i l = subst (Made s above) (ap (λ (ds : List ℕ). cornerOf s ds i) (sym last-digit) ∙ sym (corner-at t i)) (child-corner s above (digitOf (t .0) (suc n)) i l)
+  made-corner i l =
+      subst (Made s above) (ap (λ (ds : List ℕ). cornerOf s ds i) (sym last-digit) ∙ sym (corner-at t i))
+      (child-corner s above (digitOf (t .0) (suc n)) i l)
 
 -- every corner of the next degree is the one or the other
 pub kept-or-middle : {n : ℕ} → suc n ≤ 24 → (p : Weights) → IsCorner (suc n) p → IsKept n p ⊎ IsMiddle n p
-kept-or-middle low p (t, c, (i, l, e)) = from-parent c low p (subst (Made (s c low) (above c low)) e (made-corner c low i l))
+kept-or-middle low p (t, c, (i, l, e)) =
+    from-parent c low p (subst (Made (s c low) (above c low)) e (made-corner c low i l))
 
 -- not both
 pub not-both : {n : ℕ} (p : Weights) → IsKept n p → IsMiddle n p → ⊥

@@ -19,7 +19,8 @@ use Rattle.grid.specs.Counts.{Edge, IsEdge, SameEnds, edge}
 -- ---- triangles
 
 -- the three corners of a triangle are different
-pub corners-differ : (n : ℕ) (t : TriangleCode) → IsCode n t → (i j : ℕ) → OneToThree i → OneToThree j → corner t i ≡ corner t j → i ≡ j
+pub corners-differ : (n : ℕ) (t : TriangleCode) → IsCode n t → (i j : ℕ) → OneToThree i → OneToThree j
+    → corner t i ≡ corner t j → i ≡ j
 corners-differ n t c i j l m e = corner-one c l m e
 
 -- codes are the same where their words are
@@ -45,8 +46,10 @@ two-then (inr x) (inr y) = inl (x .0 ∙ y .1, x .1 ∙ y .0)
 -- ---- edges
 
 -- two edges of one triangle with the same ends have the same number
-own-number : {n : ℕ} {t : TriangleCode} {k m : ℕ} → IsCode n t → OneToThree k → OneToThree m → SameEnds (edge t k) (edge t m) → k ≡ m
-own-number {n} {t} {k} {m} c l h e = ⊎-elim (λ z. z) (λ f. absurd (across-differ c l h f a b refl)) (either-way (same k m))
+own-number : {n : ℕ} {t : TriangleCode} {k m : ℕ} → IsCode n t → OneToThree k → OneToThree m
+    → SameEnds (edge t k) (edge t m) → k ≡ m
+own-number {n} {t} {k} {m} c l h e =
+    ⊎-elim (λ z. z) (λ f. absurd (across-differ c l h f a b refl)) (either-way (same k m))
   where
     a : Across n t k (codeAcross k t) (edgeAcross k t)
     a = across-is c k l
@@ -61,13 +64,21 @@ edges-differ n e f x y z = ⊎-elim one two (either-way (same (e .code .0) (f .c
     one : e .code .0 ≡ f .code .0 → e ≡ f
     one w =
         let q : e .code ≡ f .code = same-word w in
-        same-edge q (own-number (y .a-code) (x .a-number) (y .a-number) (subst (λ (t : TriangleCode). SameEnds (edge t (e .number)) f) q z))
+        same-edge q
+        (own-number (y .a-code) (x .a-number) (y .a-number)
+        (subst (λ (t : TriangleCode). SameEnds (edge t (e .number)) f) q z))
 
     two : (e .code .0 ≡ f .code .0 → ⊥) → e ≡ f
     two w =
         let a : Across n (e .code) (e .number) (f .code) (f .number) =
-        record { code = y .a-code; other = λ q. w (ap (λ (t : TriangleCode). t .0) (sym q)); edge = y .a-number; ends = z } in
-        absurd (omega (arith, x .lesser (f .code) (f .number) a, y .lesser (e .code) (e .number) (across-back (x .a-code) (x .a-number) a)))
+        record {
+          code = y .a-code;
+          other = λ q. w (ap (λ (t : TriangleCode). t .0) (sym q));
+          edge = y .a-number;
+          ends = z;
+        } in
+        let b = y .lesser (e .code) (e .number) (across-back (x .a-code) (x .a-number) a) in
+        absurd (omega (arith, x .lesser (f .code) (f .number) a, b))
 
 module _ (n : ℕ) (t : TriangleCode) (k : ℕ) (c : IsCode n t) (l : OneToThree k) where
   a : Across n t k (codeAcross k t) (edgeAcross k t)
@@ -75,14 +86,20 @@ module _ (n : ℕ) (t : TriangleCode) (k : ℕ) (c : IsCode n t) (l : OneToThree
 
   -- told from the lesser triangle
   pub edge-here : t .0 < codeAcross k t .0 → IsEdge n (edge t k)
-  edge-here h = record { a-code = c; a-number = l; lesser = λ u m b. let q = ap (λ (t : TriangleCode). t .0) (across-only c k l u m b .0) in omega (arith, h, q) }
+  edge-here h = record {
+    a-code = c;
+    a-number = l;
+    lesser = λ u m b. let q = ap (λ (t : TriangleCode). t .0) (across-only c k l u m b .0) in omega (arith, h, q);
+  }
 
   -- or from the other triangle, where that is the lesser
   edge-across : codeAcross k t .0 < t .0 → IsEdge n (edge (codeAcross k t) (edgeAcross k t))
   edge-across h = record {
     a-code = a .code;
     a-number = a .edge;
-    lesser = λ u m b. let q = ap (λ (t : TriangleCode). t .0) (back-again n t k c l (codeAcross k t) (edgeAcross k t) a u m b .0) in omega (arith, h, q);
+    lesser = λ u m b.
+        let q = ap (λ (t : TriangleCode). t .0) (back-again n t k c l (codeAcross k t) (edgeAcross k t) a u m b .0) in
+        omega (arith, h, q);
   }
 
   -- the words of the two triangles differ
@@ -92,5 +109,6 @@ module _ (n : ℕ) (t : TriangleCode) (k : ℕ) (c : IsCode n t) (l : OneToThree
   -- every edge of every triangle has the ends of one that is counted
   pub edge-there : (e : Edge) × IsEdge n e × SameEnds (edge t k) e
   edge-there =
-      ⊎-elim (λ h. (edge t k, edge-here h, inl (refl, refl))) (λ f. (edge (codeAcross k t) (edgeAcross k t), edge-across (omega (arith, f, words-differ)), a .ends))
+      ⊎-elim (λ h. (edge t k, edge-here h, inl (refl, refl)))
+      (λ f. (edge (codeAcross k t) (edgeAcross k t), edge-across (omega (arith, f, words-differ)), a .ends))
       (either-way (less (t .0) (codeAcross k t .0)))

@@ -1,4 +1,5 @@
--- The bridge from twelve weights to three: a corner's weights lie at its side's three vertices, as the division by states has them.
+-- The bridge from twelve weights to three: a corner's weights lie at its side's three vertices, as the division by
+-- states has them.
 -- Assumes nothing.
 use mathlib.Core.Path.{_≡_, _∙_, refl, ap}
 use mathlib.Core.Bool.{Bool, true, false}
@@ -64,11 +65,16 @@ each-middle f g (v ∷ vs) = ap (λ (l : List ℕ). (f v + g v) ∷ l) (each-mid
 module _ (s : ℕ) where
   spread-kept : (p : Point) → kept (spread s p) ≡ spread s (twiceOf p)
   unfolding spread weightAt
-  spread-kept p = each-kept (weightAt s p) vertices ∙ each-same (λ v. 2 * weightAt s p v) (weightAt s (twiceOf p)) (λ v. simp load-twice (omega arith)) vertices
+  spread-kept p =
+      each-kept (weightAt s p) vertices
+      ∙ each-same (λ v. 2 * weightAt s p v) (weightAt s (twiceOf p)) (λ v. simp load-twice (omega arith)) vertices
 
   spread-middle : (p q : Point) → middle (spread s p) (spread s q) ≡ spread s (plus p q)
   unfolding spread weightAt
-  spread-middle p q = each-middle (weightAt s p) (weightAt s q) vertices ∙ each-same (λ v. weightAt s p v + weightAt s q v) (weightAt s (plus p q)) (λ v. simp load-add (omega arith)) vertices
+  spread-middle p q =
+      each-middle (weightAt s p) (weightAt s q) vertices
+      ∙ each-same (λ v. weightAt s p v + weightAt s q v) (weightAt s (plus p q))
+      (λ v. simp load-add (omega arith)) vertices
 
   -- a triangle of weights is that of a state, corner by corner
   pub record Spreads (a : State) (t : Triangle) : Type 0 where
@@ -81,7 +87,8 @@ module _ (s : ℕ) where
     twice : (p : Point) {b : List ℕ} {r : Point} → b ≡ spread s p → twiceOf p ≡ r → kept b ≡ spread s r
     twice p e f = ap kept e ∙ spread-kept p ∙ ap (spread s) f
 
-    between : (p q : Point) {b c : List ℕ} {r : Point} → b ≡ spread s p → c ≡ spread s q → plus p q ≡ r → middle b c ≡ spread s r
+    between : (p q : Point) {b c : List ℕ} {r : Point} → b ≡ spread s p → c ≡ spread s q → plus p q ≡ r
+        → middle b c ≡ spread s r
     between p q e f g = (λ i. middle (e i) (f i)) ∙ spread-middle p q ∙ ap (spread s) g
 
     k1 : {r : Point} → twiceOf (first a) ≡ r → kept (t .a1) ≡ spread s r
@@ -144,7 +151,8 @@ module _ (s : ℕ) where
     s3 = k3 (Down x y z) t h (same-point _ _ (omega arith) (omega arith) (omega arith));
   }
 
-  unit : (i : ℕ) (p : Point) → ((v : ℕ) → load (eqb v (cornerVertex s i)) 1 ≡ weightAt s p v) → unitAt (cornerVertex s i) ≡ spread s p
+  unit : (i : ℕ) (p : Point) → ((v : ℕ) → load (eqb v (cornerVertex s i)) 1 ≡ weightAt s p v)
+      → unitAt (cornerVertex s i) ≡ spread s p
   unfolding spread unitAt
   unit i p e = each-same (λ v. load (eqb v (cornerVertex s i)) 1) (weightAt s p) e vertices
 

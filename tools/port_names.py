@@ -4,7 +4,7 @@
 usage: python3 tools/port_names.py           rewrites the .antt files, and the clauses of the .rt files, in place
        python3 tools/port_names.py --list    prints each old name with its new one, and writes nothing
 
-At the top of the repository, right after the kit's port.py. A name that is a type keeps its capital. Any other is in
+At the top of the repository, once, right after the kit's port.py. A name that is a type keeps its capital. Any other is in
 snake case. Where two names would meet in a file, the one that had a dash, a lemma, gets `_lem`.
 """
 

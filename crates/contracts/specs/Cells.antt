@@ -6,9 +6,9 @@ use Rattle.frame.specs.Promises.{Says}
 use Rattle.grid.specs.Contracts.{Slice}
 use Rattle.cells.specs.Checking.{checked}
 use Rattle.cells.specs.declared.Verdict.{Verdict}
-use Rattle.cells.proofs.check.Reads as check_call_call
+use Rattle.cells.proofs.check.Reads as check_call
 
 -- For any list, left with any contents, and any result.
 pub record Contracts : Type 0 where
   pub check : (κs : Lfts 1) (words new : Slice) (r : Verdict)
-      → Says (check_call_call.Asked κs (words, tt)) (check_call_call.Learnt κs (words, tt) r (new, tt)) (r ≡ checked words.now)
+      → Says (check_call.Asked κs (words, tt)) (check_call.Learnt κs (words, tt) r (new, tt)) (r ≡ checked words.now)

@@ -11,21 +11,21 @@ use Rattle.harbour.specs.Answers.{ReadAnswer, WriteAnswer, SmallCrossAnswer, Sma
 use Rattle.harbour.specs.declared.SmallCode.{SmallCode}
 use Rattle.harbour.specs.declared.SmallAnswer.{SmallAnswer}
 use Rattle.harbour.specs.declared.SmallStepAnswer.{SmallStepAnswer}
-use Rattle.harbour.proofs.SmallCode.check.Reads as check_call_call
-use Rattle.harbour.proofs.SmallCode.read.Reads as read_call_call
-use Rattle.harbour.proofs.write.Reads as write_call_call
-use Rattle.harbour.proofs.SmallCode.cross.Reads as cross_call_call
-use Rattle.harbour.proofs.file.Reads as file_call_call
+use Rattle.harbour.proofs.SmallCode.check.Reads as check_call
+use Rattle.harbour.proofs.SmallCode.read.Reads as read_call
+use Rattle.harbour.proofs.write.Reads as write_call
+use Rattle.harbour.proofs.SmallCode.cross.Reads as cross_call
+use Rattle.harbour.proofs.file.Reads as file_call
 
 -- The calls in the order of `OneAnswer`, for any arguments and any result.
 pub record Contracts : Type 0 where
   pub check : (κs : Lfts 0) (s : SmallCode) (r : ℕ)
-      → Says (check_call_call.Asked κs (s, tt)) (check_call_call.Learnt κs (s, tt) r (s, tt)) (r ≡ check_small s)
+      → Says (check_call.Asked κs (s, tt)) (check_call.Learnt κs (s, tt) r (s, tt)) (r ≡ check_small s)
   pub read : (κs : Lfts 0) (s : SmallCode) (r : CodeAnswer)
-      → Says (read_call_call.Asked κs (s, tt)) (read_call_call.Learnt κs (s, tt) r (s, tt)) (ReadAnswer s r)
+      → Says (read_call.Asked κs (s, tt)) (read_call.Learnt κs (s, tt) r (s, tt)) (ReadAnswer s r)
   pub write : (κs : Lfts 0) (t : TriangleCode) (r : SmallAnswer)
-      → Says (write_call_call.Asked κs (t, tt)) (write_call_call.Learnt κs (t, tt) r (t, tt)) (WriteAnswer t r)
+      → Says (write_call.Asked κs (t, tt)) (write_call.Learnt κs (t, tt) r (t, tt)) (WriteAnswer t r)
   pub cross : (κs : Lfts 0) (s : SmallCode) (k : ℕ) (r : SmallStepAnswer)
-      → Says (cross_call_call.Asked κs (s, (k, tt))) (cross_call_call.Learnt κs (s, (k, tt)) r (s, (k, tt))) (SmallCrossAnswer s k r)
+      → Says (cross_call.Asked κs (s, (k, tt))) (cross_call.Learnt κs (s, (k, tt)) r (s, (k, tt))) (SmallCrossAnswer s k r)
   pub file : (κs : Lfts 0) (n : ℕ) (d : Direction) (r : SmallAnswer)
-      → Says (file_call_call.Asked κs (n, (d, tt))) (file_call_call.Learnt κs (n, (d, tt)) r (n, (d, tt))) (SmallFileAnswer n d r)
+      → Says (file_call.Asked κs (n, (d, tt))) (file_call.Learnt κs (n, (d, tt)) r (n, (d, tt))) (SmallFileAnswer n d r)

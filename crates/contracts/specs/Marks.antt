@@ -7,14 +7,14 @@ use Rattle.words.specs.declared.TriangleCode.{TriangleCode}
 use Rattle.marks.specs.Answers.{TableMarkAnswer, EdgeMarkAnswer}
 use Rattle.marks.specs.declared.MarkAnswer.{MarkAnswer}
 use Rattle.contracts.specs.Soundings.{Readings}
-use Rattle.marks.proofs.table_mark.Reads as table_mark_call_call
-use Rattle.marks.proofs.edge_mark.Reads as edge_mark_call_call
+use Rattle.marks.proofs.table_mark.Reads as table_mark_call
+use Rattle.marks.proofs.edge_mark.Reads as edge_mark_call
 
 -- The calls in the order of `OneAnswer`, for any arguments and any result.
 pub record Contracts : Type 0 where
   pub table : (κs : Lfts 1) (n : ℕ) (t : TriangleCode) (list new : Readings) (r : MarkAnswer)
-      → Says (table_mark_call_call.Asked κs (n, (t, (list, tt))))
-      (table_mark_call_call.Learnt κs (n, (t, (list, tt))) r (n, (t, (new, tt)))) (TableMarkAnswer n t list.now r)
+      → Says (table_mark_call.Asked κs (n, (t, (list, tt))))
+      (table_mark_call.Learnt κs (n, (t, (list, tt))) r (n, (t, (new, tt)))) (TableMarkAnswer n t list.now r)
   pub edge : (κs : Lfts 0) (t : TriangleCode) (k : ℕ) (r : MarkAnswer)
-      → Says (edge_mark_call_call.Asked κs (t, (k, tt))) (edge_mark_call_call.Learnt κs (t, (k, tt)) r (t, (k, tt)))
+      → Says (edge_mark_call.Asked κs (t, (k, tt))) (edge_mark_call.Learnt κs (t, (k, tt)) r (t, (k, tt)))
       (EdgeMarkAnswer t k r)

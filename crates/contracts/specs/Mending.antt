@@ -5,12 +5,12 @@ use Rattle.frame.specs.Promises.{Says}
 use Rattle.grid.specs.Contracts.{Slice}
 use Rattle.mending.specs.Answers.{lists, MendResult}
 use Rattle.mending.specs.declared.MendAnswer.{MendAnswer}
-use Rattle.mender.proofs.mend.Reads as mend_call_call
+use Rattle.mender.proofs.mend.Reads as mend_call
 
 -- For any four lists, left with any contents, and any result.
 pub record Contracts : Type 0 where
   pub mend : (κs : Lfts 4) (input out words reasons input' out' words' reasons' : Slice) (r : MendAnswer)
-      → Says (mend_call_call.Asked κs (input, (out, (words, (reasons, tt)))))
-      (mend_call_call.Learnt κs (input, (out, (words, (reasons, tt)))) r (input', (out', (words', (reasons', tt)))))
+      → Says (mend_call.Asked κs (input, (out, (words, (reasons, tt)))))
+      (mend_call.Learnt κs (input, (out, (words, (reasons, tt)))) r (input', (out', (words', (reasons', tt)))))
       (MendResult input.now (lists out.now words.now reasons.now) r
       (lists out'.now words'.now reasons'.now))

@@ -9,22 +9,22 @@ use Rattle.corners.specs.declared.NameAnswer.{NameAnswer}
 use Rattle.corners.specs.declared.CountAnswer.{CountAnswer}
 use Rattle.grid.specs.Contracts.{Slice}
 use Rattle.paper.specs.Answers.{FromDomainAnswer, FromVertexAnswer, ToDomainAnswer, ToVertexAnswer}
-use Rattle.paper.proofs.from_domain.Reads as from_domain_call_call
-use Rattle.paper.proofs.from_vertex.Reads as from_vertex_call_call
-use Rattle.paper.proofs.to_domain.Reads as to_domain_call_call
-use Rattle.paper.proofs.to_vertex.Reads as to_vertex_call_call
+use Rattle.paper.proofs.from_domain.Reads as from_domain_call
+use Rattle.paper.proofs.from_vertex.Reads as from_vertex_call
+use Rattle.paper.proofs.to_domain.Reads as to_domain_call
+use Rattle.paper.proofs.to_vertex.Reads as to_vertex_call
 
 -- The calls in the order of `OneAnswer`, for any arguments and any result, and a lent list left with any contents.
 pub record Contracts : Type 0 where
   pub from_domain : (κs : Lfts 1) (code new : Slice) (r : CodeAnswer)
-      → Says (from_domain_call_call.Asked κs (code, tt)) (from_domain_call_call.Learnt κs (code, tt) r (new, tt))
+      → Says (from_domain_call.Asked κs (code, tt)) (from_domain_call.Learnt κs (code, tt) r (new, tt))
       (FromDomainAnswer code.now r)
   pub from_vertex : (κs : Lfts 1) (code new : Slice) (r : NameAnswer)
-      → Says (from_vertex_call_call.Asked κs (code, tt)) (from_vertex_call_call.Learnt κs (code, tt) r (new, tt))
+      → Says (from_vertex_call.Asked κs (code, tt)) (from_vertex_call.Learnt κs (code, tt) r (new, tt))
       (FromVertexAnswer code.now r)
   pub to_domain : (κs : Lfts 1) (t : TriangleCode) (out new : Slice) (r : CountAnswer)
-      → Says (to_domain_call_call.Asked κs (t, (out, tt))) (to_domain_call_call.Learnt κs (t, (out, tt)) r (t, (new, tt)))
+      → Says (to_domain_call.Asked κs (t, (out, tt))) (to_domain_call.Learnt κs (t, (out, tt)) r (t, (new, tt)))
       (ToDomainAnswer t out.now r new.now)
   pub to_vertex : (κs : Lfts 1) (q : CornerName) (out new : Slice) (r : CountAnswer)
-      → Says (to_vertex_call_call.Asked κs (q, (out, tt))) (to_vertex_call_call.Learnt κs (q, (out, tt)) r (q, (new, tt)))
+      → Says (to_vertex_call.Asked κs (q, (out, tt))) (to_vertex_call.Learnt κs (q, (out, tt)) r (q, (new, tt)))
       (ToVertexAnswer q out.now r new.now)

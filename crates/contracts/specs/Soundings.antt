@@ -12,12 +12,12 @@ use Rattle.tables.specs.declared.TableAnswer.{TableAnswer}
 use Rattle.tables.specs.declared.SoundingAnswer.{SoundingAnswer}
 use Rattle.coarse.specs.Sums.{Coarse, coarse, Chart, chart}
 use Rattle.coarse.specs.Answers.{TakeAnswer, SetAnswer, ClearAnswer, GiveAnswer, WorkOutAnswer}
-use Rattle.soundings.proofs.get.Reads as get_call_call
-use Rattle.soundings.proofs.take.Reads as take_call_call
-use Rattle.soundings.proofs.set.Reads as set_call_call
-use Rattle.soundings.proofs.clear.Reads as clear_call_call
-use Rattle.soundings.proofs.give.Reads as give_call_call
-use Rattle.soundings.proofs.work_out.Reads as work_out_call_call
+use Rattle.soundings.proofs.get.Reads as get_call
+use Rattle.soundings.proofs.take.Reads as take_call
+use Rattle.soundings.proofs.set.Reads as set_call
+use Rattle.soundings.proofs.clear.Reads as clear_call
+use Rattle.soundings.proofs.give.Reads as give_call
+use Rattle.soundings.proofs.work_out.Reads as work_out_call
 
 -- A lent list of signed numbers, as a call is handed it and leaves it; `now` is what it holds.
 abbrev pub Readings : Type 0
@@ -40,21 +40,21 @@ all l = chart (shared l.0.now l.1.0.now) (stored l.1.1)
 -- For any arguments, any result, and lists left with any contents.
 pub record Contracts : Type 0 where
   pub get : (κs : Lfts 1) (n : ℕ) (t : TriangleCode) (list new : Readings) (r : SoundingAnswer)
-      → Says (get_call_call.Asked κs (n, (t, (list, tt)))) (get_call_call.Learnt κs (n, (t, (list, tt))) r (n, (t, (new, tt))))
+      → Says (get_call.Asked κs (n, (t, (list, tt)))) (get_call.Learnt κs (n, (t, (list, tt))) r (n, (t, (new, tt))))
       (GetAnswer n t list.now r)
   pub take : (κs : Lfts 4) (d n : ℕ) (t : TriangleCode) (lists new : FourLists) (r : TableAnswer)
-      → Says (take_call_call.Asked κs (d, (n, (t, lists)))) (take_call_call.Learnt κs (d, (n, (t, lists))) r (d, (n, (t, new))))
+      → Says (take_call.Asked κs (d, (n, (t, lists)))) (take_call.Learnt κs (d, (n, (t, lists))) r (d, (n, (t, new))))
       (TakeAnswer d n t (all lists) r (all new))
   pub set : (κs : Lfts 4) (d n : ℕ) (t : TriangleCode) (x : ℤ) (lists new : FourLists) (r : TableAnswer)
-      → Says (set_call_call.Asked κs (d, (n, (t, (x, lists)))))
-      (set_call_call.Learnt κs (d, (n, (t, (x, lists)))) r (d, (n, (t, (x, new)))))
+      → Says (set_call.Asked κs (d, (n, (t, (x, lists)))))
+      (set_call.Learnt κs (d, (n, (t, (x, lists)))) r (d, (n, (t, (x, new)))))
       (SetAnswer d n t x (all lists) r (all new))
   pub clear : (κs : Lfts 4) (d n : ℕ) (t : TriangleCode) (lists new : FourLists) (r : TableAnswer)
-      → Says (clear_call_call.Asked κs (d, (n, (t, lists)))) (clear_call_call.Learnt κs (d, (n, (t, lists))) r (d, (n, (t, new))))
+      → Says (clear_call.Asked κs (d, (n, (t, lists)))) (clear_call.Learnt κs (d, (n, (t, lists))) r (d, (n, (t, new))))
       (ClearAnswer d n t (all lists) r (all new))
   pub give : (κs : Lfts 4) (d n : ℕ) (t : TriangleCode) (lists new : FourLists) (r : TableAnswer)
-      → Says (give_call_call.Asked κs (d, (n, (t, lists)))) (give_call_call.Learnt κs (d, (n, (t, lists))) r (d, (n, (t, new))))
+      → Says (give_call.Asked κs (d, (n, (t, lists)))) (give_call.Learnt κs (d, (n, (t, lists))) r (d, (n, (t, new))))
       (GiveAnswer d n t (all lists) r (all new))
   pub work_out : (κs : Lfts 3) (n : ℕ) (list list' : Readings) (sums new : TwoLists) (r : TableAnswer)
-      → Says (work_out_call_call.Asked κs (n, (list, sums))) (work_out_call_call.Learnt κs (n, (list, sums)) r (n, (list', new)))
+      → Says (work_out_call.Asked κs (n, (list, sums))) (work_out_call.Learnt κs (n, (list, sums)) r (n, (list', new)))
       (WorkOutAnswer n list.now (stored sums) r (stored new))

@@ -23,7 +23,7 @@ use Rattle.filing.specs.Holding.{AllNonNeg, Holds}
 use Rattle.filing.specs.Filing.{AreHolders}
 use Rattle.filing.specs.Means.Descent.{child_dets, holds, holders}
 use Rattle.filing.specs.Means.Sides.{side_dets}
-use Rattle.filing.specs.Means.Lists.{joined, side_words, all_words_lem}
+use Rattle.filing.specs.Means.Lists.{joined, side_words, all_words}
 use Rattle.filing.specs.declared.Direction.{Direction}
 use Rattle.filing.specs.declared.Determinants.{Determinants}
 use Rattle.filing.proofs.Recurrence.{below, below_first}
@@ -215,13 +215,13 @@ module _ (n : ℕ) (d : Direction) (low : n ≤ 24) where
       (moved ((s - 4) * 4 ^ n) (word_of s n)
       (λ v a b. (side_means s v h (omega arith), λ i. (sym (at_side s v h.0 (omega arith)) i).0)) here)
 
-  all_words_lem : Words 0 (20 * 4 ^ n) (all_words_lem d n 4)
-  unfolding all_words_lem
+  all_words_lem : Words 0 (20 * 4 ^ n) (all_words d n 4)
+  unfolding all_words
   all_words_lem = between (omega arith) (omega arith) (parts (λ s. (s - 4) * 4 ^ n) (side_words d n) 20 4
       (λ s a b. side_words_lem s (a, b)))
 
   -- the list of all holders
-  pub all_holders : AreHolders n d (all_words_lem d n 4)
+  pub all_holders : AreHolders n d (all_words d n 4)
   all_holders = record {
     rising = rising (λ i j. codes_rise_lem n i j low) all_words_lem;
     codes = λ m h. let r = listed all_words_lem m h in subst (IsCode n) (λ i. code_of (sym r.is i))

@@ -12,7 +12,7 @@ use Rattle.words.proofs.Codes.{Has, code_side, code_word, made}
 use Rattle.net.specs.Sides.{IsSide}
 use Rattle.net.specs.Division.{Triangle, triangle, corner_of, triangle_at}
 use Rattle.net.specs.Corners.{corner}
-use Rattle.net.specs.Means.Paths.{digits_of_lem}
+use Rattle.net.specs.Means.Paths.{digits_of}
 use Rattle.net.proofs.Paths.{digits_of_lem, path_of}
 use Rattle.filing.specs.Holding.{along, determinants, AllNonNeg, Holds}
 use Rattle.filing.specs.declared.Direction.{Direction}
@@ -33,18 +33,18 @@ made_triangle {t = t} h = code_triangle t h.code.degree_is ∙ (λ i. triangle_a
 
 -- the code of the side s and the path v
 module _ (s n v : ℕ) (hs : IsSide s) (hn : n ≤ 24) (hv : v < 2 ^ (2 * n)) where
-  word_has : Has s n (digits_of_lem n v) (code_of (word_of s n v))
+  word_has : Has s n (digits_of n v) (code_of (word_of s n v))
   word_has =
-      subst (λ (w : ℕ). Has s n (digits_of_lem n v) (code_of (word_of s n w))) (path_of n v hv) (made s n hs.0 hs.1 hn (digits_of_lem n v))
+      subst (λ (w : ℕ). Has s n (digits_of n v) (code_of (word_of s n w))) (path_of n v hv) (made s n hs.0 hs.1 hn (digits_of_lem n v))
 
   pub word_code : IsCode n (code_of (word_of s n v))
   word_code = word_has.code
 
   -- its determinants, from the side's by the digits of v
-  pub word_dets : (d : Direction) → determinants (along d) (corners_of (code_of (word_of s n v))) ≡ below (determinants (along d) (triangle_at s [])) (digits_of_lem n v)
-  word_dets d = ap (determinants (along d)) (made_triangle word_has) ∙ dets_below (along d) s (digits_of_lem n v)
+  pub word_dets : (d : Direction) → determinants (along d) (corners_of (code_of (word_of s n v))) ≡ below (determinants (along d) (triangle_at s [])) (digits_of n v)
+  word_dets d = ap (determinants (along d)) (made_triangle word_has) ∙ dets_below (along d) s (digits_of n v)
 
-  pub word_holds : (d : Direction) → Holds (code_of (word_of s n v)) d ↔ AllNonNeg (below (determinants (along d) (triangle_at s [])) (digits_of_lem n v))
+  pub word_holds : (d : Direction) → Holds (code_of (word_of s n v)) d ↔ AllNonNeg (below (determinants (along d) (triangle_at s [])) (digits_of n v))
   word_holds d = (λ h. subst AllNonNeg (word_dets d) h, λ h. subst AllNonNeg (sym (word_dets d)) h)
 
 -- every code is the word of a side and a path

@@ -155,7 +155,7 @@ demand_2_codes = record {
       let n = naming_is t i s a z in
       let g = b.answered (name_passes_all n.1).0 in
       λ j. record { refusal = g.number j; at = (g.is ∙ ap exact n.1.there) j };
-  same_point_lem = same_point_lem;
+  same_point = same_point_lem;
 }
 
 -- ---- 2, from weights back to the name

@@ -11,35 +11,35 @@ use Rattle.words.specs.Family.{ParentAnswer, ChildAnswer}
 use Rattle.words.specs.declared.TriangleCode.{TriangleCode}
 use Rattle.words.specs.declared.CornerName.{CornerName}
 use Rattle.words.specs.declared.CodeAnswer.{CodeAnswer}
-use Rattle.words.proofs.TriangleCode.check.Reads as check_call_call
-use Rattle.words.proofs.TriangleCode.parent.Reads as parent_call_call
-use Rattle.words.proofs.TriangleCode.child.Reads as child_call_call
+use Rattle.words.proofs.TriangleCode.check.Reads as check_call
+use Rattle.words.proofs.TriangleCode.parent.Reads as parent_call
+use Rattle.words.proofs.TriangleCode.child.Reads as child_call
 use Rattle.net.specs.Refusals.{check_name}
 use Rattle.filing.specs.declared.Direction.{Direction}
 use Rattle.corners.specs.Answers.{CrossAnswer, WeightsAnswer, NameWeightsAnswer, NamingAnswer, BackAnswer, RingAnswer}
 use Rattle.corners.specs.declared.StepAnswer.{StepAnswer}
 use Rattle.corners.specs.declared.NameAnswer.{NameAnswer}
 use Rattle.corners.specs.declared.CountAnswer.{CountAnswer}
-use Rattle.corners.proofs.check_name.Reads as check_name_call_call
-use Rattle.corners.proofs.cross.Reads as cross_call_call
-use Rattle.twelves.proofs.weights_of.Reads as weights_of_call_call
-use Rattle.twelves.proofs.weights_of_name.Reads as weights_of_name_call_call
-use Rattle.corners.proofs.name_of.Reads as name_of_call_call
-use Rattle.twelves.proofs.name_back.Reads as nameBack_call_call
-use Rattle.corners.proofs.ring.Reads as ring_call_call
+use Rattle.corners.proofs.check_name.Reads as check_name_call
+use Rattle.corners.proofs.cross.Reads as cross_call
+use Rattle.twelves.proofs.weights_of.Reads as weights_of_call
+use Rattle.twelves.proofs.weights_of_name.Reads as weights_of_name_call
+use Rattle.corners.proofs.name_of.Reads as name_of_call
+use Rattle.twelves.proofs.name_back.Reads as nameBack_call
+use Rattle.corners.proofs.ring.Reads as ring_call
 use Rattle.points.specs.Answers.{PlaceAnswer, NamePlaceAnswer, TickAnswer, NameTickAnswer, DrawAnswer, NameDrawAnswer}
 use Rattle.points.specs.declared.CoordinatesAnswer.{CoordinatesAnswer}
 use Rattle.points.specs.declared.TicksAnswer.{TicksAnswer}
 use Rattle.points.specs.declared.PointAnswer.{PointAnswer}
-use Rattle.points.proofs.coordinates_of.Reads as coordinates_of_call_call
-use Rattle.points.proofs.coordinates_of_name.Reads as coordinates_of_name_call_call
-use Rattle.points.proofs.ticks_of.Reads as ticks_of_call_call
-use Rattle.points.proofs.ticks_of_name.Reads as ticks_of_name_call_call
-use Rattle.points.proofs.drawn_of.Reads as drawn_of_call_call
-use Rattle.points.proofs.drawn_of_name.Reads as drawn_of_name_call_call
+use Rattle.points.proofs.coordinates_of.Reads as coordinates_of_call
+use Rattle.points.proofs.coordinates_of_name.Reads as coordinates_of_name_call
+use Rattle.points.proofs.ticks_of.Reads as ticks_of_call
+use Rattle.points.proofs.ticks_of_name.Reads as ticks_of_name_call
+use Rattle.points.proofs.drawn_of.Reads as drawn_of_call
+use Rattle.points.proofs.drawn_of_name.Reads as drawn_of_name_call
 use Rattle.directions.specs.Answers.{FileAnswer, ListAnswer}
-use Rattle.directions.proofs.file.Reads as file_call_call
-use Rattle.directions.proofs.list.Reads as list_call_call
+use Rattle.directions.proofs.file.Reads as file_call
+use Rattle.directions.proofs.list.Reads as list_call
 
 -- A lent list of numbers, as a call is handed it and leaves it; `now` is what it holds.
 abbrev pub Slice : Type 0
@@ -49,45 +49,45 @@ Slice = Bor (List ℕ)
 -- with any contents.
 pub record Contracts : Type 0 where
   pub check : (κs : Lfts 0) (t : TriangleCode) (r : ℕ)
-      → Says (check_call_call.Asked κs (t, tt)) (check_call_call.Learnt κs (t, tt) r (t, tt)) (r ≡ check_code t)
+      → Says (check_call.Asked κs (t, tt)) (check_call.Learnt κs (t, tt) r (t, tt)) (r ≡ check_code t)
   pub check_names : (κs : Lfts 0) (q : CornerName) (r : ℕ)
-      → Says (check_name_call_call.Asked κs (q, tt)) (check_name_call_call.Learnt κs (q, tt) r (q, tt)) (r ≡ check_name q)
+      → Says (check_name_call.Asked κs (q, tt)) (check_name_call.Learnt κs (q, tt) r (q, tt)) (r ≡ check_name q)
   pub parent : (κs : Lfts 0) (t : TriangleCode) (r : CodeAnswer)
-      → Says (parent_call_call.Asked κs (t, tt)) (parent_call_call.Learnt κs (t, tt) r (t, tt)) (ParentAnswer t r)
+      → Says (parent_call.Asked κs (t, tt)) (parent_call.Learnt κs (t, tt) r (t, tt)) (ParentAnswer t r)
   pub child : (κs : Lfts 0) (t : TriangleCode) (d : ℕ) (r : CodeAnswer)
-      → Says (child_call_call.Asked κs (t, (d, tt))) (child_call_call.Learnt κs (t, (d, tt)) r (t, (d, tt))) (ChildAnswer t d r)
+      → Says (child_call.Asked κs (t, (d, tt))) (child_call.Learnt κs (t, (d, tt)) r (t, (d, tt))) (ChildAnswer t d r)
   pub cross : (κs : Lfts 0) (t : TriangleCode) (k : ℕ) (r : StepAnswer)
-      → Says (cross_call_call.Asked κs (t, (k, tt))) (cross_call_call.Learnt κs (t, (k, tt)) r (t, (k, tt))) (CrossAnswer t k r)
+      → Says (cross_call.Asked κs (t, (k, tt))) (cross_call.Learnt κs (t, (k, tt)) r (t, (k, tt))) (CrossAnswer t k r)
   pub weights : (κs : Lfts 1) (t : TriangleCode) (i : ℕ) (out new : Slice) (r : ℕ)
-      → Says (weights_of_call_call.Asked κs (t, (i, (out, tt)))) (weights_of_call_call.Learnt κs (t, (i, (out, tt))) r (t, (i, (new, tt))))
+      → Says (weights_of_call.Asked κs (t, (i, (out, tt)))) (weights_of_call.Learnt κs (t, (i, (out, tt))) r (t, (i, (new, tt))))
       (WeightsAnswer t i out.now r new.now)
   pub name_weights : (κs : Lfts 1) (q : CornerName) (out new : Slice) (r : ℕ)
-      → Says (weights_of_name_call_call.Asked κs (q, (out, tt))) (weights_of_name_call_call.Learnt κs (q, (out, tt)) r (q, (new, tt)))
+      → Says (weights_of_name_call.Asked κs (q, (out, tt))) (weights_of_name_call.Learnt κs (q, (out, tt)) r (q, (new, tt)))
       (NameWeightsAnswer q out.now r new.now)
   pub coordinates : (κs : Lfts 0) (t : TriangleCode) (i : ℕ) (r : CoordinatesAnswer)
-      → Says (coordinates_of_call_call.Asked κs (t, (i, tt))) (coordinates_of_call_call.Learnt κs (t, (i, tt)) r (t, (i, tt)))
+      → Says (coordinates_of_call.Asked κs (t, (i, tt))) (coordinates_of_call.Learnt κs (t, (i, tt)) r (t, (i, tt)))
       (PlaceAnswer t i r)
   pub name_coordinates : (κs : Lfts 0) (q : CornerName) (r : CoordinatesAnswer)
-      → Says (coordinates_of_name_call_call.Asked κs (q, tt)) (coordinates_of_name_call_call.Learnt κs (q, tt) r (q, tt))
+      → Says (coordinates_of_name_call.Asked κs (q, tt)) (coordinates_of_name_call.Learnt κs (q, tt) r (q, tt))
       (NamePlaceAnswer q r)
   pub ticks : (κs : Lfts 0) (t : TriangleCode) (i : ℕ) (r : TicksAnswer)
-      → Says (ticks_of_call_call.Asked κs (t, (i, tt))) (ticks_of_call_call.Learnt κs (t, (i, tt)) r (t, (i, tt))) (TickAnswer t i r)
+      → Says (ticks_of_call.Asked κs (t, (i, tt))) (ticks_of_call.Learnt κs (t, (i, tt)) r (t, (i, tt))) (TickAnswer t i r)
   pub name_ticks : (κs : Lfts 0) (q : CornerName) (r : TicksAnswer)
-      → Says (ticks_of_name_call_call.Asked κs (q, tt)) (ticks_of_name_call_call.Learnt κs (q, tt) r (q, tt)) (NameTickAnswer q r)
+      → Says (ticks_of_name_call.Asked κs (q, tt)) (ticks_of_name_call.Learnt κs (q, tt) r (q, tt)) (NameTickAnswer q r)
   pub drawn : (κs : Lfts 0) (t : TriangleCode) (i : ℕ) (r : PointAnswer)
-      → Says (drawn_of_call_call.Asked κs (t, (i, tt))) (drawn_of_call_call.Learnt κs (t, (i, tt)) r (t, (i, tt))) (DrawAnswer t i r)
+      → Says (drawn_of_call.Asked κs (t, (i, tt))) (drawn_of_call.Learnt κs (t, (i, tt)) r (t, (i, tt))) (DrawAnswer t i r)
   pub name_drawn : (κs : Lfts 0) (q : CornerName) (r : PointAnswer)
-      → Says (drawn_of_name_call_call.Asked κs (q, tt)) (drawn_of_name_call_call.Learnt κs (q, tt) r (q, tt)) (NameDrawAnswer q r)
+      → Says (drawn_of_name_call.Asked κs (q, tt)) (drawn_of_name_call.Learnt κs (q, tt) r (q, tt)) (NameDrawAnswer q r)
   pub naming : (κs : Lfts 0) (t : TriangleCode) (i : ℕ) (r : NameAnswer)
-      → Says (name_of_call_call.Asked κs (t, (i, tt))) (name_of_call_call.Learnt κs (t, (i, tt)) r (t, (i, tt))) (NamingAnswer t i r)
+      → Says (name_of_call.Asked κs (t, (i, tt))) (name_of_call.Learnt κs (t, (i, tt)) r (t, (i, tt))) (NamingAnswer t i r)
   pub back : (κs : Lfts 1) (n : ℕ) (weights new : Slice) (r : NameAnswer)
-      → Says (nameBack_call_call.Asked κs (n, (weights, tt))) (nameBack_call_call.Learnt κs (n, (weights, tt)) r (n, (new, tt)))
+      → Says (nameBack_call.Asked κs (n, (weights, tt))) (nameBack_call.Learnt κs (n, (weights, tt)) r (n, (new, tt)))
       (BackAnswer n (weights .now) r)
   pub ring : (κs : Lfts 1) (q : CornerName) (out new : Slice) (r : CountAnswer)
-      → Says (ring_call_call.Asked κs (q, (out, tt))) (ring_call_call.Learnt κs (q, (out, tt)) r (q, (new, tt)))
+      → Says (ring_call.Asked κs (q, (out, tt))) (ring_call.Learnt κs (q, (out, tt)) r (q, (new, tt)))
       (RingAnswer q out.now r new.now)
   pub file : (κs : Lfts 0) (n : ℕ) (d : Direction) (r : CodeAnswer)
-      → Says (file_call_call.Asked κs (n, (d, tt))) (file_call_call.Learnt κs (n, (d, tt)) r (n, (d, tt))) (FileAnswer n d r)
+      → Says (file_call.Asked κs (n, (d, tt))) (file_call.Learnt κs (n, (d, tt)) r (n, (d, tt))) (FileAnswer n d r)
   pub list : (κs : Lfts 1) (n : ℕ) (d : Direction) (out new : Slice) (r : CountAnswer)
-      → Says (list_call_call.Asked κs (n, (d, (out, tt)))) (list_call_call.Learnt κs (n, (d, (out, tt))) r (n, (d, (new, tt))))
+      → Says (list_call.Asked κs (n, (d, (out, tt)))) (list_call.Learnt κs (n, (d, (out, tt))) r (n, (d, (new, tt))))
       (ListAnswer n d out.now r new.now)

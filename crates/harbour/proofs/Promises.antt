@@ -99,7 +99,7 @@ between_forms = record {
   is_code = λ s h. (large_code s h, low_degree s h);
   is_small = λ t c h. small_code_lem t ((write_passes t).1 (c, h));
   same_side = same_side_lem;
-  same_digits_lem = same_digits_lem;
+  same_digits = same_digits_lem;
   fits = small_fits;
   same_order = same_order_lem;
 }
@@ -260,5 +260,5 @@ refusing = record {
   deep_code = deep_code_lem;
   deep_argument = deep_argument_lem;
   never = never;
-  last_bit_lem = last_bit_lem;
+  last_bit = last_bit_lem;
 }

@@ -20,7 +20,7 @@ use Rattle.words.specs.declared.TriangleCode.{TriangleCode}
 use Rattle.net.specs.Corners.{HasCorner, code_inside, corner, named}
 use Rattle.net.specs.Division.{Weights}
 use Rattle.net.specs.Names.{IsName}
-use Rattle.net.specs.Refusals.{check_name, has_corner, lesser_has, not_canonical, same_weights, some_below_lem}
+use Rattle.net.specs.Refusals.{check_name, has_corner, lesser_has, not_canonical, same_weights, some_below}
 use Rattle.net.proofs.Table.{either_way, less, same, three}
 
 -- ---- tests
@@ -38,14 +38,14 @@ not_so true f = absurd (f refl)
 not_so false f = refl
 
 -- a test of the numbers below m
-pub some_below_lem : (m : ℕ) (f : ℕ → Bool) → (some_below_lem m f ≡ true) ↔ ((i : ℕ) × (i < m) × (f i ≡ true))
+pub some_below_lem : (m : ℕ) (f : ℕ → Bool) → (some_below m f ≡ true) ↔ ((i : ℕ) × (i < m) × (f i ≡ true))
 some_below_lem zero f = (λ e. absurd (true≢false (sym e)), λ p. absurd (omega (arith, p.1)))
 some_below_lem (suc m) f = go (some_below_lem m f)
   where
-    go : (some_below_lem m f ≡ true) ↔ ((i : ℕ) × (i < m) × (f i ≡ true))
-        → (some_below_lem (suc m) f ≡ true) ↔ ((i : ℕ) × (i < suc m) × (f i ≡ true))
+    go : (some_below m f ≡ true) ↔ ((i : ℕ) × (i < m) × (f i ≡ true))
+        → (some_below (suc m) f ≡ true) ↔ ((i : ℕ) × (i < suc m) × (f i ≡ true))
     go ih =
-        let one = or_true (some_below_lem m f) (f m) in (
+        let one = or_true (some_below m f) (f m) in (
           λ e. ⊎_elim (λ q. let x = ih.0 q in (x.0, omega (arith, x.1), x.2)) (λ q. (m, omega arith, q)) (one.0 e),
           λ p. ⊎_elim (λ q. one.1 (inr (ap f (sym q) ∙ p.2)))
               (λ q. one.1 (inl (ih.1 (p.0, omega (arith, q, p.1), p.2)))) (either_way (same p.0 m)),

@@ -11,7 +11,7 @@ use Rattle.words.proofs.Digits.{AreDigits, more, none}
 use Rattle.words.specs.Words.{path}
 use Rattle.net.specs.Sides.{OneToThree}
 use Rattle.net.specs.Division.{each}
-use Rattle.net.specs.Means.Paths.{digits_of_lem}
+use Rattle.net.specs.Means.Paths.{digits_of}
 use Rattle.net.specs.Means.Seams.{flip}
 use Rattle.net.specs.Means.States.{Move, cross, inside, outside, map}
 use Rattle.net.specs.Means.Spreads.{sign}
@@ -39,8 +39,8 @@ some_bit =
     sound (below 4 λ d. below 2 λ e. same (bit_and (bit_or d (2 * e + d / 2)) 1) (sign d) and less
     (bit_or d (2 * e + d / 2)) 4) refl
 
-pub somes : (n w : ℕ) → bit_and (bit_or w (w / 2)) (ones n) ≡ path (each sign (digits_of_lem n w))
-unfolding ones path digits_of_lem
+pub somes : (n w : ℕ) → bit_and (bit_or w (w / 2)) (ones n) ≡ path (each sign (digits_of n w))
+unfolding ones path digits_of
 somes zero w = and_zero_r (bit_or w (w / 2))
 somes (suc n) w =
     let u = w / 4 in
@@ -66,9 +66,9 @@ some_both =
     (sign (bit_xor d c)) 4) refl
 
 pub others : (n w c : ℕ) → OneToThree c
-    → bit_and (path (each sign (digits_of_lem n w))) (path (each sign (digits_of_lem n (bit_xor w (c * ones n))))) ≡ path
-    (each (other c) (digits_of_lem n w))
-unfolding ones path digits_of_lem
+    → bit_and (path (each sign (digits_of n w))) (path (each sign (digits_of n (bit_xor w (c * ones n))))) ≡ path
+    (each (other c) (digits_of n w))
+unfolding ones path digits_of
 others zero w c hc = refl
 others (suc n) w c hc =
     let u = w / 4 in
@@ -81,8 +81,8 @@ others (suc n) w c hc =
     (λ i. bit_xor (a i) (m i)) ∙ xor_digit u (c * ones n) d c (omega arith) (omega (arith, hc.1)) in
     let q : bit_xor w (c * (4 * ones n + 1)) / 4 ≡ b = omega (arith, x, t.1.0) in
     let r : bit_xor w (c * (4 * ones n + 1)) % 4 ≡ bit_xor d c = omega (arith, x, t.1.0) in
-    (λ i. bit_and (4 * path (each sign (digits_of_lem n u)) + sign d) (4 * path (each sign (digits_of_lem n (q i))) + sign (r i)))
-    ∙ and_digit (path (each sign (digits_of_lem n u))) (path (each sign (digits_of_lem n b))) (sign d) (sign (bit_xor d c))
+    (λ i. bit_and (4 * path (each sign (digits_of n u)) + sign d) (4 * path (each sign (digits_of n (q i))) + sign (r i)))
+    ∙ and_digit (path (each sign (digits_of n u))) (path (each sign (digits_of n b))) (sign d) (sign (bit_xor d c))
     t.1.1.0 t.1.1.1
     ∙ λ i. 4 * others n u c hc i + t.0 i
 
@@ -97,13 +97,13 @@ unfolding onto path
 onto_is a none = omega arith
 onto_is a (more {n = n} h ds) = omega (arith, onto_is a ds, ap (λ (x : ℕ). a * x) (four n))
 
-pub digits_onto : (a : ℕ) {n : ℕ} {ds : List ℕ} → AreDigits n ds → digits_of_lem n (onto a ds) ≡ ds
-unfolding onto digits_of_lem
+pub digits_onto : (a : ℕ) {n : ℕ} {ds : List ℕ} → AreDigits n ds → digits_of n (onto a ds) ≡ ds
+unfolding onto digits_of
 digits_onto a none = refl
 digits_onto a (more {n = n} {d = d} {ds = ds} h is) =
     let q : (4 * onto a ds + d) / 4 ≡ onto a ds = omega arith in
     let r : (4 * onto a ds + d) % 4 ≡ d = omega arith in
-    (λ i. r i ∷ digits_of_lem n (q i)) ∙ ap (λ (es : List ℕ). d ∷ es) (digits_onto a is)
+    (λ i. r i ∷ digits_of n (q i)) ∙ ap (λ (es : List ℕ). d ∷ es) (digits_onto a is)
 
 -- digits that follow, all 0
 unfoldable pub pad : ℕ → List ℕ → List ℕ

@@ -10,7 +10,7 @@ use lib.Dec.{eqb}
 use borrow.Author.Tests.{eqb-true, eqb-false}
 use Rattle.words.proofs.Digits.{AreDigits, more, none, path_injective, path_lt}
 use Rattle.words.specs.Words.{path}
-use Rattle.net.specs.Means.Paths.{digits_of_lem}
+use Rattle.net.specs.Means.Paths.{digits_of}
 use Rattle.net.specs.Means.States.{Move, cross, inside, map, outside, pick}
 
 -- ds are digits
@@ -24,15 +24,15 @@ are_length (more h a) = ap suc (are_length a)
 pub are_digits_lem : {n : ℕ} {ds : List ℕ} → AreDigits n ds → Digits ds
 are_digits_lem {n} {ds} a = subst (λ (k : ℕ). AreDigits k ds) (sym (are_length a)) a
 
-pub digits_of_lem : (n v : ℕ) → AreDigits n (digits_of_lem n v)
-unfolding digits_of_lem
+pub digits_of_lem : (n v : ℕ) → AreDigits n (digits_of n v)
+unfolding digits_of
 digits_of_lem zero v = none
 digits_of_lem (suc n) v = more {d = v % 4} (omega arith) (digits_of_lem n (v / 4))
 
-pub of_digits : (n v : ℕ) → Digits (digits_of_lem n v)
+pub of_digits : (n v : ℕ) → Digits (digits_of n v)
 of_digits n v = are_digits_lem (digits_of_lem n v)
 
-pub of_length : (n v : ℕ) → length (digits_of_lem n v) ≡ n
+pub of_length : (n v : ℕ) → length (digits_of n v) ≡ n
 of_length n v = are_length (digits_of_lem n v)
 
 -- 2 ^ (2 * n), a digit at a time
@@ -40,14 +40,14 @@ pub four : (n : ℕ) → 2 ^ (2 * suc n) ≡ 4 * 2 ^ (2 * n)
 four n = let e : 2 * suc n ≡ 2 * n + 2 = omega arith in rw e (omega (arith, pow-add 2 (2 * n) 2))
 
 -- there and back
-pub path_of : (n v : ℕ) → v < 2 ^ (2 * n) → path (digits_of_lem n v) ≡ v
-unfolding digits_of_lem path
+pub path_of : (n v : ℕ) → v < 2 ^ (2 * n) → path (digits_of n v) ≡ v
+unfolding digits_of path
 path_of zero v h = omega arith
 path_of (suc n) v h =
     let q : v / 4 < 2 ^ (2 * n) = omega (arith, four n) in
     omega (arith, path_of n (v / 4) q)
 
-pub of_path : {n : ℕ} {ds : List ℕ} → AreDigits n ds → digits_of_lem n (path ds) ≡ ds
+pub of_path : {n : ℕ} {ds : List ℕ} → AreDigits n ds → digits_of n (path ds) ≡ ds
 of_path {n} a = path_injective (digits_of_lem n _) a (path_of n _ (path_lt a))
 
 -- ---- what a step leaves: digits, as many as before

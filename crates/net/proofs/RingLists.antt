@@ -16,7 +16,7 @@ use Rattle.net.specs.declared.Point.{Point}
 use Rattle.net.proofs.LeastName.{size_low}
 use Rattle.net.proofs.Loads.{corner_is}
 use Rattle.net.proofs.RingCodes.{ring_length, ring_word}
-use Rattle.net.proofs.Rings.{non_zero_lem, non_zeros_lem, non_zero_lem}
+use Rattle.net.proofs.Rings.{non_zero_lem, non_zeros_lem, non_zero}
 use Rattle.net.proofs.Writing.{over_more}
 
 -- ---- the words, place by place
@@ -72,5 +72,5 @@ count_least p e = rw e (go (sign p.w1 + sign p.w2 + sign p.w3))
 
 pub count_is : (s : ℕ) (ds : List ℕ) (i : ℕ) → IsSide s → ring_size (non_zeros (corner_of s ds i))
     ≡ count_of (point_of i (state_of ds))
-count_is s ds i h = ap ring_size (sym (non_zeros_lem (corner_of s ds i)) ∙ ap non_zero_lem (corner_is s ds i)
+count_is s ds i h = ap ring_size (sym (non_zeros_lem (corner_of s ds i)) ∙ ap non_zero (corner_is s ds i)
     ∙ non_zero_lem s (point_of i (state_of ds)) h)

@@ -39,10 +39,10 @@ pub record At (n : ℕ) (P : List ℕ) (q : Place) : Type 0 where
   pub corner : corner_of q.side q.digits q.number ≡ P
 
 -- how many weights are not 0, as a sum
-abbrev pub non_zero_lem : List ℕ → ℕ
-non_zero_lem P = sum (each sign P)
+abbrev pub non_zero : List ℕ → ℕ
+non_zero P = sum (each sign P)
 
-pub non_zeros_lem : (P : List ℕ) → non_zero_lem P ≡ non_zeros P
+pub non_zeros_lem : (P : List ℕ) → non_zero P ≡ non_zeros P
 unfolding sum
 non_zeros_lem [] = refl
 non_zeros_lem (zero ∷ P) = omega (arith, non_zeros_lem P)
@@ -201,7 +201,7 @@ each_each : (f g : ℕ → ℕ) (vs : List ℕ) → each f (each g vs) ≡ each 
 each_each f g [] = refl
 each_each f g (v ∷ vs) = ap (λ (l : List ℕ). f (g v) ∷ l) (each_each f g vs)
 
-pub non_zero_lem : (s : ℕ) (p : Point) → IsSide s → non_zero_lem (spread s p) ≡ sign p.w1 + sign p.w2
+pub non_zero_lem : (s : ℕ) (p : Point) → IsSide s → non_zero (spread s p) ≡ sign p.w1 + sign p.w2
     + sign p.w3
 unfolding spread
 non_zero_lem s p h =
@@ -283,7 +283,7 @@ module _ (n : ℕ) (P : List ℕ) (q : Place) (h : At n P q) where
   size = ring_size (sign p.w1 + sign p.w2 + sign p.w3)
 
   size_is : ring_size (non_zeros P) ≡ size
-  size_is = ap ring_size (sym (non_zeros_lem P) ∙ ap non_zero_lem (sym h.corner
+  size_is = ap ring_size (sym (non_zeros_lem P) ∙ ap non_zero (sym h.corner
       ∙ corner_is q.side q.digits q.number) ∙ non_zero_lem q.side p h.a_side)
 
   entry : Holds (ring g (mark_of q) size and complete q.side (signs p) (mark_of q) size)

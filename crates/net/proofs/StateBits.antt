@@ -8,7 +8,7 @@ use native.Mathlib.Omega.{arith}
 use lib.Pow.{pow_mono}
 use lib.Bits.{bit_xor, bit_and, bit_or, xor_block, and_block, or_block, xor_shr, xor_mod, xor_lt, and_lt}
 use Rattle.net.specs.Means.States.{state_of, step}
-use Rattle.net.specs.Means.Paths.{digits_of_lem}
+use Rattle.net.specs.Means.Paths.{digits_of}
 use Rattle.net.specs.Means.Gathers.{gather, low_bit}
 use Rattle.net.specs.declared.State.{State}
 use Rattle.net.specs.declared.State.TheVariants.{Up, Down}
@@ -95,8 +95,8 @@ back = sound (below 2 λ z. below 2 λ q. below 2 λ p. same (bit_xor p q) z the
 
 -- w is whether the triangle of each degree points down: it changes where a digit is 0
 state_is : (n v w : ℕ) → bit_xor w (w / 2) ≡ gather zero_bit n v
-    → state_of (digits_of_lem n v) ≡ from_bits (w % 2) (gather low_bit n v) (gather high_bit n v) (w / 2)
-unfolding state_of digits_of_lem gather
+    → state_of (digits_of n v) ≡ from_bits (w % 2) (gather low_bit n v) (gather high_bit n v) (w / 2)
+unfolding state_of digits_of gather
 state_is zero v w e =
     let f = xor_zero_same w (w / 2) e in
     let z : w ≡ 0 = omega arith in
@@ -157,7 +157,7 @@ module _ {n v l h : ℕ} (b : AreBits n v l h) where
   zeros_small hn = omega (arith, pow_mono {i = n} {j = 24} hn)
 
   pub state_by : (w o : ℕ) → bit_xor w (w / 2) ≡ 2 ^ n - 1 - bit_or l h → w % 2 ≡ o
-      → from_bits o l h (w / 2) ≡ state_of (digits_of_lem n v)
+      → from_bits o l h (w / 2) ≡ state_of (digits_of n v)
   state_by w o e f =
       let z : 2 ^ n - 1 - bit_or l h ≡ gather zero_bit n v = omega (arith, zeros) in
       sym (state_is n v w (e ∙ z) ∙ λ i. from_bits (f i) (sym b.low i) (sym b.high i) (w / 2))

@@ -19,7 +19,7 @@ use Rattle.words.specs.declared.TriangleCode.{TriangleCode}
 use Rattle.words.proofs.Digits.{AreDigits, digits_are, more, none, path_lt}
 use Rattle.net.specs.Refusals.{is_corner_of, on_one_side, on_side}
 use Rattle.net.specs.Division.{corner_of, sum, vertices}
-use Rattle.net.specs.Means.Paths.{digits_of_lem, path_up}
+use Rattle.net.specs.Means.Paths.{digits_of, path_up}
 use Rattle.net.specs.Means.Spreads.{point_in, spread, weight_at}
 use Rattle.net.specs.Means.States.{Low, halves, last_of, parity, point, point_of, state_of, step}
 use Rattle.net.specs.Sides.{IsSide, OneToThree, corner_vertex}
@@ -46,16 +46,16 @@ pub low_by : (b : ℕ) (a : State) → total a ≤ b → Low b a
 low_by b (Up x y z) h = omega arith
 low_by b (Down x y z) h = omega arith
 
-pub low_24 : (n v : ℕ) → n ≤ 24 → Low (2 ^ 24) (state_of (digits_of_lem n v))
-low_24 n v h = low_by (2 ^ 24) (state_of (digits_of_lem n v)) (rw (total_is (digits_of_lem n v), of_length n v) (pow_mono h))
+pub low_24 : (n v : ℕ) → n ≤ 24 → Low (2 ^ 24) (state_of (digits_of n v))
+low_24 n v h = low_by (2 ^ 24) (state_of (digits_of n v)) (rw (total_is (digits_of n v), of_length n v) (pow_mono h))
 
 -- the path of the digits of a code, and the state that they lead to
 module _ (t : TriangleCode) {n v : ℕ} (d : n ≡ degree_of t.0) (e : v ≡ path (digits t.0 n)) where
   pub code_path : v < 2 ^ (2 * n)
   code_path = rw e (path_lt (digits_are t.0 n))
 
-  pub code_state : state_of (digits_of_lem n v) ≡ state_of (digits_in t)
-  code_state = ap state_of (ap (digits_of_lem n) e ∙ of_path (digits_are t.0 n) ∙ ap (digits t.0) d)
+  pub code_state : state_of (digits_of n v) ≡ state_of (digits_in t)
+  code_state = ap state_of (ap (digits_of n) e ∙ of_path (digits_are t.0 n) ∙ ap (digits t.0) d)
 
 -- ---- the path up from a state
 
@@ -125,22 +125,22 @@ path_up_lem (more {n = n} {d = d} {ds = ds} h a) =
     ∙ ap (λ (b : State). 4 * path_up n b + d) (back d (state_of ds))
     ∙ ap (λ (v : ℕ). 4 * v + d) (path_up_lem a)
 
-pub state_back : (n : ℕ) (a : State) → total a ≡ 2 ^ n → state_of (digits_of_lem n (path_up n a)) ≡ a
+pub state_back : (n : ℕ) (a : State) → total a ≡ 2 ^ n → state_of (digits_of n (path_up n a)) ≡ a
 state_back n a e =
     let r = reach n a e in
     let ds : AreDigits n r.0 = rw r.2 at r.1 in
     let p : path_up n a ≡ path r.0 = ap (path_up n) (sym r.3) ∙ path_up_lem ds in
-    ap state_of (ap (digits_of_lem n) p ∙ of_path ds) ∙ r.3
+    ap state_of (ap (digits_of n) p ∙ of_path ds) ∙ r.3
 
 -- the point p is corner i of the state a, and v is its path
 pub at_corner : (s n i : ℕ) (a : State) (p : Point) {v : ℕ} → OneToThree i → total a ≡ 2 ^ n
     → point_of i a ≡ p → v ≡ path_up n a
-    → (v < 2 ^ (2 * n)) × OneToThree i × (corner_of s (digits_of_lem n v) i ≡ spread s p)
+    → (v < 2 ^ (2 * n)) × OneToThree i × (corner_of s (digits_of n v) i ≡ spread s p)
 at_corner s n i a p h t e f =
     rw f (
       path_small n a,
       h,
-      corner_is s (digits_of_lem n (path_up n a)) i
+      corner_is s (digits_of n (path_up n a)) i
           ∙ ap (λ (b : State). spread s (point_of i b)) (state_back n a t) ∙ ap (spread s) e,
     )
 

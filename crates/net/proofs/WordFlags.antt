@@ -12,7 +12,7 @@ use Rattle.words.proofs.WordLayout.{unit_high}
 use Rattle.words.specs.Words.{large, path, word_of, word_in}
 use Rattle.net.specs.Sides.{OneToThree}
 use Rattle.net.specs.Division.{each}
-use Rattle.net.specs.Means.Paths.{digits_of_lem}
+use Rattle.net.specs.Means.Paths.{digits_of}
 use Rattle.net.specs.Means.Seams.{flip}
 use Rattle.net.specs.Means.States.{Move, cross, inside, outside}
 use Rattle.net.specs.Means.Flags.{ones, other, flags, span_of}
@@ -78,7 +78,7 @@ module _ (s : ℕ) {n : ℕ} {ds : List ℕ} (short : n ≤ 24) (are : AreDigits
 
   flags_all : (f : ℕ → ℕ) → flags f word ≡ path (each f all)
   unfolding flags
-  flags_all f = ap (λ (es : List ℕ). path (each f es)) (ap (digits_of_lem 27) word_all ∙ digits_onto above all_digits)
+  flags_all f = ap (λ (es : List ℕ). path (each f es)) (ap (digits_of 27) word_all ∙ digits_onto above all_digits)
 
   flags_are : (f : ℕ → ℕ) → f 0 ≡ 0 → flags f word ≡ path (each f ds) * unit + f j
   unfolding path onto

@@ -19,7 +19,7 @@ use Rattle.words.specs.Words as words
 use Rattle.words.specs.declared.TriangleCode.{TriangleCode}
 use Rattle.net.specs.Corners.{named, name_of}
 use Rattle.net.specs.Division.{corner_of, each}
-use Rattle.net.specs.Means.Paths.{digits_of_lem}
+use Rattle.net.specs.Means.Paths.{digits_of}
 use Rattle.net.specs.Means.Spreads.{sign}
 use Rattle.net.specs.Means.Flags.{flags, ones, other, span_of}
 use Rattle.net.specs.Means.Seams.{flip, seam_kept, seam_side}
@@ -395,9 +395,9 @@ least_more m q = not_zero (λ m. lesser (name_at q) (least_name (m - 1) (around 
 
 module _ (s n v i : ℕ) (hs : IsSide s) (low : n ≤ 24) (hv : v < 2 ^ (2 * n)) (hi : OneToThree i) where
   abbrev pub made : Place
-  made = record { side = s; digits = digits_of_lem n v; number = i }
+  made = record { side = s; digits = digits_of n v; number = i }
 
-  pub at_made : {P : List ℕ} → corner_of s (digits_of_lem n v) i ≡ P → At n P made
+  pub at_made : {P : List ℕ} → corner_of s (digits_of n v) i ≡ P → At n P made
   at_made e = record { a_side = hs; the_digits = of_digits n v; degree = of_length n v; a_number = hi; corner = e }
 
   made_name : word_of s n v + i ≡ name_at made

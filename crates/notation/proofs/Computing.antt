@@ -13,7 +13,7 @@ use Rattle.words.specs.Words.{path}
 use Rattle.words.proofs.Digits.{AreDigits, path_lt}
 use Rattle.net.specs.declared.Point.{Point}
 use Rattle.net.specs.declared.State.TheVariants.{Down, Up}
-use Rattle.net.specs.Means.Paths.{digits_of_lem}
+use Rattle.net.specs.Means.Paths.{digits_of}
 use Rattle.net.proofs.Canonical.{and_true}
 use Rattle.net.proofs.Paths.{digits_of_lem}
 use Rattle.net.proofs.SeamCode.{not_zero}
@@ -48,29 +48,29 @@ small_path : {n : ℕ} {ds : List ℕ} → n ≤ 24 → AreDigits n ds → path 
 small_path {n} h a = lt_of_lt_of_le (path_lt a) (pow_mono {i = 2 * n} {j = 48} (omega arith))
 
 module _ (o n v : ℕ) where
-  pub directions_room : {x : ℕ} → n ≤ 24 → x ≡ path (directions o (digits_of_lem n v)) → x < 2 ^ 48
-  directions_room h e = rw e (small_path h (directions_digits o (digits_of_lem n v) (digits_of_lem n v)))
+  pub directions_room : {x : ℕ} → n ≤ 24 → x ≡ path (directions o (digits_of n v)) → x < 2 ^ 48
+  directions_room h e = rw e (small_path h (directions_digits o (digits_of n v) (digits_of_lem n v)))
 
-  pub directions_none : n ≡ 0 → 0 ≡ path (directions o (digits_of_lem n v))
-  unfolding digits_of_lem directions path
+  pub directions_none : n ≡ 0 → 0 ≡ path (directions o (digits_of n v))
+  unfolding digits_of directions path
   directions_none e = rw e refl
 
   pub directions_more : {p x d : ℕ} → (n ≡ 0 → ⊥) → p ≡ turned (v % 4) o
-      → x ≡ path (directions p (digits_of_lem (n - 1) (v / 4))) → d ≡ other o (v % 4)
-      → 4 * x + d ≡ path (directions o (digits_of_lem n v))
+      → x ≡ path (directions p (digits_of (n - 1) (v / 4))) → d ≡ other o (v % 4)
+      → 4 * x + d ≡ path (directions o (digits_of n v))
   unfolding directions path
   directions_more z e f g = rw (digits_more n v z, g, f, e) refl
 
-  pub parts_room : {x : Turned} → n ≤ 24 → x ≡ turned_parts o (digits_of_lem n v) → x.path < 2 ^ 48
-  parts_room h e = rw e (small_path h (parts_digits o (digits_of_lem n v) (digits_of_lem n v)))
+  pub parts_room : {x : Turned} → n ≤ 24 → x ≡ turned_parts o (digits_of n v) → x.path < 2 ^ 48
+  parts_room h e = rw e (small_path h (parts_digits o (digits_of n v) (digits_of_lem n v)))
 
-  pub parts_none : n ≡ 0 → record { orientation = o; path = 0 } ≡ turned_parts o (digits_of_lem n v)
-  unfolding digits_of_lem parts side_turn path
+  pub parts_none : n ≡ 0 → record { orientation = o; path = 0 } ≡ turned_parts o (digits_of n v)
+  unfolding digits_of parts side_turn path
   parts_none e = rw e refl
 
   pub parts_more : {r p : ℕ} {x : Turned} → (n ≡ 0 → ⊥) → r ≡ other o (v % 4) → p ≡ turned r o
-      → x ≡ turned_parts p (digits_of_lem (n - 1) (v / 4))
-      → record { orientation = x.orientation; path = 4 * x.path + r } ≡ turned_parts o (digits_of_lem n v)
+      → x ≡ turned_parts p (digits_of (n - 1) (v / 4))
+      → record { orientation = x.orientation; path = 4 * x.path + r } ≡ turned_parts o (digits_of n v)
   unfolding parts side_turn path
   parts_more z e f g = rw (digits_more n v z, g, f, e) refl
 

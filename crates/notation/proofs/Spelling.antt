@@ -10,7 +10,7 @@ use lib.Pow.{pow_pos}
 use Rattle.words.specs.Words.{path}
 use Rattle.net.specs.Sides.{IsSide, corner_vertex}
 use Rattle.net.specs.Division.{Weights, sum}
-use Rattle.net.specs.Means.Paths.{digits_of_lem, path_up}
+use Rattle.net.specs.Means.Paths.{digits_of, path_up}
 use Rattle.net.specs.Means.Spreads.{point_in, spread, weight_at}
 use Rattle.net.specs.Means.States.{state_of}
 use Rattle.net.specs.declared.Point.{Point}
@@ -37,23 +37,23 @@ base_in {s = s} b f =
     record { a_side = (b.low, l); lies = (b.found l).0; based = (b.found l).1 }
 
 module _ (n s : ℕ) (w : Weights) (twelve : length w ≡ 12) (e : sum w ≡ 2 ^ n) (x : BaseIn w s) where
-  pub by_base : {v t : ℕ} → v ≡ path_up n (base_state s (point_in s w)) → t ≡ path (directions 0 (digits_of_lem n v))
+  pub by_base : {v t : ℕ} → v ≡ path_up n (base_state s (point_in s w)) → t ≡ path (directions 0 (digits_of n v))
       → IsVertexOf n w (vertex (s / 4) (s / 2 % 2) t)
   by_base {v} {t} f g q y =
-      let es = digits_of_lem n v in
+      let es = digits_of n v in
       let a = base_state s (point_in s w) in
       let d = digits_of_lem n v in
-      let k : reverse (directions 0 es) ≡ reverse (digits_of_lem n t) =
-      ap reverse (sym (ap (digits_of_lem n) g ∙ of_path (directions_digits 0 es d))) in
-      let h = ap (λ (v : ℕ). state_of (digits_of_lem n v)) f
+      let k : reverse (directions 0 es) ≡ reverse (digits_of n t) =
+      ap reverse (sym (ap (digits_of n) g ∙ of_path (directions_digits 0 es d))) in
+      let h = ap (λ (v : ℕ). state_of (digits_of n v)) f
       ∙ state_back n a (base_total n s w twelve e x) in
       spelt_same
       (subst (λ (ss : List ℕ). Spelt n (s / 4 ∷ s / 2 % 2 ∷ ss) w) k (spelt_base n s w es twelve x d h)) y
 
 -- ---- none was: a pole
 
-pub zero_digits : (n : ℕ) (es : List ℕ) → are_zeros es ≡ true → are_zeros (reverse_aux (digits_of_lem n 0) es) ≡ true
-unfolding digits_of_lem
+pub zero_digits : (n : ℕ) (es : List ℕ) → are_zeros es ≡ true → are_zeros (reverse_aux (digits_of n 0) es) ≡ true
+unfolding digits_of
 zero_digits zero es h = h
 zero_digits (suc n) es h = zero_digits n (0 ∷ es) h
 
@@ -87,10 +87,10 @@ pub by_pole : (n : ℕ) {w : Weights} {s : ℕ} (p : ℕ) → BaseFor w s → s 
     → IsVertexOf n w (vertex 0 p 0)
 by_pole n {w} p b e which q y =
     let l = name_lies y in
-    let ss = reverse (digits_of_lem n 0) in
+    let ss = reverse (digits_of n 0) in
     ⊎_elim
     (λ x.
-    let z = polar_spelt n l.s l.p l.a_side l.total ss (reverse_long (digits_of_lem n 0) ∙ of_length n 0)
+    let z = polar_spelt n l.s l.p l.a_side l.total ss (reverse_long (digits_of n 0) ∙ of_length n 0)
     (zero_digits n [] refl) x in
     let v = which l.s l.p l.a_side l.total l.is x in
     spelt_same

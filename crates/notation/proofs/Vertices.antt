@@ -38,7 +38,7 @@ use Rattle.net.proofs.StateCorners.{up_same}
 use Rattle.net.proofs.Table.{◌then◌, below, same, sides, sound}
 use Rattle.net.proofs.Totals.{point_total, total, total_is}
 use Rattle.notation.specs.Domains.{is_a, is_bit, are_digits, at}
-use Rattle.notation.specs.Vertices.{are_zeros, is_vertex, kept_by_lem}
+use Rattle.notation.specs.Vertices.{are_zeros, is_vertex, kept_by}
 use Rattle.notation.specs.Vertices as vertices
 use Rattle.notation.specs.Same.{SameVertex}
 use Rattle.notation.specs.Means.Directions.{parts, directions, side_turn, orientation, base_side, base_state, is_base}
@@ -86,17 +86,17 @@ kept_pole : (s n : ℕ) → kept (corner_of s (ones n) 1) ≡ corner_of s (ones 
 unfolding corner_of triangle_at
 kept_pole s n = refl
 
-kept_by_lem : (s m : ℕ) (ss : List ℕ) → kept_by_lem ss (corner_of s (ones m) 1) ≡ corner_of s (ones (length ss + m)) 1
-unfolding kept_by_lem
+kept_by_lem : (s m : ℕ) (ss : List ℕ) → kept_by ss (corner_of s (ones m) 1) ≡ corner_of s (ones (length ss + m)) 1
+unfolding kept_by
 kept_by_lem s m [] = let e : m ≡ 0 + m = omega arith in ap (λ (n : ℕ). corner_of s (ones n) 1) e
 kept_by_lem s m (x ∷ ss) =
     let e : length ss + suc m ≡ suc (length ss) + m = omega arith in
-    ap (kept_by_lem ss) (kept_pole s m) ∙ kept_by_lem s (suc m) ss ∙ ap (λ (n : ℕ). corner_of s (ones n) 1) e
+    ap (kept_by ss) (kept_pole s m) ∙ kept_by_lem s (suc m) ss ∙ ap (λ (n : ℕ). corner_of s (ones n) 1) e
 
 pole_point : (p : ℕ) (ss : List ℕ) → p ≤ 1 → vertices.point (0 ∷ p ∷ ss) ≡ corner_of (pole_side p) (ones (length ss)) 1
 pole_point p ss h =
     let e : length ss + 0 ≡ length ss = omega arith in
-    ap (kept_by_lem ss) (at_pole p h) ∙ kept_by_lem (pole_side p) 0 ss ∙ ap (λ (n : ℕ). corner_of (pole_side p) (ones n) 1) e
+    ap (kept_by ss) (at_pole p h) ∙ kept_by_lem (pole_side p) 0 ss ∙ ap (λ (n : ℕ). corner_of (pole_side p) (ones n) 1) e
 
 pole_vertex : (p : ℕ) → p < 2 → corner_vertex (pole_side p) 1 ≡ p
 unfolding corner_vertex

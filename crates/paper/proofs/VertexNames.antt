@@ -12,7 +12,7 @@ use Rattle.frame.proofs.Answering.{answering}
 use Rattle.words.specs.Words.{path}
 use Rattle.words.proofs.Digits.{AreDigits, none, path_lt}
 use Rattle.net.specs.Division.{Weights, corner_of}
-use Rattle.net.specs.Means.Paths.{digits_of_lem}
+use Rattle.net.specs.Means.Paths.{digits_of}
 use Rattle.net.proofs.Canonical.{and_true, name_passes_all, not_so}
 use Rattle.net.proofs.Paths.{digits_of_lem, four, of_length, of_path, path_of}
 use Rattle.corners.specs.Answers.{Named, no_name}
@@ -70,35 +70,35 @@ ones_path (suc n) = omega (arith, ones_path n, four n)
 
 module _ (p n v : ℕ) (hp : p ≤ 1) (hn : n ≤ 24) where
   abbrev ss : List ℕ
-  ss = reverse (digits_of_lem n v)
+  ss = reverse (digits_of n v)
 
   long : length ss ≡ n
-  long = reverse_long (digits_of_lem n v) ∙ of_length n v
+  long = reverse_long (digits_of n v) ∙ of_length n v
 
   pub not_pole : {r : NameAnswer} → v < 2 ^ (2 * n) → (v ≡ 0 → ⊥) → r ≡ no_name 33 → FromVertexAnswer (0 ∷ p ∷ ss) r
   not_pole small some =
       refused_wrong (vertex_refusal (0 ∷ p ∷ ss)) (omega (arith, long))
       (not_so (is_vertex (0 ∷ p ∷ ss)) (λ e.
-      some (sym (path_of n v small) ∙ zero_path (digits_of_lem n v) [] ((and_true (is_bit p) (are_zeros ss)).0 e).1)))
+      some (sym (path_of n v small) ∙ zero_path (digits_of n v) [] ((and_true (is_bit p) (are_zeros ss)).0 e).1)))
 
   pub a_pole : {x : ℕ} {r : NameAnswer} → v ≡ 0 → x ≡ 2 ^ (2 * n)
-      → Named n (corner_of (pole_side p) (digits_of_lem n ((x - 1) / 3)) 1) r → FromVertexAnswer (0 ∷ p ∷ ss) r
+      → Named n (corner_of (pole_side p) (digits_of n ((x - 1) / 3)) 1) r → FromVertexAnswer (0 ∷ p ∷ ss) r
   a_pole {x} {r} z e y =
       let o : (x - 1) / 3 ≡ path (ones n) = omega (arith, e, ones_path n) in
       let P = corner_of (pole_side p) (ones n) 1 in
-      let f : corner_of (pole_side p) (digits_of_lem n ((x - 1) / 3)) 1 ≡ P =
-      ap (λ (y : ℕ). corner_of (pole_side p) (digits_of_lem n y) 1) o
+      let f : corner_of (pole_side p) (digits_of n ((x - 1) / 3)) 1 ≡ P =
+      ap (λ (y : ℕ). corner_of (pole_side p) (digits_of n y) 1) o
       ∙ ap (λ (ds : List ℕ). corner_of (pole_side p) ds 1) (of_path (ones_digits n)) in
-      let zeros : are_zeros ss ≡ true = ap (λ (v : ℕ). are_zeros (reverse (digits_of_lem n v))) z ∙ zero_digits n [] refl in
+      let zeros : are_zeros ss ≡ true = ap (λ (v : ℕ). are_zeros (reverse (digits_of n v))) z ∙ zero_digits n [] refl in
       let s = subst (λ (m : ℕ). Spelt m (0 ∷ p ∷ ss) (corner_of (pole_side p) (ones m) 1)) long
       (subst (Spelt (length ss) (0 ∷ p ∷ ss)) (sym (pole_spread p (length ss))) (spelt_pole p ss hp zeros)) in
       spelt_answers hn s (subst (λ (w : Weights). Named n w r) f y)
 
 -- ---- the others
 
-module _ (a p n v : ℕ) {d : Turned} (e : d ≡ turned_parts 0 (digits_of_lem n v)) where
+module _ (a p n v : ℕ) {d : Turned} (e : d ≡ turned_parts 0 (digits_of n v)) where
   abbrev ts : List ℕ
-  ts = digits_of_lem n v
+  ts = digits_of n v
 
   pub low : d.orientation ≤ 1
   low = rw e (side_turn_low (parts 0 ts) 0 (omega arith))
@@ -107,12 +107,12 @@ module _ (a p n v : ℕ) {d : Turned} (e : d ≡ turned_parts 0 (digits_of_lem n
   small = rw e (path_lt (parts_digits 0 ts (digits_of_lem n v)))
 
   pub a_ring : {r : NameAnswer} → 1 ≤ a → a ≤ 5 → p ≤ 1 → n ≤ 24
-      → Named n (corner_of (4 * a + 2 * p + (p + d.orientation) % 2) (digits_of_lem n d.path) 2) r
+      → Named n (corner_of (4 * a + 2 * p + (p + d.orientation) % 2) (digits_of n d.path) 2) r
       → FromVertexAnswer (a ∷ p ∷ reverse ts) r
   a_ring {r} la ha hp hn y =
-      let f : corner_of (4 * a + 2 * p + (p + d.orientation) % 2) (digits_of_lem n d.path) 2
+      let f : corner_of (4 * a + 2 * p + (p + d.orientation) % 2) (digits_of n d.path) 2
       ≡ corner_of (side_by a p 0 ts) (parts 0 ts) 2 =
-      ap (λ (d : Turned). corner_of (4 * a + 2 * p + (p + d.orientation) % 2) (digits_of_lem n d.path) 2) e
+      ap (λ (d : Turned). corner_of (4 * a + 2 * p + (p + d.orientation) % 2) (digits_of n d.path) 2) e
       ∙ ap (λ (ds : List ℕ). corner_of (side_by a p 0 ts) ds 2) (of_path (parts_digits 0 ts (digits_of_lem n v))) in
       spelt_answers hn (spelt_parts n a p ts la ha hp (digits_of_lem n v)) (subst (λ (w : Weights). Named n w r) f y)
 
@@ -152,13 +152,13 @@ module _ (xs : List ℕ) (two : 2 ≤ length xs) where
 
   -- the list of the digits that were read is the list itself
   pub from_read : {v : ℕ} {r : NameAnswer} → Path v ≡ taken 0 (rest 2 xs)
-      → FromVertexAnswer (get_or xs 0 0 ∷ get_or xs 1 0 ∷ reverse (digits_of_lem (length xs - 2) v)) r → FromVertexAnswer xs r
+      → FromVertexAnswer (get_or xs 0 0 ∷ get_or xs 1 0 ∷ reverse (digits_of (length xs - 2) v)) r → FromVertexAnswer xs r
   from_read {v} {r} e =
       let rs = rest 2 xs in
       let l : length rs + 0 ≡ length xs - 2 = omega (arith, rest_long 2 xs) in
       let d = subst (λ (m : ℕ). AreDigits m (reverse rs)) l (reverse_digits rs (digits_right rs e) none) in
-      let f : reverse (digits_of_lem (length xs - 2) v) ≡ rs =
-      ap (λ (v : ℕ). reverse (digits_of_lem (length xs - 2) v)) (path_is rs e) ∙ ap reverse (of_path d)
+      let f : reverse (digits_of (length xs - 2) v) ≡ rs =
+      ap (λ (v : ℕ). reverse (digits_of (length xs - 2) v)) (path_is rs e) ∙ ap reverse (of_path d)
       ∙ reverse-reverse rs in
       subst (λ (ys : List ℕ). FromVertexAnswer ys r)
       (ap (λ (ys : List ℕ). get_or xs 0 0 ∷ get_or xs 1 0 ∷ ys) f ∙ sym opened)

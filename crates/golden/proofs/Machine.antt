@@ -23,7 +23,7 @@ fits z h = record { sfits = omega (arith, mag_abs z) }
 
 -- what fits is read back as it was; of a call's result r, `again_fit r c.f.ok`
 pub again_fit : (z : ℤ) → mag z < 2 ^ 63 → again z ≡ z
-again_fit z h = to_z-of_z (record { sfits = h })
+again_fit z h = to_z-of_z {w = w64} (record { sfits = h })
 
 pub again_is : (z : ℤ) → nat_abs z < 2 ^ 63 → again z ≡ z
 again_is z h = to_z-of_z (fits z h)

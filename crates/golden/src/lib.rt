@@ -7,7 +7,7 @@ ghost use Rattle.golden.specs.Order.{NonNeg, w_of};
 ghost use Rattle.golden.specs.Drawing.{IsNearest, IsT};
 
 // The number u + vφ.
-#[derive(Drop)]
+#[derive(Clone, Copy)]
 pub struct Golden {
     pub u: i64,
     pub v: i64,

@@ -6,15 +6,15 @@ ghost use Rattle.words.specs.Refusals.{word_rows, check_code, check_name_fields}
 ghost use Rattle.words.specs.Family.{code_of, code_answer, no_code, ParentAnswer, ChildAnswer};
 
 // A triangle code, or any word handed in as one.
-#[derive(Drop)]
+#[derive(Clone, Copy)]
 pub struct TriangleCode(pub u64);
 
 // A corner name, or any word handed in as one.
-#[derive(Drop)]
+#[derive(Clone, Copy)]
 pub struct CornerName(pub u64);
 
 // A code, or a refusal's number with the code 0.
-#[derive(Drop)]
+#[derive(Clone, Copy)]
 pub struct CodeAnswer {
     pub refusal: u64,
     pub code: TriangleCode,

@@ -13,71 +13,59 @@ use Rattle.frame.proofs.Refusing.{here, next, nothing, refuse_before, refuse_aft
 use Rattle.frame.specs.Refusals.{order}
 use Rattle.words.proofs.WordLayout.{below_zero}
 use Rattle.words.proofs.Codes.{side_degree, low_zero}
-use borrow.Author.Rules.{rules}
-use Rattle.words.proofs.TriangleCode.check.Statement.{statement}
+use Rattle.words.proofs.TriangleCode.check.Goals as goal
+use Rattle.words.proofs.TriangleCode.check.Lts as lts
+use Rattle.words.proofs.TriangleCode.check.Reads as reads
 use Rattle.words.proofs.TriangleCode.check.Tie as tie
 
-check-above-requires : tie.Need-check-above-requires
-check-above-requires c κs = search rules
+abbrev Else-f-ne0 : Type 0
+Else-f-ne0 = lts.Else1 tie.the-claims reads.Pre reads.Post
 
-returns : tie.Need-returns
+pub returns-then-f-ne0 : goal.returns-then-f-ne0
 unfolding check_code
-returns c =
+returns-then-f-ne0 c =
     let w = c.before.before.args.self.0 in
-    refuse_before order order (take 2 (word_rows w)) _ tt tt c.before.check-above.ensures c.if1.true
+    refuse_before order order (take 2 (word_rows w)) _ tt tt c.before.check_above-f.ensures c.if-f-ne0.true
 
-small : (c : tie.Else1) → degree_of c.before.before.args.self.0 ≤ 24
+small : (c : Else-f-ne0) → degree_of c.before.before.args.self.0 ≤ 24
 small c = side_degree c.before.before.args.self.0 (omega arith)
 
-unit-of-requires : tie.Need-unit-of-requires
-unit-of-requires c κs = small c
+pub unit_of-requires : goal.unit_of-requires
+unit_of-requires c = small c
 
-rem-if2 : tie.Need-nonzero-rem-if2
-rem-if2 c = rw c.unit-of.ensures (pow_pos _)
+pub nonzero_rem-w : goal.nonzero_rem-w
+nonzero_rem-w c = rw c.unit_of.ensures (pow_pos _)
 
-returns-2 : tie.Need-returns-2
+pub returns-then-w-unit_of-eq0 : goal.returns-then-w-unit_of-eq0
 unfolding check_code
-returns-2 c =
+returns-then-w-unit_of-eq0 c =
     let b = c.before.before in
     let w = b.before.before.args.self.0 in
     let n = degree_of w in
-    let e : w % 2 ^ (54 - 2 * n) ≡ 0 = rw c.before.unit-of.ensures at c.if2.true in
+    let e : w % 2 ^ (54 - 2 * n) ≡ 0 = rw c.before.unit_of.ensures at c.if-w-unit_of-eq0.true in
     let z = (below_zero large w n (small b)).0 e in
     refuse_after order order (take 2 (word_rows w)) _ tt tt (omega arith)
     (next (ap not (eq-eqb (beyond w n) 0 z.0)) (next ((low_zero w).1 z.1) nothing))
 
-beyond-of-requires : tie.Need-beyond-of-requires
-beyond-of-requires c κs = small c.before.before
+pub beyond_of-requires : goal.beyond_of-requires
+beyond_of-requires c = small c.before.before
 
-returns-3 : tie.Need-returns-3
+pub returns-then-beyond_of-ne0 : goal.returns-then-beyond_of-ne0
 unfolding check_code
-returns-3 c =
+returns-then-beyond_of-ne0 c =
     let w = c.before.before.before.before.before.before.args.self.0 in
     refuse_after order order (take 2 (word_rows w)) _ tt tt (omega arith)
-    (here (ap not (ne_eqb (beyond w (degree_of w)) 0 (λ e. c.if3.true (cc)))))
+    (here (ap not (ne_eqb (beyond w (degree_of w)) 0 (λ e. c.if-beyond_of-ne0.true (cc)))))
 
-returns-4 : tie.Need-returns-4
+pub returns : goal.returns
 unfolding check_code
-returns-4 c =
+returns c =
     let s = c.before.before in
     let b = s.before.before in
     let w = b.before.before.args.self.0 in
     let n = degree_of w in
     let z : beyond w n ≡ 0 = cc in
-    let some : w % 2 ^ (54 - 2 * n) ≡ 0 → ⊥ = rw s.before.unit-of.ensures at s.if2.false in
+    let some : w % 2 ^ (54 - 2 * n) ≡ 0 → ⊥ = rw s.before.unit_of.ensures at s.if-w-unit_of-eq0.false in
     refuse_after order order (take 2 (word_rows w)) _ tt tt (omega arith)
     (next (ap not (eq-eqb (beyond w n) 0 z))
     (here (so_unless _ (λ e. some ((below_zero large w n (small b)).1 (z, (low_zero w).0 e))))))
-
-pub check-spec : {M : Type 1} → statement M
-check-spec =
-    tie.close
-    (tie.spec
-    check-above-requires
-    returns
-    unit-of-requires
-    rem-if2
-    returns-2
-    beyond-of-requires
-    returns-3
-    returns-4)

@@ -9,32 +9,24 @@ use Rattle.words.specs.Refusals.{word_rows}
 use Rattle.frame.proofs.Refusing.{here, next, nothing, refuse_before, refuse_after}
 use Rattle.frame.specs.Refusals.{order}
 use Rattle.words.proofs.Codes.{side_degree}
-use borrow.Author.Rules.{rules}
-use Rattle.words.proofs.check_word.Statement.{statement}
-use Rattle.words.proofs.check_word.Tie as tie
+use Rattle.words.proofs.check_word.Goals as goal
 
-check-above-requires : tie.Need-check-above-requires
-check-above-requires c κs = search rules
-
-returns : tie.Need-returns
-returns c =
+pub returns-then-f-ne0 : goal.returns-then-f-ne0
+returns-then-f-ne0 c =
     let w = c.before.before.args.w in
-    refuse_before order order (take 2 (word_rows w)) _ tt tt c.before.check-above.ensures c.if1.true
+    refuse_before order order (take 2 (word_rows w)) _ tt tt c.before.check_above-f.ensures c.if-f-ne0.true
 
-beyond-of-requires : tie.Need-beyond-of-requires
-beyond-of-requires c κs = side_degree c.before.before.args.w (omega arith)
+pub beyond_of-requires : goal.beyond_of-requires
+beyond_of-requires c = side_degree c.before.before.args.w (omega arith)
 
-returns-2 : tie.Need-returns-2
-returns-2 c =
+pub returns-then-beyond_of-ne0 : goal.returns-then-beyond_of-ne0
+returns-then-beyond_of-ne0 c =
     let w = c.before.before.before.before.args.w in
     refuse_after order order (take 2 (word_rows w)) _ tt tt (omega arith)
-    (here (ap not (ne_eqb (beyond w (degree_of w)) 0 (λ e. c.if2.true (cc)))))
+    (here (ap not (ne_eqb (beyond w (degree_of w)) 0 (λ e. c.if-beyond_of-ne0.true (cc)))))
 
-returns-3 : tie.Need-returns-3
-returns-3 c =
+pub returns : goal.returns
+returns c =
     let w = c.before.before.before.before.args.w in
     refuse_after order order (take 2 (word_rows w)) _ tt tt (omega arith)
     (next (ap not (eq-eqb (beyond w (degree_of w)) 0 (cc))) nothing)
-
-pub check-word-spec : {M : Type 1} → statement M
-check-word-spec = tie.close (tie.spec check-above-requires returns beyond-of-requires returns-2 returns-3)

@@ -12,72 +12,58 @@ use Rattle.frame.specs.Refusals.{order}
 use Rattle.words.proofs.Answers.{refuse, accept}
 use Rattle.words.proofs.Digits.{more, digits_are, path_lt, path_48}
 use Rattle.words.proofs.Codes.{code_passes}
-use borrow.Author.Rules.{rules}
-use Rattle.words.proofs.TriangleCode.child.Statement.{statement}
+use Rattle.words.proofs.TriangleCode.child.Goals as goal
+use Rattle.words.proofs.TriangleCode.child.Lts as lts
+use Rattle.words.proofs.TriangleCode.child.Reads as reads
 use Rattle.words.proofs.TriangleCode.child.Tie as tie
 
-check-requires : tie.Need-check-requires
-check-requires c κs = search rules
+abbrev After-path_of : Type 0
+After-path_of = lts.After-path_of tie.the-claims reads.Pre reads.Post
 
-refused-requires : tie.Need-refused-requires
-refused-requires c κs = search rules
+abbrev Else-n-eq24 : Type 0
+Else-n-eq24 = lts.Else3 tie.the-claims reads.Pre reads.Post
 
-returns : tie.Need-returns
+pub returns-then-f-ne0 : goal.returns-then-f-ne0
 unfolding refuse_child check_code
-returns c =
-    let some = c.before.if1.true in
+returns-then-f-ne0 c =
+    let some = c.before.if-f-ne0.true in
     refuse _ _ c.refused.ensures (refuse_before order order (code_rows c.before.before.before.args.self) _ tt
-    tt c.before.before.check.ensures some) some
+    tt c.before.before.check-f.ensures some) some
 
-refused-requires-2 : tie.Need-refused-requires-2
-refused-requires-2 c κs = search rules
-
-returns-2 : tie.Need-returns-2
+pub returns-then-digit-gt3 : goal.returns-then-digit-gt3
 unfolding refuse_child check_code
-returns-2 c =
+returns-then-digit-gt3 c =
     let a = c.before.before.before.before.args in
-    refuse _ _ c.refused2.ensures (refuse_after order order (code_rows a.self) _ tt tt (omega arith)
+    refuse _ _ c.refused-then-digit-gt3.ensures (refuse_after order order (code_rows a.self) _ tt tt (omega arith)
     (here (lt-ltb 3 a.digit (omega arith)))) (omega arith)
 
-degree-of-requires : tie.Need-degree-of-requires
-degree-of-requires c κs = search rules
-
-refused-requires-3 : tie.Need-refused-requires-3
-refused-requires-3 c κs = search rules
-
-returns-3 : tie.Need-returns-3
+pub returns-then-n-eq24 : goal.returns-then-n-eq24
 unfolding refuse_child check_code
-returns-3 c =
+returns-then-n-eq24 c =
     let a = c.before.before.before.before.before.before.args in
-    refuse _ _ c.refused3.ensures
+    refuse _ _ c.refused-then-n-eq24.ensures
     (refuse_after order order (code_rows a.self) _ tt tt (omega arith)
     (next (le-ltb 3 a.digit (omega arith)) (here (eq-eqb (degree_of a.self.0) 24 (omega arith)))))
     (omega arith)
 
-small : (c : tie.Else3) → c.before.degree-of.result ≤ 24
+small : (c : Else-n-eq24) → c.before.degree_of-n.result ≤ 24
 small c = omega (arith, ((code_passes c.before.before.before.before.before.args.self).0 (omega arith)).0.degree)
 
-side-of-requires : tie.Need-side-of-requires
-side-of-requires c κs = search rules
+pub path_of-requires : goal.path_of-requires
+path_of-requires c = small c.before
 
-add-word-of : tie.Need-overflow-add-word-of
-add-word-of c = search rules
-
-path-of-requires : tie.Need-path-of-requires
-path-of-requires c κs = small c.before
-
-fits : (c : tie.After-path-of) → c.path_of.result < 2 ^ 48
+fits : (c : After-path_of) → c.path_of.result < 2 ^ 48
 fits c = rw c.path_of.ensures (path_48 _ _ (small c.before.before))
 
-mul-word-of : tie.Need-overflow-mul-word-of
-mul-word-of c = omega (arith, fits c)
+pub overflow_mul-path_of : goal.overflow_mul-path_of
+overflow_mul-path_of c = omega (arith, fits c)
 
-add-word-of-2 : tie.Need-overflow-add-word-of-2
-add-word-of-2 c = omega (arith, fits c)
+pub overflow_add-path_of : goal.overflow_add-path_of
+overflow_add-path_of c = omega (arith, fits c)
 
-word-of-requires : tie.Need-word-of-requires
+pub word_of-requires : goal.word_of-requires
 unfolding path
-word-of-requires c κs = (
+word_of-requires c = (
   omega arith,
   omega (arith, small c.before.before),
   rw (add-one, c.path_of.ensures)
@@ -85,35 +71,11 @@ word-of-requires c κs = (
       (digits_are _ _))),
 )
 
-answered-requires : tie.Need-answered-requires
-answered-requires c κs = search rules
-
-returns-4 : tie.Need-returns-4
+pub returns : goal.returns
 unfolding refuse_child check_code child_of path
-returns-4 c =
+returns c =
     let a = c.before.before.before.before.before.before.before.before.before.args in
     accept _ _ c.answered.ensures
     (refuse_after order order (code_rows a.self) _ tt tt (omega arith)
     (next (le-ltb 3 a.digit (omega arith)) (next (ne_eqb (degree_of a.self.0) 24 (omega arith)) nothing)))
     (cc (add-one (degree_of a.self.0)))
-
-pub child-spec : {M : Type 1} → statement M
-child-spec =
-    tie.close
-    (tie.spec
-    check-requires
-    refused-requires
-    returns
-    refused-requires-2
-    returns-2
-    degree-of-requires
-    refused-requires-3
-    returns-3
-    side-of-requires
-    add-word-of
-    path-of-requires
-    mul-word-of
-    add-word-of-2
-    word-of-requires
-    answered-requires
-    returns-4)

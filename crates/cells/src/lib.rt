@@ -9,7 +9,7 @@ use words::TriangleCode;
 
 // What checking a list answers: the first offending place, from 0, and its reason, 1 to 4; reason 0 and place 0 where
 // the list is accepted.
-#[derive(Drop)]
+#[derive(Clone, Copy)]
 pub struct Verdict {
     pub reason: u64,
     pub place: u64,
@@ -17,7 +17,7 @@ pub struct Verdict {
 
 // Where a triangle stands in the order of the tree: its rank is below that of each triangle inside it, these are below
 // its end, and those of all that follow are not.
-#[derive(Drop)]
+#[derive(Clone, Copy)]
 pub struct Reach {
     pub rank: u64,
     pub end: u64,
@@ -60,7 +60,7 @@ fn reason_after(last: Reach, own: Reach) -> u64
 }
 
 // What a word is after the words before it: its reason, 0 where it offends in nothing; and then its own reach.
-#[derive(Drop)]
+#[derive(Clone, Copy)]
 pub struct Found {
     pub reason: u64,
     pub own: Reach,

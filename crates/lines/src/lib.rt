@@ -8,20 +8,20 @@ ghost use Rattle.lines.specs.Writing as writing;
 ghost use Rattle.lines.specs.Writing.{Wrote};
 
 // Where a word of a line begins, and where it ends.
-#[derive(Drop)]
+#[derive(Clone, Copy)]
 pub struct Span {
     pub from: usize,
     pub end: usize,
 }
 
 // What a word reads as, or that it reads as no such number.
-#[derive(Drop)]
+#[derive(Clone, Copy)]
 pub enum Number {
     Value(u64),
     Wrong,
 }
 
-#[derive(Drop)]
+#[derive(Clone, Copy)]
 pub enum Signed {
     Whole(i32),
     Faulty,

@@ -1,0 +1,12 @@
+-- `lines::read_number` meets its contract: the one form or the other. Assumes nothing.
+use mathlib.Core.Path.{sym, ◌∙◌}
+use Rattle.lines.specs.Reading.{number}
+use Rattle.lines.proofs.read_number.Goals as goal
+
+pub returns-then-is_marked : goal.returns-then-is_marked
+unfolding number
+returns-then-is_marked c = rw (sym c.is_marked.ensures ∙ c.if-is_marked.true) c.read_hexadecimal.ensures
+
+pub returns-else-is_marked : goal.returns-else-is_marked
+unfolding number
+returns-else-is_marked c = rw (sym c.is_marked.ensures ∙ c.if-is_marked.false) c.read_decimal.ensures

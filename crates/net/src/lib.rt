@@ -8,14 +8,14 @@ pub mod steps;
 use words::TriangleCode;
 
 // A triangle inside one side: which way it points, and the least of its corners' weights on each of the side's corners.
-#[derive(Drop)]
+#[derive(Clone, Copy)]
 pub enum State {
     Up(u64, u64, u64),
     Down(u64, u64, u64),
 }
 
 // A point of a side: its weights on the side's corners.
-#[derive(Drop)]
+#[derive(Clone, Copy)]
 pub struct Point {
     pub w1: u64,
     pub w2: u64,
@@ -23,14 +23,14 @@ pub struct Point {
 }
 
 // A triangle of a side by its path, and a corner's number there.
-#[derive(Drop)]
+#[derive(Clone, Copy)]
 pub struct Corner {
     pub path: u64,
     pub number: u64,
 }
 
 // An edge of a triangle: the triangle's code, and the edge's number there.
-#[derive(Drop)]
+#[derive(Clone, Copy)]
 pub struct Edge {
     pub code: TriangleCode,
     pub number: u64,

@@ -5,7 +5,7 @@ pub mod weighing;
 use golden::Golden;
 
 // The exact coordinates of a corner, on each axis u + vφ.
-#[derive(Drop)]
+#[derive(Clone, Copy)]
 pub struct Coordinates {
     pub x: Golden,
     pub y: Golden,
@@ -13,7 +13,7 @@ pub struct Coordinates {
 }
 
 // The whole number t on each axis.
-#[derive(Drop)]
+#[derive(Clone, Copy)]
 pub struct Ticks {
     pub x: i64,
     pub y: i64,
@@ -21,7 +21,7 @@ pub struct Ticks {
 }
 
 // The drawn coordinates of a corner.
-#[derive(Drop)]
+#[derive(Clone, Copy)]
 pub struct Point {
     pub x: f64,
     pub y: f64,
@@ -29,7 +29,7 @@ pub struct Point {
 }
 
 // A direction: any numbers; what lies outside a thousand million either way is refused.
-#[derive(Drop)]
+#[derive(Clone, Copy)]
 pub struct Direction {
     pub x: i32,
     pub y: i32,
@@ -37,7 +37,7 @@ pub struct Direction {
 }
 
 // The determinants of a triangle with a direction in place of corner 1, 2 and 3.
-#[derive(Drop)]
+#[derive(Clone, Copy)]
 pub struct Determinants {
     pub d1: Golden,
     pub d2: Golden,

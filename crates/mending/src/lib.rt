@@ -2,7 +2,7 @@
 // (specs/), with the laws of it (proofs/). The call is in the crate mender.
 
 // How many places of the result and of the change lists were written; or a refusal's number, with zeros.
-#[derive(Drop)]
+#[derive(Clone, Copy)]
 pub struct MendAnswer {
     pub refusal: u64,
     pub count: u64,

@@ -11,7 +11,7 @@ use words::{CornerName, TriangleCode};
 
 // A neighbour's code, the number of the shared edge there, and the numbers there of the edge's two corners: first of
 // the one whose number is lower here, then of the one whose number is higher. Or a refusal's number with zeros.
-#[derive(Drop)]
+#[derive(Clone, Copy)]
 pub struct StepAnswer {
     pub refusal: u64,
     pub code: TriangleCode,
@@ -21,14 +21,14 @@ pub struct StepAnswer {
 }
 
 // A corner name, or a refusal's number with the name 0.
-#[derive(Drop)]
+#[derive(Clone, Copy)]
 pub struct NameAnswer {
     pub refusal: u64,
     pub name: CornerName,
 }
 
 // How many places of a lent list were written, or a refusal's number with the count 0.
-#[derive(Drop)]
+#[derive(Clone, Copy)]
 pub struct CountAnswer {
     pub refusal: u64,
     pub count: u64,

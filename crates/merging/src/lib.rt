@@ -94,7 +94,7 @@ fn four(d: u64, ranks: &[u64], count: usize, i: usize) -> bool
 }
 
 // How many codes there are, and how many changes.
-#[derive(Drop)]
+#[derive(Clone, Copy)]
 pub struct Counts {
     pub count: usize,
     pub changes: usize,

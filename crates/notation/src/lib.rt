@@ -21,21 +21,21 @@ use knots::back;
 use net::{Point, State};
 
 // What was read: the path of the digits, or that one of them is none.
-#[derive(Drop)]
+#[derive(Clone, Copy)]
 pub enum Digits {
     Path(u64),
     Wrong,
 }
 
 // The digits of a domain by their path, and the orientation of its side.
-#[derive(Drop)]
+#[derive(Clone, Copy)]
 pub struct Turned {
     pub orientation: u64,
     pub path: u64,
 }
 
 // A vertex's code: a, p and the path of its directions.
-#[derive(Drop)]
+#[derive(Clone, Copy)]
 pub struct Vertex {
     pub a: u64,
     pub p: u64,

@@ -8,7 +8,7 @@ ghost use Rattle.shares.specs.Means.WalkWords.{Fair};
 use crate::Floors;
 
 // A child: its digit, and the floors in it. The gaps stay.
-#[derive(Drop)]
+#[derive(Clone, Copy)]
 pub struct Child {
     pub digit: u64,
     pub floors: Floors,

@@ -6,7 +6,7 @@ pub mod weaving;
 
 // How many whole parts of 2^24 each determinant has of their sum: for a direction strictly inside a triangle of
 // degree 24, the triangle's floor.
-#[derive(Drop)]
+#[derive(Clone, Copy)]
 pub struct Floors {
     pub f1: u64,
     pub f2: u64,
@@ -14,7 +14,7 @@ pub struct Floors {
 }
 
 // 0 where that is its share exactly, and 1 where it has more, but less than one part more.
-#[derive(Drop)]
+#[derive(Clone, Copy)]
 pub struct Gaps {
     pub g1: u64,
     pub g2: u64,

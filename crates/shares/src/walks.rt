@@ -16,7 +16,7 @@ use crate::{Floors, Gaps};
 use net::seams::of_three;
 
 // A walk through one side: the gaps are the same in every triangle of it.
-#[derive(Drop)]
+#[derive(Clone, Copy)]
 pub struct Walk {
     pub side: u64,
     pub degree: u64,

@@ -7,7 +7,7 @@ ghost use Rattle.shares.specs.Means.Bits.{spread, low_word, high_word, Whole};
 use crate::Floors;
 
 // The lower bits of all digits as one word, and the higher.
-#[derive(Drop)]
+#[derive(Clone, Copy)]
 struct Bits {
     low: u64,
     high: u64,

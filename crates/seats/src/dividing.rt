@@ -7,14 +7,14 @@ ghost use Rattle.seats.specs.Means.Near.{Away, Divides};
 pub const MARGIN: u64 = 536870912;
 
 // How many parts, and what is left.
-#[derive(Drop)]
+#[derive(Clone, Copy)]
 pub struct Quotient {
     pub whole: u64,
     pub rest: u64,
 }
 
 // Those of three numbers and their sum.
-#[derive(Drop)]
+#[derive(Clone, Copy)]
 pub struct Divided {
     pub sum: u64,
     pub q1: Quotient,

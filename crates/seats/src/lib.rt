@@ -7,14 +7,14 @@ pub mod placing;
 use shares::{Floors, Gaps};
 
 // The side that holds a direction, and the floors there; or the side 0.
-#[derive(Drop)]
+#[derive(Clone, Copy)]
 pub struct Found {
     pub side: u64,
     pub floors: Floors,
 }
 
 // The octant and the kind of the least side that holds a direction, and its shares there, in the order of the roles.
-#[derive(Drop)]
+#[derive(Clone, Copy)]
 pub struct Stand {
     pub octant: u64,
     pub kind: u64,
@@ -23,7 +23,7 @@ pub struct Stand {
 }
 
 // Three numbers, one for each corner of a side.
-#[derive(Drop)]
+#[derive(Clone, Copy)]
 pub struct Triple {
     pub c1: u64,
     pub c2: u64,

@@ -27,7 +27,7 @@ const FIRST: u64 = 8753229350460422521;
 const SECOND: u64 = 16690016339199190942;
 
 // The sizes of a direction's coordinates.
-#[derive(Drop)]
+#[derive(Clone, Copy)]
 pub struct Sizes {
     pub a: u64,
     pub b: u64,
@@ -35,7 +35,7 @@ pub struct Sizes {
 }
 
 // The middle side of an octant, or the one beyond its edge, and three numbers near to the determinants there.
-#[derive(Drop)]
+#[derive(Clone, Copy)]
 pub struct Roles {
     pub kind: u64,
     pub r1: u64,
@@ -44,7 +44,7 @@ pub struct Roles {
 }
 
 // A side, numbers near to the first two determinants, and one near to their sum.
-#[derive(Drop)]
+#[derive(Clone, Copy)]
 pub struct Seated {
     pub side: u64,
     pub x1: u64,

@@ -20,7 +20,7 @@ use seats::placing::{Roles, Sizes, leaning, octant_of, sign_of, sizes_of, times_
 use shares::{Floors, Gaps};
 
 // One share.
-#[derive(Drop)]
+#[derive(Clone, Copy)]
 struct Part {
     floor: u64,
     gap: u64,

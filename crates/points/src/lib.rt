@@ -7,21 +7,21 @@ use filing::{Coordinates, Point, Ticks};
 use words::{CornerName, TriangleCode};
 
 // Exact coordinates, or a refusal's number with zeros.
-#[derive(Drop)]
+#[derive(Clone, Copy)]
 pub struct CoordinatesAnswer {
     pub refusal: u64,
     pub at: Coordinates,
 }
 
 // t on each axis, or a refusal's number with zeros.
-#[derive(Drop)]
+#[derive(Clone, Copy)]
 pub struct TicksAnswer {
     pub refusal: u64,
     pub at: Ticks,
 }
 
 // A drawn point, or a refusal's number with zeros.
-#[derive(Drop)]
+#[derive(Clone, Copy)]
 pub struct PointAnswer {
     pub refusal: u64,
     pub at: Point,

@@ -1,4 +1,4 @@
--- Document 02, 2026-09: what the function that checks a cell list itself says, as grid/specs/Contracts.antt has it of
+-- Document 02, 2026-09: what the function that checks a cell list itself says, as grid/specs/CallContracts.antt has it of
 -- document 01's. Assumes nothing.
 use Rattle.std.specs.Prelude.{◌≡◌}
 use contract.Lifetimes.{Lfts}

@@ -1,4 +1,4 @@
--- Document 02, 2026-11: what the functions on the small form themselves say, as grid/specs/Contracts.antt has it of
+-- Document 02, 2026-11: what the functions on the small form themselves say, as grid/specs/CallContracts.antt has it of
 -- document 01's. Assumes nothing.
 use Rattle.std.specs.Prelude.{◌≡◌, ℕ}
 use contract.Lifetimes.{Lfts}

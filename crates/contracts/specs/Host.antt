@@ -1,5 +1,5 @@
 -- Document 02, 2026-01, 2026-04 and 2026-09 to 2026-12: what the exported functions themselves say, as
--- grid/specs/Contracts.antt has it of document 01's. Assumes nothing.
+-- grid/specs/CallContracts.antt has it of document 01's. Assumes nothing.
 use Rattle.std.specs.Prelude.{◌≡◌, ℕ, ℤ}
 use contract.Lifetimes.{Lfts}
 use Rattle.frame.specs.Promises.{Says}

@@ -1,4 +1,4 @@
--- Document 02, 2026-14: what the two functions for marks themselves say, as grid/specs/Contracts.antt has it of document
+-- Document 02, 2026-14: what the two functions for marks themselves say, as grid/specs/CallContracts.antt has it of document
 -- 01's. Assumes nothing.
 use Rattle.std.specs.Prelude.{ℕ}
 use contract.Lifetimes.{Lfts}

@@ -1,4 +1,4 @@
--- Document 02, 2026-12: what the two functions themselves say, as grid/specs/Contracts.antt has it of document 01's.
+-- Document 02, 2026-12: what the two functions themselves say, as grid/specs/CallContracts.antt has it of document 01's.
 -- Assumes nothing.
 use contract.Lifetimes.{Lfts}
 use Rattle.frame.specs.Promises.{Says}

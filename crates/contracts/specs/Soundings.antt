@@ -1,4 +1,4 @@
--- Document 02, 2026-03, 2026-07 and 2026-08: what the functions of a table themselves say, as grid/specs/Contracts.antt
+-- Document 02, 2026-03, 2026-07 and 2026-08: what the functions of a table themselves say, as grid/specs/CallContracts.antt
 -- has it of document 01's. Assumes nothing.
 use Rattle.std.specs.Prelude.{List, ℕ, ℤ}
 use contract.Lifetimes.{Lfts}

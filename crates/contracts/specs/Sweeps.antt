@@ -1,4 +1,4 @@
--- Document 02, 2026-04: what the function of a sweep itself says, as grid/specs/Contracts.antt has it of document 01's.
+-- Document 02, 2026-04: what the function of a sweep itself says, as grid/specs/CallContracts.antt has it of document 01's.
 -- Assumes nothing.
 use Rattle.std.specs.Prelude.{List, ℕ, ℤ}
 use contract.Lifetimes.{Lfts}

@@ -1,4 +1,4 @@
--- What each function asks and ensures is what specs/Contracts.antt says: the two are the same, by computation. Assumes
+-- What each function asks and ensures is what specs/CallContracts.antt says: the two are the same, by computation. Assumes
 -- nothing.
 use Prim.Native.Nat.{ℕ}
 use contract.Lifetimes.{Lfts}
@@ -8,7 +8,7 @@ use Rattle.words.specs.declared.TriangleCode.{TriangleCode}
 use Rattle.corners.specs.Refusals.{refuse_numbered}
 use Rattle.corners.specs.Answers.{no_step}
 use Rattle.corners.proofs.cross.Reads as cross
-use Rattle.grid.specs.Contracts.{Contracts}
+use Rattle.grid.specs.CallContracts.{Contracts}
 use Rattle.grid.proofs.Demands.{demand_1}
 
 pub contracts : Contracts

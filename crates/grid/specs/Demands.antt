@@ -1,6 +1,6 @@
 -- The three demands of the user, clause by clause: what is promised of the calls together. A promise of a call
 -- (`CrossAnswer t k r` and so on) says which answers r it may give, and is just what the function ensures
--- (Contracts.antt); the theorems of these types are in proofs/Demands.antt. Assumes nothing.
+-- (CallContracts.antt); the theorems of these types are in proofs/Demands.antt. Assumes nothing.
 use Rattle.std.specs.Prelude.{◌≡◌, ◌⊎◌, ◌↔◌, List, ℕ, ◌≤◌, take}
 use Rattle.frame.specs.Promises.{One, Keeps, KeepsLent, ◌gives◌}
 use Rattle.words.specs.Words.{degree_of, digit_of, side_of}

@@ -1,5 +1,5 @@
 // The grid: every call of document 01, for any number and any lent list. None has a `requires`; each states its
-// complete answer where it is defined, and specs/Contracts.antt holds it to that.
+// complete answer where it is defined, and specs/CallContracts.antt holds it to that.
 //
 // Checking a code, parent and child are methods by value of `TriangleCode`: `check`, `parent`, `child`. (No calls of
 // document 01 are the methods of `Golden`, which ask that their numbers are small.)

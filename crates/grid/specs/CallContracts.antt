@@ -82,7 +82,7 @@ pub record Contracts : Type 0 where
       → Says (name_of_call.Asked κs (t, (i, tt))) (name_of_call.Learnt κs (t, (i, tt)) r (t, (i, tt))) (NamingAnswer t i r)
   pub back : (κs : Lfts 1) (n : ℕ) (weights new : Slice) (r : NameAnswer)
       → Says (nameBack_call.Asked κs (n, (weights, tt))) (nameBack_call.Learnt κs (n, (weights, tt)) r (n, (new, tt)))
-      (BackAnswer n (weights .now) r)
+      (BackAnswer n weights.now r)
   pub ring : (κs : Lfts 1) (q : CornerName) (out new : Slice) (r : CountAnswer)
       → Says (ring_call.Asked κs (q, (out, tt))) (ring_call.Learnt κs (q, (out, tt)) r (q, (new, tt)))
       (RingAnswer q out.now r new.now)

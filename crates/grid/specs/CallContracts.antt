@@ -4,7 +4,7 @@
 -- contract is emptied, or says something else, its row cannot be proved. Assumes nothing.
 use Rattle.std.specs.Prelude.{◌≡◌, List, ℕ}
 use contract.Lifetimes.{Lfts}
-use Rattle.std.specs.Borrow.{Bor}
+use Rattle.std.specs.Borrow.{Bor, MutBor}
 use Rattle.frame.specs.Promises.{Says}
 use Rattle.words.specs.Refusals.{check_code}
 use Rattle.words.specs.Family.{ParentAnswer, ChildAnswer}
@@ -41,9 +41,13 @@ use Rattle.directions.specs.Answers.{FileAnswer, ListAnswer}
 use Rattle.directions.proofs.file.Reads as file_call
 use Rattle.directions.proofs.list.Reads as list_call
 
--- A lent list of numbers, as a call is handed it and leaves it; `now` is what it holds.
+-- A lent list of numbers, as a call is handed it and leaves it; `now` is what it holds. It is lent to be read, or to be
+-- written.
 abbrev pub Slice : Type 0
 Slice = Bor (List ℕ)
+
+abbrev pub Room : Type 0
+Room = MutBor (List ℕ)
 
 -- The calls of document 01, in the order of Demand1: at lifetimes κs, for any arguments, any result, and lists left
 -- with any contents.
@@ -58,10 +62,10 @@ pub record Contracts : Type 0 where
       → Says (child_call.Asked κs (t, (d, tt))) (child_call.Learnt κs (t, (d, tt)) r (t, (d, tt))) (ChildAnswer t d r)
   pub cross : (κs : Lfts 0) (t : TriangleCode) (k : ℕ) (r : StepAnswer)
       → Says (cross_call.Asked κs (t, (k, tt))) (cross_call.Learnt κs (t, (k, tt)) r (t, (k, tt))) (CrossAnswer t k r)
-  pub weights : (κs : Lfts 1) (t : TriangleCode) (i : ℕ) (out new : Slice) (r : ℕ)
+  pub weights : (κs : Lfts 1) (t : TriangleCode) (i : ℕ) (out new : Room) (r : ℕ)
       → Says (weights_of_call.Asked κs (t, (i, (out, tt)))) (weights_of_call.Learnt κs (t, (i, (out, tt))) r (t, (i, (new, tt))))
       (WeightsAnswer t i out.now r new.now)
-  pub name_weights : (κs : Lfts 1) (q : CornerName) (out new : Slice) (r : ℕ)
+  pub name_weights : (κs : Lfts 1) (q : CornerName) (out new : Room) (r : ℕ)
       → Says (weights_of_name_call.Asked κs (q, (out, tt))) (weights_of_name_call.Learnt κs (q, (out, tt)) r (q, (new, tt)))
       (NameWeightsAnswer q out.now r new.now)
   pub coordinates : (κs : Lfts 0) (t : TriangleCode) (i : ℕ) (r : CoordinatesAnswer)
@@ -83,11 +87,11 @@ pub record Contracts : Type 0 where
   pub back : (κs : Lfts 1) (n : ℕ) (weights new : Slice) (r : NameAnswer)
       → Says (nameBack_call.Asked κs (n, (weights, tt))) (nameBack_call.Learnt κs (n, (weights, tt)) r (n, (new, tt)))
       (BackAnswer n weights.now r)
-  pub ring : (κs : Lfts 1) (q : CornerName) (out new : Slice) (r : CountAnswer)
+  pub ring : (κs : Lfts 1) (q : CornerName) (out new : Room) (r : CountAnswer)
       → Says (ring_call.Asked κs (q, (out, tt))) (ring_call.Learnt κs (q, (out, tt)) r (q, (new, tt)))
       (RingAnswer q out.now r new.now)
   pub file : (κs : Lfts 0) (n : ℕ) (d : Direction) (r : CodeAnswer)
       → Says (file_call.Asked κs (n, (d, tt))) (file_call.Learnt κs (n, (d, tt)) r (n, (d, tt))) (FileAnswer n d r)
-  pub list : (κs : Lfts 1) (n : ℕ) (d : Direction) (out new : Slice) (r : CountAnswer)
+  pub list : (κs : Lfts 1) (n : ℕ) (d : Direction) (out new : Room) (r : CountAnswer)
       → Says (list_call.Asked κs (n, (d, (out, tt)))) (list_call.Learnt κs (n, (d, (out, tt))) r (n, (d, (new, tt))))
       (ListAnswer n d out.now r new.now)

@@ -12,7 +12,7 @@ mod telling;
 ghost use Rattle.std.specs.Prelude.{◌≤◌, length};
 
 // What reading comes to: so much is held, or a read failed.
-#[derive(Drop)]
+#[derive(Clone, Copy)]
 enum Taken {
     Held(usize),
     Unread,

@@ -8,7 +8,7 @@ ghost use Rattle.coarse.specs.Sums.{present};
 ghost use Rattle.coarse.specs.Means.Fours.{present_from};
 
 // How many readings there are, and what they come to in millimetres.
-#[derive(Drop)]
+#[derive(Clone, Copy)]
 pub struct Tally {
     pub count: u64,
     pub sum: u64,

@@ -114,7 +114,7 @@ pub fn save(name: &[u8], held: Held, list: &[i32], owners: &[u8], out: &mut [u8]
 // ---- open
 
 // What reading a file comes to: so many bytes of it stand in the buffer, or it could not be read.
-#[derive(Drop)]
+#[derive(Clone, Copy)]
 enum Taken {
     Read(usize),
     Unread,

@@ -8,7 +8,7 @@ use replies::places::Entry;
 use replies::{answers, arguments, places};
 
 // What is asked of a lent list.
-#[derive(Drop)]
+#[derive(Clone, Copy)]
 pub enum Asked {
     Weights(u64, u64),
     NameWeights(u64),

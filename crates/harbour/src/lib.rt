@@ -13,11 +13,11 @@ use filing::Direction;
 use words::{CodeAnswer, TriangleCode};
 
 // A small code, or any 32-bit word handed in as one.
-#[derive(Drop)]
+#[derive(Clone, Copy)]
 pub struct SmallCode(pub u32);
 
 // A small code, or a refusal's number with the code 0.
-#[derive(Drop)]
+#[derive(Clone, Copy)]
 pub struct SmallAnswer {
     pub refusal: u64,
     pub code: SmallCode,
@@ -25,7 +25,7 @@ pub struct SmallAnswer {
 
 // A neighbour's small code, the number of the shared edge there, and the numbers there of the edge's two corners, as
 // crossing answers them. Or a refusal's number with zeros.
-#[derive(Drop)]
+#[derive(Clone, Copy)]
 pub struct SmallStepAnswer {
     pub refusal: u64,
     pub code: SmallCode,

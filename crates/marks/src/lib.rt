@@ -13,7 +13,7 @@ use tables::Sounding;
 use words::TriangleCode;
 
 // A mark on the chart.
-#[derive(Drop)]
+#[derive(Clone, Copy)]
 pub enum Mark {
     Nothing,
     Dot(Point),
@@ -21,7 +21,7 @@ pub enum Mark {
 }
 
 // A mark; or a refusal's number, beside 23 the least bad place, and the mark nothing.
-#[derive(Drop)]
+#[derive(Clone, Copy)]
 pub struct MarkAnswer {
     pub refusal: u64,
     pub place: u64,

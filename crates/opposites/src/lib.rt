@@ -13,7 +13,7 @@ use words::{CodeAnswer, CornerName, TriangleCode};
 
 // A triangle, and the number of a corner or an edge there. (`TriangleCode` is another crate's, and so can have no
 // method here.)
-#[derive(Drop)]
+#[derive(Clone, Copy)]
 struct Numbered {
     code: TriangleCode,
     number: u64,

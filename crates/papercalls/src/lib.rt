@@ -7,7 +7,7 @@ use replies::places::Entry;
 use replies::{answers, arguments, places};
 
 // What is asked in the paper's notation.
-#[derive(Drop)]
+#[derive(Clone, Copy)]
 pub enum Asked {
     Domain(u64),
     Vertex(u64),

@@ -5,7 +5,7 @@ use grid::Direction;
 use lines::{Number, Signed};
 
 // A number, whether one was read, and the place after it.
-#[derive(Drop)]
+#[derive(Clone, Copy)]
 pub struct Found {
     pub read: bool,
     pub value: u64,
@@ -13,7 +13,7 @@ pub struct Found {
 }
 
 // A signed number in the same way.
-#[derive(Drop)]
+#[derive(Clone, Copy)]
 pub struct FoundSigned {
     pub read: bool,
     pub value: i32,
@@ -21,7 +21,7 @@ pub struct FoundSigned {
 }
 
 // A triangle code and a number.
-#[derive(Drop)]
+#[derive(Clone, Copy)]
 pub struct Pair {
     pub read: bool,
     pub code: u64,
@@ -30,7 +30,7 @@ pub struct Pair {
 }
 
 // A degree and a direction.
-#[derive(Drop)]
+#[derive(Clone, Copy)]
 pub struct Aim {
     pub read: bool,
     pub degree: u64,
@@ -39,7 +39,7 @@ pub struct Aim {
 }
 
 // How many places a lent list has, in the same way.
-#[derive(Drop)]
+#[derive(Clone, Copy)]
 pub struct FoundLength {
     pub read: bool,
     pub count: usize,
@@ -47,7 +47,7 @@ pub struct FoundLength {
 }
 
 // How many places a lent list has, and whether the line asked for that.
-#[derive(Drop)]
+#[derive(Clone, Copy)]
 pub struct Places {
     pub read: bool,
     pub shown: bool,
@@ -55,7 +55,7 @@ pub struct Places {
 }
 
 // A degree and how many places a lent list has.
-#[derive(Drop)]
+#[derive(Clone, Copy)]
 pub struct Lending {
     pub read: bool,
     pub degree: u64,
@@ -64,7 +64,7 @@ pub struct Lending {
 }
 
 // How many places each of the three lent lists of a mending has.
-#[derive(Drop)]
+#[derive(Clone, Copy)]
 pub struct Lengths {
     pub read: bool,
     pub mended: usize,

@@ -11,7 +11,7 @@ pub fn number(list: &mut [u64]) {
 }
 
 // How a place of a list is written.
-#[derive(Drop)]
+#[derive(Clone, Copy)]
 pub enum Entry {
     Decimal,
     Word,

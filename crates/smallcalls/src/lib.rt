@@ -7,7 +7,7 @@ use harbour::{SmallAnswer, SmallCode, SmallStepAnswer};
 use replies::{answers, arguments};
 
 // A small word, whether one was read, and the place after it.
-#[derive(Drop)]
+#[derive(Clone, Copy)]
 struct FoundSmall {
     read: bool,
     word: SmallCode,

@@ -16,7 +16,7 @@ use reading::Collected;
 use tally::Tally;
 
 // What is asked for.
-#[derive(Drop)]
+#[derive(Clone, Copy)]
 struct Order {
     degree: u64,
     packed: bool,
@@ -25,7 +25,7 @@ struct Order {
 
 // The direction so far: `length` of its bytes, 1001 where its line has more than 1000. The lines so far: `filled` bytes
 // of their buffer. Whether a write failed. What has been filed.
-#[derive(Drop)]
+#[derive(Clone, Copy)]
 struct Progress {
     length: usize,
     filled: usize,
@@ -35,7 +35,7 @@ struct Progress {
 
 // How a turn ends: with so many bytes of a direction that goes on, and what has been filed; with the input; or with a
 // read or a write that failed.
-#[derive(Drop)]
+#[derive(Clone, Copy)]
 enum Outcome {
     More(usize, Tally),
     End(Tally),

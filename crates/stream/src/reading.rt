@@ -4,14 +4,14 @@ ghost use Rattle.std.specs.Prelude.{◌≡◌, ◌+◌, ◌<◌, ◌≤◌, leng
 use lines::Signed;
 
 // How many bytes of a direction there are, and whether these are all of them.
-#[derive(Drop)]
+#[derive(Clone, Copy)]
 struct Taken {
     length: usize,
     whole: bool,
 }
 
 // The same, and up to where they were taken.
-#[derive(Drop)]
+#[derive(Clone, Copy)]
 struct Piece {
     next: usize,
     length: usize,
@@ -20,7 +20,7 @@ struct Piece {
 
 // What was collected: up to where, how many bytes there are of a direction that goes on, how many directions, and
 // whether after them one was not read.
-#[derive(Drop)]
+#[derive(Clone, Copy)]
 pub struct Collected {
     pub next: usize,
     pub length: usize,

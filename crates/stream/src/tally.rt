@@ -3,7 +3,7 @@ use sweeps::SweepAnswer;
 
 // How many directions there were, those that were not read too; what they come to, a place counting all of them; how
 // many were not read, and the first one's place.
-#[derive(Drop)]
+#[derive(Clone, Copy)]
 pub struct Tally {
     pub count: u64,
     pub swept: SweepAnswer,

@@ -11,7 +11,7 @@ ghost use Rattle.sweeps.specs.Means.Counted.{is_zero};
 
 // The refusal of the whole call, or 0; how many directions were refused, and the first one's place, from 0, and
 // refusal.
-#[derive(Drop)]
+#[derive(Clone, Copy)]
 pub struct SweepAnswer {
     pub refusal: u64,
     pub refused: u64,

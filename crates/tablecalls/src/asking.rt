@@ -10,7 +10,7 @@ use tables::Deed;
 // A call: one that cannot be read, by its row of CALLS; one on a table where none is open; one that is refused already;
 // a list to be laid, and what is held then; what a desk does with a triangle; work-out; those that change nothing; and
 // those on a file, whose name stands from one place of the line to another.
-#[derive(Drop)]
+#[derive(Clone, Copy)]
 pub enum Asked {
     Unread(u64),
     NoneOpen,
@@ -27,7 +27,7 @@ pub enum Asked {
 }
 
 // What a desk is to do, and whether the line ends with it.
-#[derive(Drop)]
+#[derive(Clone, Copy)]
 struct FoundDeed {
     read: bool,
     deed: Deed,

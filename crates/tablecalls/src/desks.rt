@@ -16,7 +16,7 @@ use tables::Deed;
 
 // What came of a call. Another table is held where one was opened, or another list of so many places was laid. A
 // refusal has a place. What is to be done on a file is left to the caller.
-#[derive(Drop)]
+#[derive(Clone, Copy)]
 enum Done {
     Unread(u64),
     NoneOpen,

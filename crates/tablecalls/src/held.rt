@@ -4,7 +4,7 @@
 ghost use Rattle.std.specs.Prelude.{◌≡◌};
 
 // One of the four lists of a table.
-#[derive(Drop)]
+#[derive(Clone, Copy)]
 pub enum Which {
     Readings,
     Owners,
@@ -13,7 +13,7 @@ pub enum Which {
 }
 
 // What an answer of many places shows: readings, owners, or of the triangles one degree up counts and sums.
-#[derive(Drop)]
+#[derive(Clone, Copy)]
 pub enum Shown {
     Readings,
     Owners,
@@ -22,7 +22,7 @@ pub enum Shown {
 
 // What is held: whether a table is open, its degree, how many places of each list are its own, and what the last answer
 // of many places shows.
-#[derive(Drop)]
+#[derive(Clone, Copy)]
 pub struct Held {
     pub open: bool,
     pub degree: u64,
@@ -35,7 +35,7 @@ pub struct Held {
 
 // A part of an answer: how many bytes it takes, and how many places are still to be shown. An answer of many places is
 // written part by part.
-#[derive(Drop)]
+#[derive(Clone, Copy)]
 pub struct Part {
     pub size: usize,
     pub rest: usize,
@@ -43,7 +43,7 @@ pub struct Part {
 
 // What is left to do where a line is answered: nothing, or to save the table to the file, or open that of the file,
 // whose name stands from one place of the line to another.
-#[derive(Drop)]
+#[derive(Clone, Copy)]
 pub enum Task {
     Nothing,
     Save(usize, usize),
@@ -51,7 +51,7 @@ pub enum Task {
 }
 
 // The first part of an answer, in most cases all of it; what is held after it; and what is left to do.
-#[derive(Drop)]
+#[derive(Clone, Copy)]
 pub struct Reply {
     pub size: usize,
     pub rest: usize,

@@ -5,7 +5,7 @@ use crate::held::Shown;
 use coarse::Tally;
 
 // Nothing; a reading; the desk whose it is; a count and a sum; or a bad number.
-#[derive(Drop)]
+#[derive(Clone, Copy)]
 pub enum Item {
     Nothing,
     Reading(i32),

@@ -7,7 +7,7 @@ use replies::arguments;
 use replies::arguments::Found;
 
 // What a place of a list holds.
-#[derive(Drop)]
+#[derive(Clone, Copy)]
 pub enum Entry {
     Reading(i32),
     Owner(u8),
@@ -18,7 +18,7 @@ pub enum Entry {
 // ---- reading
 
 // What a word says that a place holds, and the place of the line after it.
-#[derive(Drop)]
+#[derive(Clone, Copy)]
 struct FoundEntry {
     read: bool,
     entry: Entry,
@@ -26,7 +26,7 @@ struct FoundEntry {
 }
 
 // A place of a list with what it holds.
-#[derive(Drop)]
+#[derive(Clone, Copy)]
 struct FoundPair {
     read: bool,
     place: u64,
@@ -35,7 +35,7 @@ struct FoundPair {
 }
 
 // What a line says of a list: its length, what all its places hold, and where the pairs begin that say otherwise.
-#[derive(Drop)]
+#[derive(Clone, Copy)]
 pub struct Listing {
     pub read: bool,
     pub which: Which,

@@ -4,14 +4,14 @@
 // themselves are in soundings.
 
 // What a table has for a triangle: no reading, or one in millimetres.
-#[derive(Drop)]
+#[derive(Clone, Copy)]
 pub enum Sounding {
     Nothing,
     Reading(i32),
 }
 
 // What a desk is to do with a triangle: take it, set this reading, clear, or give it back.
-#[derive(Drop)]
+#[derive(Clone, Copy)]
 pub enum Deed {
     Taking,
     Setting(i32),
@@ -20,14 +20,14 @@ pub enum Deed {
 }
 
 // The answer of a call that writes: a refusal's number, 0 where it is answered, and beside 23 the least bad place.
-#[derive(Drop)]
+#[derive(Clone, Copy)]
 pub struct TableAnswer {
     pub refusal: u64,
     pub place: u64,
 }
 
 // The answer of get: the same, with what the table has.
-#[derive(Drop)]
+#[derive(Clone, Copy)]
 pub struct SoundingAnswer {
     pub refusal: u64,
     pub place: u64,

@@ -11,7 +11,7 @@ use console::{Held, Reply};
 
 // The line so far: `length` of its bytes, 1001 where it has more than 1000. The answers so far: `filled` bytes of their
 // buffer. Whether a write failed. The table.
-#[derive(Drop)]
+#[derive(Clone, Copy)]
 struct Progress {
     length: usize,
     filled: usize,
@@ -21,7 +21,7 @@ struct Progress {
 
 // How a turn ends: with so many bytes of a line that goes on, and the table; with the input; or with a read or a write
 // that failed.
-#[derive(Drop)]
+#[derive(Clone, Copy)]
 enum Outcome {
     Line(usize, Held),
     End,

@@ -1,0 +1,11 @@
+-- `texts::row_start` meets its contract. The loop's invariant: the place is in the table. The measure is how many rows
+-- are left to pass. Assumes nothing.
+use Prim.Native.Nat.{◌≤◌, ◌-◌}
+use lib.ListN.{length}
+use Rattle.texts.proofs.row_start.Given as goal
+
+abbrev pub invariant-loop-k : goal.invariant-loop-k
+invariant-loop-k l = (l.at ≤ length l.table) × (l.k ≤ l.number)
+
+abbrev pub decreases-loop-k : goal.decreases-loop-k
+decreases-loop-k l = l.number - l.k

@@ -9,7 +9,7 @@ use Rattle.host_sweeps.proofs.first_zero_code.Given as goal
 
 abbrev pub invariant-loop-place : goal.invariant-loop-place
 invariant-loop-place l =
-(l.place ≤ l.n)
+    (l.place ≤ l.n)
     × (first_place is_zero (first_bytes l.n l.codes) ≡ l.place + first_place is_zero (drop l.place (first_bytes l.n l.codes)))
 
 abbrev pub decreases-loop-place : goal.decreases-loop-place

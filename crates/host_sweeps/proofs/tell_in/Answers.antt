@@ -48,7 +48,7 @@ returns-else-refused-eq0 c =
         none = λ z. absurd (c.if-refused-eq0.false z);
         some = λ k. (
           w,
-          subst (λ (c.before : ℕ). FileAnswer c.args.degree (direction_at (directions_in dirs) c.before) (answer_for w))
+          subst (λ (i : ℕ). FileAnswer c.args.degree (direction_at (directions_in dirs) i) (answer_for w))
               c.first_zero_code-place.ensures is,
           λ i. sweep_answer 0 c.args.refused (c.first_zero_code-place.ensures i) w,
         );

@@ -3,7 +3,7 @@
 use Rattle.std.specs.Prelude.{◌≡◌}
 use contract.Lifetimes.{Lfts}
 use Rattle.frame.specs.Promises.{Says}
-use Rattle.grid.specs.Contracts.{Slice}
+use Rattle.grid.specs.CallContracts.{Slice}
 use Rattle.cells.specs.Checking.{checked}
 use Rattle.cells.specs.declared.Verdict.{Verdict}
 use Rattle.cells.proofs.check.Reads as check_call

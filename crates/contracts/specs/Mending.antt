@@ -2,14 +2,14 @@
 -- document 01's. Assumes nothing.
 use contract.Lifetimes.{Lfts}
 use Rattle.frame.specs.Promises.{Says}
-use Rattle.grid.specs.Contracts.{Slice}
+use Rattle.grid.specs.CallContracts.{Slice, Room}
 use Rattle.mending.specs.Answers.{lists, MendResult}
 use Rattle.mending.specs.declared.MendAnswer.{MendAnswer}
 use Rattle.mender.proofs.mend.Reads as mend_call
 
 -- For any four lists, left with any contents, and any result.
 pub record Contracts : Type 0 where
-  pub mend : (κs : Lfts 4) (input out words reasons input' out' words' reasons' : Slice) (r : MendAnswer)
+  pub mend : (κs : Lfts 4) (input input' : Slice) (out words reasons out' words' reasons' : Room) (r : MendAnswer)
       → Says (mend_call.Asked κs (input, (out, (words, (reasons, tt)))))
       (mend_call.Learnt κs (input, (out, (words, (reasons, tt)))) r (input', (out', (words', (reasons', tt)))))
       (MendResult input.now (lists out.now words.now reasons.now) r

@@ -7,7 +7,7 @@ use Rattle.words.specs.declared.CornerName.{CornerName}
 use Rattle.words.specs.declared.CodeAnswer.{CodeAnswer}
 use Rattle.corners.specs.declared.NameAnswer.{NameAnswer}
 use Rattle.corners.specs.declared.CountAnswer.{CountAnswer}
-use Rattle.grid.specs.Contracts.{Slice}
+use Rattle.grid.specs.CallContracts.{Slice, Room}
 use Rattle.paper.specs.Answers.{FromDomainAnswer, FromVertexAnswer, ToDomainAnswer, ToVertexAnswer}
 use Rattle.paper.proofs.from_domain.Reads as from_domain_call
 use Rattle.paper.proofs.from_vertex.Reads as from_vertex_call
@@ -22,9 +22,9 @@ pub record Contracts : Type 0 where
   pub from_vertex : (κs : Lfts 1) (code new : Slice) (r : NameAnswer)
       → Says (from_vertex_call.Asked κs (code, tt)) (from_vertex_call.Learnt κs (code, tt) r (new, tt))
       (FromVertexAnswer code.now r)
-  pub to_domain : (κs : Lfts 1) (t : TriangleCode) (out new : Slice) (r : CountAnswer)
+  pub to_domain : (κs : Lfts 1) (t : TriangleCode) (out new : Room) (r : CountAnswer)
       → Says (to_domain_call.Asked κs (t, (out, tt))) (to_domain_call.Learnt κs (t, (out, tt)) r (t, (new, tt)))
       (ToDomainAnswer t out.now r new.now)
-  pub to_vertex : (κs : Lfts 1) (q : CornerName) (out new : Slice) (r : CountAnswer)
+  pub to_vertex : (κs : Lfts 1) (q : CornerName) (out new : Room) (r : CountAnswer)
       → Says (to_vertex_call.Asked κs (q, (out, tt))) (to_vertex_call.Learnt κs (q, (out, tt)) r (q, (new, tt)))
       (ToVertexAnswer q out.now r new.now)

@@ -2,10 +2,10 @@
 -- has it of document 01's. Assumes nothing.
 use Rattle.std.specs.Prelude.{List, ℕ, ℤ}
 use contract.Lifetimes.{Lfts}
-use Rattle.std.specs.Borrow.{Bor}
+use Rattle.std.specs.Borrow.{Bor, MutBor}
 use Rattle.frame.specs.Promises.{Says}
 use Rattle.words.specs.declared.TriangleCode.{TriangleCode}
-use Rattle.grid.specs.Contracts.{Slice}
+use Rattle.grid.specs.CallContracts.{Room}
 use Rattle.tables.specs.Owners.{shared}
 use Rattle.tables.specs.Answers.{GetAnswer}
 use Rattle.tables.specs.declared.TableAnswer.{TableAnswer}
@@ -19,20 +19,24 @@ use Rattle.soundings.proofs.clear.Reads as clear_call
 use Rattle.soundings.proofs.give.Reads as give_call
 use Rattle.soundings.proofs.work_out.Reads as work_out_call
 
--- A lent list of signed numbers, as a call is handed it and leaves it; `now` is what it holds.
+-- A lent list of signed numbers, as a call is handed it and leaves it; `now` is what it holds. It is lent to be read, or
+-- to be written.
 abbrev pub Readings : Type 0
 Readings = Bor (List ℤ)
 
+abbrev pub Table : Type 0
+Table = MutBor (List ℤ)
+
 -- The last arguments of a call: counts and sums, and what they hold.
 abbrev pub TwoLists : Type 0
-TwoLists = Slice × (Slice × Unit)
+TwoLists = Room × (Room × Unit)
 
 abbrev pub stored : TwoLists → Coarse
 stored l = coarse l.0.now l.1.0.now
 
 -- All four lists: readings, owners, and these two.
 abbrev pub FourLists : Type 0
-FourLists = Readings × (Slice × TwoLists)
+FourLists = Table × (Room × TwoLists)
 
 abbrev pub all : FourLists → Chart
 all l = chart (shared l.0.now l.1.0.now) (stored l.1.1)

@@ -4,14 +4,14 @@ use Rattle.std.specs.Prelude.{List, ℕ, ℤ}
 use contract.Lifetimes.{Lfts}
 use Rattle.std.specs.Borrow.{Bor}
 use Rattle.frame.specs.Promises.{Says}
-use Rattle.grid.specs.Contracts.{Slice}
+use Rattle.grid.specs.CallContracts.{Room}
 use Rattle.sweeps.specs.Answers.{SweepResult}
 use Rattle.sweeps.specs.declared.SweepAnswer.{SweepAnswer}
 use Rattle.sweeper.proofs.sweep.Reads as sweep_call
 
 -- For any arguments, any result, and a list of codes left with any contents.
 pub record Contracts : Type 0 where
-  pub sweep : (κs : Lfts 2) (n : ℕ) (dirs dirs' : Bor (List ℤ)) (codes new : Slice) (r : SweepAnswer)
+  pub sweep : (κs : Lfts 2) (n : ℕ) (dirs dirs' : Bor (List ℤ)) (codes new : Room) (r : SweepAnswer)
       → Says (sweep_call.Asked κs (n, (dirs, (codes, tt))))
       (sweep_call.Learnt κs (n, (dirs, (codes, tt))) r (n, (dirs', (new, tt))))
       (SweepResult n dirs.now codes.now r new.now)

@@ -6,6 +6,8 @@
 // Two calls are counted without all of their answer: crossing drops how the corners turned, as the call for a C host
 // does, and get answers what the table has alone.
 // A contract says that the number is made of the call's own answer; those that mix signed numbers or floats have none.
+#![tactic(auto)]
+
 ghost use Rattle.std.specs.Prelude.{◌≡◌, ◌≤◌, length};
 ghost use Rattle.std.specs.Int.Bits.{bit_xor};
 ghost use Rattle.words.specs.Family.{code_of, ParentAnswer, ChildAnswer};

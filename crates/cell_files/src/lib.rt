@@ -5,6 +5,8 @@
 //
 // No contract can say what is read or written. Proved is that it returns, given that each read and write does, that it
 // stays in its buffers, and that it uses `verdicts`, `judging` and `mender` by their contracts.
+#![tactic(auto)]
+
 mod mends;
 mod report;
 mod telling;

@@ -1,5 +1,7 @@
 // Checking another yard's list of cells (document 02, 2026-09): words, each the code of a triangle, in the order of the
 // tree.
+#![tactic(auto)]
+
 ghost use Rattle.std.specs.Prelude.{◌≡◌, true, ◌*◌};
 ghost use Rattle.cells.specs.Order.{valid};
 ghost use Rattle.cells.specs.Checking.{verdict, checked};

@@ -2,6 +2,8 @@
 // what the calls then answer (specs/), with the laws of it (proofs/); in code how four readings are counted and summed.
 // What is refused of the two lists is in the crate refusing_sums, how they are written in keeping, the calls are in
 // soundings.
+#![tactic(auto)]
+
 ghost use Rattle.std.specs.Prelude.{◌≡◌, ◌∷◌, [], ◌+◌, ◌<◌, ◌≤◌, length};
 ghost use Rattle.net.specs.Division.{sum};
 ghost use Rattle.coarse.specs.Sums.{present};

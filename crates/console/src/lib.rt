@@ -1,6 +1,8 @@
 // The console: one line of text to its answer. The first word names a call, the others are its arguments (texts). It
 // holds a table of soundings, which the caller keeps for it: `Held`, and four lists, of readings and of owners with
 // 81,921 places each, and of counts and of sums with 20,481.
+#![tactic(auto)]
+
 ghost use Rattle.std.specs.Prelude.{◌≤◌, length};
 
 use cellcalls::{checking, mends};

@@ -1,5 +1,7 @@
 // The calls of document 01 on corners and edges: what each refuses and answers (specs/), with the laws of it (proofs/).
 // In code checking a name, crossing, naming and the ring; those on twelve weights are in the crate twelves.
+#![tactic(auto)]
+
 ghost use Rattle.std.specs.Prelude.{◌≡◌};
 ghost use Rattle.net.specs.Refusals.{check_name};
 ghost use Rattle.corners.specs.Refusals.{refuse_numbered};

@@ -1,4 +1,6 @@
 // The calls of document 01 on directions: filing one, and listing all triangles that hold it.
+#![tactic(auto)]
+
 ghost use Rattle.std.specs.Prelude.{◌≡◌};
 ghost use Rattle.directions.specs.Refusals.{refuse_file};
 ghost use Rattle.directions.specs.Answers.{FileAnswer, ListAnswer};

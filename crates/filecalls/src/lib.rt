@@ -3,6 +3,8 @@
 //
 // No contract can say what is read or written. Proved is that both return, given that each read and write does, that
 // they stay in their buffers, and that they use tablecalls by its contracts.
+#![tactic(auto)]
+
 ghost use Rattle.std.specs.Prelude.{◌≤◌, length};
 
 use tablecalls::held::{Held, Reply, Task};

@@ -1,4 +1,6 @@
 // Directions: exact coordinates, drawn coordinates, and the determinants by which a triangle holds a direction.
+#![tactic(auto)]
+
 pub mod drawn;
 pub mod weighing;
 

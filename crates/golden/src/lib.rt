@@ -1,5 +1,7 @@
 // Numbers u + vφ, with φ the positive root of φ² = φ + 1: their sign, decided exactly, and the whole number t for
 // drawing. Each function asks that its numbers are small enough for 64 bits; the crates above prove it of theirs.
+#![tactic(auto)]
+
 ghost use Rattle.std.specs.Prelude.{◌≡◌, ◌+◌, ◌*◌, ◌/◌, ◌%◌, ◌<◌, ◌≤◌, ◌^◌, pos, neg_ℤ, nat_abs, ◌+ℤ◌, ◌*ℤ◌};
 ghost use Rattle.golden.specs.Decisions.{Decides};
 ghost use Rattle.golden.specs.Numbers.{Below, golden, ◌+φ◌, negφ};

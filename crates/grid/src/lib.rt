@@ -3,6 +3,8 @@
 //
 // Checking a code, parent and child are methods by value of `TriangleCode`: `check`, `parent`, `child`. (No calls of
 // document 01 are the methods of `Golden`, which ask that their numbers are small.)
+#![tactic(auto)]
+
 pub use corners::{CountAnswer, NameAnswer, StepAnswer};
 pub use filing::{Coordinates, Direction, Point, Ticks};
 pub use golden::Golden;

@@ -1,5 +1,7 @@
 // Document 02, 2026-11, the harbour profile: triangle codes of degree 11 or less in words of 32 bits. Reader and writer
 // between the forms, and crossing and filing on the small form.
+#![tactic(auto)]
+
 ghost use Rattle.std.specs.Prelude.{◌≡◌};
 ghost use Rattle.frame.specs.Refusals.{first_of};
 ghost use Rattle.words.specs.Forms.{degree_in};

@@ -1,6 +1,8 @@
 // The triangles that hold a direction: the quick way, by whole numbers near to its determinants, where it stands
 // clearly inside a triangle of degree 24; and the exact way, wherever it stands. The definitions, the laws and the near
 // numbers are in the crate seats.
+#![tactic(auto)]
+
 pub mod exact;
 
 ghost use Rattle.std.specs.Prelude.{◌≡◌, ◌+◌, ◌*◌, ◌<◌, ◌≤◌};

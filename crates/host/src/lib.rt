@@ -2,6 +2,8 @@
 // 01's calls are in the crates host_grid and host_filing, the sweep of 2026-04 in host_sweeps, those on a cell list
 // of 2026-09 and 2026-10 in host_cells, those on the small form of 2026-11 in host_harbour, the opposites of 2026-12 in
 // host_opposites. A library for C has the functions of one crate, and so they stand here once more, a line each.
+#![tactic(auto)]
+
 ghost use Rattle.std.specs.Prelude.{◌≡◌};
 ghost use Rattle.words.specs.Family.{code_of};
 ghost use Rattle.words.specs.Refusals.{check_code};

@@ -1,6 +1,8 @@
 // The two calls on a cell list of document 02, 2026-09 and 2026-10, for a C host: lent bytes in, a refusal number out.
 // A list has eight bytes a word, most significant first, and so has what is answered. The crate host, above it, exports
 // them.
+#![tactic(auto)]
+
 ghost use Rattle.std.specs.Prelude.{◌≡◌, [], ◌∷◌, ◌/◌, ◌%◌, ◌≤◌, length};
 ghost use Rattle.frame.specs.Answers.{over};
 ghost use Rattle.octets.specs.Bytes.{bytes, words_in};

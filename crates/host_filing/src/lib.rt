@@ -1,6 +1,8 @@
 // Filing and listing for a C host (document 02, 2026-01): plain numbers and lent bytes in, a refusal number out. The
 // answer goes to the bytes, eight for each number, most significant first. What the calls answer is defined in the
 // crate exports, below; checking and crossing are in host_grid; the crate host, above, exports all.
+#![tactic(auto)]
+
 ghost use Rattle.grid.specs.Writing.{towards};
 ghost use Rattle.exports.specs.Answers.{FileBytes, ListBytes};
 

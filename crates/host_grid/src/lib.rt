@@ -1,6 +1,8 @@
 // Checking and crossing for a C host (document 02, 2026-01): plain numbers and lent bytes in, a refusal number out. The
 // answer goes to the bytes, eight for each number, most significant first. What the calls answer is defined in the
 // crate exports, below; filing and listing are in host_filing; the crate host, above, exports all.
+#![tactic(auto)]
+
 ghost use Rattle.std.specs.Prelude.{◌≡◌};
 ghost use Rattle.words.specs.Family.{code_of};
 ghost use Rattle.words.specs.Refusals.{check_code};

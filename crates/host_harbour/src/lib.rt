@@ -1,6 +1,8 @@
 // The calls of document 02, 2026-11, on the small form of a code, for a C host: plain numbers and lent bytes in, a
 // refusal number out. A small code goes to four bytes, any other number to eight, most significant first. The crate
 // host, above it, exports them.
+#![tactic(auto)]
+
 ghost use Rattle.std.specs.Prelude.{◌≡◌};
 ghost use Rattle.words.specs.Family.{code_of};
 ghost use Rattle.grid.specs.Writing.{towards};

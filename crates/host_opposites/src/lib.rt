@@ -1,5 +1,7 @@
 // The calls of document 02, 2026-12, for a C host: plain numbers and lent bytes in, a refusal number out. The answer
 // goes to the bytes, eight for a number, most significant first. The crate host, above it, exports them.
+#![tactic(auto)]
+
 ghost use Rattle.std.specs.Prelude.{[], ◌∷◌};
 ghost use Rattle.octets.specs.Bytes.{bytes};
 ghost use Rattle.words.specs.Family.{code_of};

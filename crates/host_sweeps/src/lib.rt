@@ -1,5 +1,7 @@
 // The sweep of document 02, 2026-04, for a C host: plain numbers and lent bytes in, a refusal number out. Its answer
 // goes to the bytes, eight for each number, most significant first. The crate host, above it, exports it.
+#![tactic(auto)]
+
 ghost use Rattle.std.specs.Prelude.{◌≡◌, [], ◌∷◌, ◌+◌, ◌*◌, ◌/◌, ◌%◌, ◌≤◌, ◌<◌, length};
 ghost use Rattle.frame.specs.Answers.{over};
 ghost use Rattle.frame.specs.Lists.{first_place};

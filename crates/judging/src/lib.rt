@@ -1,6 +1,8 @@
 // Judging the words of another yard's list of cells (document 02, 2026-10): which are dropped, and why. The words are
 // gone through in the order of the tree, and of equal ones in the order of the list: a code that has the key of the one
 // before is a repeat, and one below the end of the last that was kept lies inside that one.
+#![tactic(auto)]
+
 ghost use Rattle.std.specs.Prelude.{◌≡◌, [], map, ◌%◌, ◌^◌, ◌≤◌, ◌<◌, length, take};
 ghost use Rattle.cells.specs.Means.Ranks.{rank};
 ghost use Rattle.mending.specs.Mending.{judged, sound};

@@ -1,5 +1,7 @@
 // How the lists of counts and of sums of a table of soundings are written (document 02, 2026-08). What they are to hold
 // is defined in the crate coarse, below, what is refused of them is in refusing_sums, and the calls are in soundings.
+#![tactic(auto)]
+
 ghost use Rattle.std.specs.Prelude.{◌≡◌, ◌+◌, ◌*◌, ◌<◌, ◌≤◌, length, set};
 ghost use Rattle.frame.specs.Lists.{below};
 ghost use Rattle.words.specs.Refusals.{IsCode};

@@ -1,5 +1,7 @@
 // The corners of the net: the weights of each, its least name, the ring round it, and the way back from its weights.
 // The definitions, the laws, and the step across an edge are in the crate net.
+#![tactic(auto)]
+
 pub mod back;
 pub mod rings;
 pub mod states;

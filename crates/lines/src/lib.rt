@@ -1,4 +1,6 @@
 // Text in slices of bytes: the words of a line, what a word reads as, and numbers, words and triangle codes written at a place.
+#![tactic(auto)]
+
 ghost use Rattle.std.specs.Prelude.{◌≡◌, true, false, [], ◌∷◌, ◌+◌, ◌-◌, ◌*◌, ◌/◌, ◌%◌, ◌^◌, ◌<◌, ◌≤◌, pos, neg_ℤ, nat_abs, length, drop};
 ghost use Rattle.words.specs.Words.{degree_of};
 ghost use Rattle.lines.specs.Splitting as splitting;

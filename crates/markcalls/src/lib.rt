@@ -1,5 +1,7 @@
 // The console's calls for marks (document 02, 2026-14): a mark as it is written, and that of an edge. The mark of a
 // triangle is asked of a table (tablecalls).
+#![tactic(auto)]
+
 ghost use Rattle.std.specs.Prelude.{◌+◌, ◌≤◌, length};
 
 use grid::TriangleCode;

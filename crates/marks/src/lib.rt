@@ -2,6 +2,8 @@
 // dot, or a segment between two points. `table_mark` answers that of a triangle of a table, `edge_mark` that of an edge
 // of a triangle; the points are those that points::drawn_of answers. Neither has a `requires`; each states its complete
 // answer, and the crate contracts holds it to that.
+#![tactic(auto)]
+
 ghost use Rattle.std.specs.Prelude.{◌≡◌};
 ghost use Rattle.words.specs.Refusals.{check_code};
 ghost use Rattle.marks.specs.Marks.{IsMark};

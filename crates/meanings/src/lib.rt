@@ -1,5 +1,7 @@
 // Which numbers of a table of soundings are readings and which are owners, what a number says, and what a deed leaves
 // in its place (document 02, 2026-03 and 2026-07). What these mean is said in the crate tables.
+#![tactic(auto)]
+
 ghost use Rattle.std.specs.Prelude.{◌≡◌};
 ghost use Rattle.tables.specs.Tables.{is_reading, is_bad, said, number};
 ghost use Rattle.tables.specs.Owners.{is_desk, is_other, owner_after, sounding_after};

@@ -1,5 +1,7 @@
 // Mending another yard's list of cells (document 02, 2026-10): what is dropped is judged first (crate judging), and
 // then four whole children give way to their parent (crate merging).
+#![tactic(auto)]
+
 ghost use Rattle.std.specs.Prelude.{◌≡◌, [], map, ◌≤◌, length, take};
 ghost use Rattle.frame.specs.Answers.{over};
 ghost use Rattle.cells.specs.Means.Ranks.{rank};

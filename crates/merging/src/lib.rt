@@ -3,6 +3,8 @@
 //
 // The list that is worked in has ranks (crate cells), in which the children of one triangle have equal distances, and a
 // triangle stands just before its first child.
+#![tactic(auto)]
+
 ghost use Rattle.std.specs.Prelude.{◌≡◌, map, ◌+◌, ◌^◌, ◌<◌, ◌≤◌, length, get_or, take, drop};
 ghost use Rattle.frame.specs.Answers.{over};
 ghost use Rattle.merging.specs.Means.Joining.{Small, word_at, in_ranks, starts_four, joined_at, joins_at};

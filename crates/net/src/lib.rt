@@ -1,6 +1,8 @@
 // The net: sides, division, weights, steps, names and rings (specs/), with the laws of them (proofs/); in code the
 // kinds of value that they speak of, the seams, and the step across an edge. What a corner's weights, name and ring are
 // is worked out in the crate knots.
+#![tactic(auto)]
+
 pub mod seams;
 pub mod states;
 pub mod steps;

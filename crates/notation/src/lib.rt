@@ -1,5 +1,7 @@
 // The codes of source document 000 (specs/), with the laws of them (proofs/); in code how their digits are read and
 // written, and the way from a domain to its base vertex and back.
+#![tactic(auto)]
+
 ghost use Rattle.std.specs.Prelude.{reverse, ◌≡◌, true, ◌+◌, ◌*◌, ◌^◌, ◌≤◌, ◌<◌, length, take};
 ghost use Rattle.frame.specs.Answers.{over};
 ghost use Rattle.words.specs.Words.{path};

@@ -1,5 +1,7 @@
 // Numbers as bytes, most significant first. (The toolchain has a library of the name `bytes`, for bytes that are no
 // numbers.)
+#![tactic(auto)]
+
 ghost use Rattle.std.specs.Prelude.{◌≡◌, ◌*◌, ◌≤◌, length, take};
 ghost use Rattle.frame.specs.Answers.{over};
 ghost use Rattle.octets.specs.Bytes.{bytes_of, bytes, number_of, numbers, signed};

@@ -1,4 +1,6 @@
 // Document 02, 2026-12: the opposite of a triangle and of a corner.
+#![tactic(auto)]
+
 ghost use Rattle.std.specs.Prelude.{◌≡◌};
 ghost use Rattle.words.specs.Refusals.{check_code};
 ghost use Rattle.net.specs.Sides.{IsSide, OneToThree};

@@ -1,4 +1,6 @@
 // The codes of a degree in rising order: how many there are, the place of one and of its parent, the one at a place.
+#![tactic(auto)]
+
 ghost use Rattle.std.specs.Prelude.{◌≡◌, ◌*◌, ◌^◌, ◌<◌, ◌≤◌};
 ghost use Rattle.words.specs.Words.{degree_of};
 ghost use Rattle.words.specs.Refusals.{check_code};

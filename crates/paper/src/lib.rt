@@ -1,5 +1,7 @@
 // Document 02, 2026-13: the codes of source document 000 from and to our words. A code of the paper is the list of its
 // digits, one a place.
+#![tactic(auto)]
+
 ghost use Rattle.std.specs.Prelude.{◌≡◌, ◌&&◌, ◌∷◌, reverse, ◌*◌, ◌^◌, ◌≤◌, ◌<◌};
 ghost use Rattle.words.specs.Family.{no_code};
 ghost use Rattle.net.specs.Sides.{IsSide, OneToThree};

@@ -1,4 +1,6 @@
 // The calls of document 01 for a corner's place: exact coordinates, t, drawn coordinates.
+#![tactic(auto)]
+
 mod answers;
 
 ghost use Rattle.points.specs.Answers.{PlaceAnswer, NamePlaceAnswer, TickAnswer, NameTickAnswer, DrawAnswer, NameDrawAnswer};

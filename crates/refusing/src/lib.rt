@@ -1,4 +1,6 @@
 // What the calls on a table of soundings refuse (document 02, 2026-03 and 2026-07): 1 to 4 and 20 to 27.
+#![tactic(auto)]
+
 ghost use Rattle.std.specs.Prelude.{◌≡◌, cond, ◌≤◌};
 ghost use Rattle.frame.specs.Refusals.{first_of};
 ghost use Rattle.words.specs.Refusals.{IsCode};

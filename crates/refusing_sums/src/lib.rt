@@ -1,6 +1,8 @@
 // What is refused of the lists of counts and of sums of a table of soundings (document 02, 2026-08): 28 and 29. What
 // they are to hold is defined in the crate coarse, below; how they are written is in keeping, the calls are in
 // soundings.
+#![tactic(auto)]
+
 ghost use Rattle.std.specs.Prelude.{◌≡◌, ◌≤◌, length};
 ghost use Rattle.frame.specs.Refusals.{first_of};
 ghost use Rattle.words.specs.Refusals.{IsCode};

@@ -1,5 +1,7 @@
 // What the lists of a table of soundings hold that they may not (document 02, 2026-03 and 2026-07), found by going
 // through them. Which numbers these are is in the crate meanings, below; what is refused then is in refusing.
+#![tactic(auto)]
+
 ghost use Rattle.std.specs.Prelude.{◌≡◌};
 ghost use Rattle.tables.specs.Tables.{any_bad, least_bad};
 ghost use Rattle.tables.specs.Owners.{any_other};

@@ -1,6 +1,8 @@
 // Where a direction stands: how it is found (specs/), with the laws of it (proofs/); in code the kinds of value that
 // they speak of, whole numbers near to its determinants, and their division. The triangles that hold a direction are
 // found in the crate holders.
+#![tactic(auto)]
+
 pub mod dividing;
 pub mod placing;
 

@@ -1,5 +1,7 @@
 // Where a direction stands in a side, as shares of its three determinants in their sum; and from there the digits of
 // the triangles that hold it.
+#![tactic(auto)]
+
 pub mod descent;
 pub mod walks;
 pub mod weaving;

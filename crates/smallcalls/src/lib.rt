@@ -1,5 +1,7 @@
 // The console's calls on the small form of a code (document 02, 2026-11), each by its row of the table of calls; 0
 // where the arguments cannot be read.
+#![tactic(auto)]
+
 ghost use Rattle.std.specs.Prelude.{◌+◌, ◌≤◌, length};
 
 use grid::TriangleCode;

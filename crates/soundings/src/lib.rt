@@ -4,6 +4,8 @@
 // `take`, `set`, `clear` and `give`, which are lent all four lists and told the desk that makes the call; and
 // `work_out`, which works counts and sums out afresh. None has a `requires`; each states its complete answer, and the
 // crate contracts holds it to that.
+#![tactic(auto)]
+
 ghost use Rattle.std.specs.Prelude.{◌≡◌, ◌<◌, length};
 ghost use Rattle.words.specs.Refusals.{check_code};
 ghost use Rattle.words.specs.Counting.{place_of};

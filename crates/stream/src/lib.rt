@@ -4,6 +4,8 @@
 //
 // No contract can say what is read or written. Proved is that it returns, given that each read and write does, that it
 // stays in its buffers, and that it uses the sweep by its contract.
+#![tactic(auto)]
+
 mod messages;
 mod reading;
 mod results;

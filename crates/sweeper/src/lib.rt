@@ -1,6 +1,8 @@
 // The call that files a sweep (document 02, 2026-04): a lent list of directions, three numbers each, into a lent list
 // of codes. Later parts are handed on as parts that start in the middle of both lists. What it answers is defined in
 // the crate sweeps, below.
+#![tactic(auto)]
+
 ghost use Rattle.std.specs.Prelude.{◌≡◌, ◌+◌, ◌*◌, ◌%◌, ◌≤◌, ◌<◌, length};
 ghost use Rattle.frame.specs.Lists.{first_place};
 ghost use Rattle.directions.specs.Answers.{FileAnswer};

@@ -1,6 +1,8 @@
 // Filing a sweep (document 02, 2026-04): what is answered of a lent list of directions, three numbers each, and a lent
 // list of codes (specs/), with the laws of it (proofs/); in code what two parts come to, what one number tells of a
 // direction, and the first place that has 0. The call is in the crate sweeper.
+#![tactic(auto)]
+
 ghost use Rattle.std.specs.Prelude.{◌≡◌, [], ◌∷◌, ◌+◌, ◌^◌, ◌<◌};
 ghost use Rattle.frame.specs.Lists.{first_place};
 ghost use Rattle.net.specs.Steps.{non_zeros};

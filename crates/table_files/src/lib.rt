@@ -1,6 +1,8 @@
 // The bytes of a table of soundings in a file: its degree, the readings and the owners in the order of their places,
 // eight bytes for each, most significant first (docs/CONSOLE.md, `save` and `open`). The degree of a file is
 // `octets::get8` of its bytes. What the numbers of a table are is said in the crate tables.
+#![tactic(auto)]
+
 ghost use Rattle.std.specs.Prelude.{◌≡◌, map, ◌+◌, ◌*◌, ◌≤◌, length};
 ghost use Rattle.frame.specs.Answers.{over};
 ghost use Rattle.octets.specs.Bytes.{bytes, read_each};

@@ -1,5 +1,7 @@
 // The console's calls on the table of soundings that it holds: what is held, what is asked of it, what is shown, and
 // its file.
+#![tactic(auto)]
+
 pub mod asking;
 pub mod desks;
 pub mod files;

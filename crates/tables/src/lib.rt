@@ -2,6 +2,7 @@
 // answer (specs/), with the laws of it (proofs/); in code the kinds of value that the calls speak of, and nothing else.
 // Which numbers are readings and which are owners is in the crate meanings, what is refused in refusing, the calls
 // themselves are in soundings.
+#![tactic(auto)]
 
 // What a table has for a triangle: no reading, or one in millimetres.
 #[derive(Clone, Copy)]

@@ -1,5 +1,7 @@
 // Texts that the programs share. Tables, a row to a line: the forms of the console's calls, the reasons of refusals,
 // and those of a cell list. And codes as they are shown.
+#![tactic(auto)]
+
 ghost use Rattle.std.specs.Prelude.{◌+◌, ◌≤◌, length};
 
 // How each call is written. A call is known by the number of its row, from 0.

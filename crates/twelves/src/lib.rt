@@ -1,5 +1,7 @@
 // The calls of document 01 on twelve weights: the weights of a corner, of a code with a corner number or of a name, and
 // the way back from them. What they refuse and answer is defined in the crate corners, below.
+#![tactic(auto)]
+
 ghost use Rattle.corners.specs.Answers.{WeightsAnswer, NameWeightsAnswer, BackAnswer};
 
 use corners::NameAnswer;

@@ -1,5 +1,7 @@
 // The line that the program of document 02, 2026-09, writes for a file of cells: the file taken in part by part, in a
 // buffer that does not grow with it, and the line.
+#![tactic(auto)]
+
 ghost use Rattle.std.specs.Prelude.{◌≡◌, ◌+◌, ◌*◌, ◌%◌, ◌≤◌, length};
 ghost use Rattle.octets.specs.Bytes.{numbers};
 ghost use Rattle.lines.specs.Writing.{Wrote};

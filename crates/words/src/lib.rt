@@ -1,4 +1,6 @@
 // The 64-bit words: their fields, the two kinds, checking, parent and child.
+#![tactic(auto)]
+
 ghost use Rattle.std.specs.Prelude.{◌≡◌, ◌+◌, ◌-◌, ◌*◌, ◌^◌, ◌<◌, ◌≤◌, take};
 ghost use Rattle.frame.specs.Refusals.{refusal};
 ghost use Rattle.words.specs.Words.{bits, a_of, degree_of, digits, beyond, side_of, path, word_of};

@@ -107,7 +107,7 @@ returns-then-w-power-eq0 c =
 pub overflow_sub-n-2 : goal.overflow_sub-n-2
 overflow_sub-n-2 c = omega (arith, low c.before.before)
 
-beyond_is : (c : After-bits_of) → 
+beyond_is : (c : After-bits_of) →
     let w = c.args.w in
     c.bits_of.result ≡ beyond_in small w (degree_in small w)
 beyond_is c =

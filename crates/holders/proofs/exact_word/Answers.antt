@@ -54,11 +54,10 @@ descend-path-requires c =
     (c.requires.0, omega arith, f.0, f.1, f.2, g.0, g.1, g.2, pow_pos (2 * (24 - c.args.degree)))
 
 pub side_at-requires : goal.side_at-requires
-side_at-requires c =
-    (
-      octant_below c.args.d c.requires.2 c.stand_of-t.result c.stand_of-t.ensures,
-      c.stand_of-t.ensures.kind_small,
-    )
+side_at-requires c = (
+  octant_below c.args.d c.requires.2 c.stand_of-t.result c.stand_of-t.ensures,
+  c.stand_of-t.ensures.kind_small,
+)
 
 -- the path that the floors and gaps come to
 abbrev PathOf : (n : ℕ) → Stand → ℕ

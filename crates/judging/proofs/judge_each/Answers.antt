@@ -40,7 +40,7 @@ bounds-places-i c = c.loop-i-test.true
 
 -- the place is one of the keys
 in-keys : (c : After-shared_slice_known-in-loop-i-1)
-    → 
+    →
     at c.args.places.now c.loop-i.i < length c.args.keys.now
 in-keys c =
     (c.requires.0.there c.loop-i.i c.loop-i-test.true).0

@@ -50,7 +50,7 @@ bounds-why-i c = (inside c.before.before).why
 
 -- the key that was found is that of the word
 found : (c : After-key_of-k)
-    → 
+    →
     c.key_of-k.result ≡ get_or (map key c.args.words.now) c.loop-i.i 0
 found c =
     let ws = c.args.words.now in

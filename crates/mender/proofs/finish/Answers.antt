@@ -61,13 +61,12 @@ module _ (p : After-put_dropped-dropped) where
       omega (arith, e, p.requires.3)
 
 pub merge_all-z-requires : goal.merge_all-z-requires
-merge_all-z-requires c =
-    (
-      c.requires.4,
-      small_kept (words c.before.before.before.before.before.before.before.before) (why c.before.before.before.before.before.before.before.before) (kept c.before.before.before.before.before.before.before.before) c.requires.5 c.requires.6,
-      omega (arith, room c.before.before.before.before.before.before.before.before, changed_long c.before.before.before.before.before.before.before.before),
-      omega (arith, room c.before.before.before.before.before.before.before.before, reasons_long c.before.before.before.before.before.before.before.before),
-    )
+merge_all-z-requires c = (
+  c.requires.4,
+  small_kept (words c.before.before.before.before.before.before.before.before) (why c.before.before.before.before.before.before.before.before) (kept c.before.before.before.before.before.before.before.before) c.requires.5 c.requires.6,
+  omega (arith, room c.before.before.before.before.before.before.before.before, changed_long c.before.before.before.before.before.before.before.before),
+  omega (arith, room c.before.before.before.before.before.before.before.before, reasons_long c.before.before.before.before.before.before.before.before),
+)
 
 -- what is known after the merges
 module _ (m : After-merge_all-z) where
@@ -95,12 +94,11 @@ module _ (m : After-merge_all-z) where
       ∙ length-map (mended list) rank
 
 pub put_words-requires : goal.put_words-requires
-put_words-requires c =
-    (
-      few c.before.before.before.before.before.before.before.before,
-      omega (arith, count_is c.before.before.before.before.before.before.before.before, (fits (list c.before.before.before.before.before.before.before.before)).0, c.requires.1),
-      subst Small (sym (left c.before.before.before.before.before.before.before.before)) (mended_small (list c.before.before.before.before.before.before.before.before)),
-    )
+put_words-requires c = (
+  few c.before.before.before.before.before.before.before.before,
+  omega (arith, count_is c.before.before.before.before.before.before.before.before, (fits (list c.before.before.before.before.before.before.before.before)).0, c.requires.1),
+  subst Small (sym (left c.before.before.before.before.before.before.before.before)) (mended_small (list c.before.before.before.before.before.before.before.before)),
+)
 
 pub returns : goal.returns
 returns c =

@@ -53,7 +53,7 @@ four-requires c =
 -- ---- four are one
 
 is-four : (c : Then-four)
-    → 
+    →
     Four c.args.d c.loop-i.invariant.0 c.requires.1
 is-four c =
     a_four c.args.d c.loop-i.invariant.0 c.requires.1 c.loop-i-test.true
@@ -61,7 +61,7 @@ is-four c =
 
 -- room for them in both lists
 fits : (c : Then-four)
-    → 
+    →
     let js = joins_at c.args.d (take c.args.count c.args.ranks.now) in
     (c.args.changes + length (map word_at js) ≤ length c.args.changed.now)
     × (c.args.changes + length (fives js) ≤ length c.args.reasons.now)

@@ -42,16 +42,15 @@ returns-then-is_base c =
     }
 
 pub loop-s-preserved : goal.loop-s-preserved
-loop-s-preserved c =
-    (
-      omega arith,
-      omega arith,
-      below_more _ _ c.loop-s.invariant.2 (λ h o.
-          elim c.if-p-total.branch [
-            then-p-total+else-is_base w ↦ base_tested c.loop-s.s c.point_on-p.ensures w.is_base.ensures w.if-is_base.false |
-            else-p-total w ↦ absurd ((at_side c.before.before.before.before).less w.if-p-total.false o)
-          ]),
-    )
+loop-s-preserved c = (
+  omega arith,
+  omega arith,
+  below_more _ _ c.loop-s.invariant.2 (λ h o.
+      elim c.if-p-total.branch [
+        | then-p-total+else-is_base w ↦ base_tested c.loop-s.s c.point_on-p.ensures w.is_base.ensures w.if-is_base.false
+        | else-p-total w ↦ absurd ((at_side c.before.before.before.before).less w.if-p-total.false o)
+      ]),
+)
 
 pub returns : goal.returns
 returns c = record {

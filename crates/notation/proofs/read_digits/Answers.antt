@@ -19,7 +19,7 @@ returns-then-d-gt3 c =
     read_no c.loop-i.v c.args.list.now c.loop-i.i (omega arith) c.if-d-gt3.true ∙ c.loop-i.invariant.2
 
 -- the path with one digit more
-room : (c : Else-d-gt3) → 
+room : (c : Else-d-gt3) →
     let d = get_or c.args.list.now c.loop-i.i 0 in
     (4 * c.loop-i.v + d < 2 ^ (2 * (c.loop-i.i + 1))) × (4 * c.loop-i.v + d < 2 ^ 48)
 room c =
@@ -33,12 +33,11 @@ pub overflow_add-v : goal.overflow_add-v
 overflow_add-v c = omega (arith, (room c.before).1)
 
 pub loop-i-preserved : goal.loop-i-preserved
-loop-i-preserved c =
-    (
-      omega arith,
-      (room c.before).0,
-      read_next c.loop-i.v c.args.list.now c.loop-i.i (omega arith) c.if-d-gt3.false ∙ c.loop-i.invariant.2,
-    )
+loop-i-preserved c = (
+  omega arith,
+  (room c.before).0,
+  read_next c.loop-i.v c.args.list.now c.loop-i.i (omega arith) c.if-d-gt3.false ∙ c.loop-i.invariant.2,
+)
 
 pub returns : goal.returns
 returns c =

@@ -63,8 +63,7 @@ overflow_add-a-in-Path c = omega (arith, side_low c.before.before.before.before)
 
 pub word_of-requires : goal.word_of-requires
 word_of-requires c =
-    let xs = list c.before.before.before.before in
-    (
+    let xs = list c.before.before.before.before in (
       omega (arith, side_low c.before.before.before.before),
       omega (arith, c.if-m-gt-DOMAIN_PLACES.false),
       path_small (rest 3 xs) (sym c.in-Path.is ∙ c.read_digits.ensures) (rest_long 3 xs),

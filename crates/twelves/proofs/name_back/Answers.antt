@@ -77,13 +77,12 @@ added : (c : Else-not-adds_to) → eqb (sum (take 12 (ws c.before.before.before)
 added c = sym (adds c.before) ∙ c.if-not-adds_to.false
 
 pub side_of-s-requires : goal.side_of-s-requires
-side_of-s-requires c =
-    (
-      long c.before.before.before.before,
-      rw c.power-total.ensures (omega (arith, small c.before.before.before.before)),
-      eqb-true _ _ (added c.before)
-          ∙ sym c.power-total.ensures,
-    )
+side_of-s-requires c = (
+  long c.before.before.before.before,
+  rw c.power-total.ensures (omega (arith, small c.before.before.before.before)),
+  eqb-true _ _ (added c.before)
+      ∙ sym c.power-total.ensures,
+)
 
 pub returns-then-s-eq24 : goal.returns-then-s-eq24
 returns-then-s-eq24 c =
@@ -102,12 +101,11 @@ pub point_on-requires : goal.point_on-requires
 point_on-requires c = (long c.before.before.before.before.before.before, (found c.before).0)
 
 pub corner_at-c-requires : goal.corner_at-c-requires
-corner_at-c-requires c =
-    (
-      low c.before.before.before.before.before.before.before,
-      back_total (n c.before.before.before.before.before.before.before) (ws c.before.before.before.before.before.before.before) _ _ (long c.before.before.before.before.before.before.before) (added c.before.before.before.before) (found c.before.before).0
-          (found c.before.before).1 c.point_on.ensures,
-    )
+corner_at-c-requires c = (
+  low c.before.before.before.before.before.before.before,
+  back_total (n c.before.before.before.before.before.before.before) (ws c.before.before.before.before.before.before.before) _ _ (long c.before.before.before.before.before.before.before) (added c.before.before.before.before) (found c.before.before).0
+      (found c.before.before).1 c.point_on.ensures,
+)
 
 pub word_of-requires : goal.word_of-requires
 word_of-requires c =

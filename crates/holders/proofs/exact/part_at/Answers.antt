@@ -30,11 +30,10 @@ pub many-requires-2 : goal.many-requires-2
 many-requires-2 c = (omega (arith, c.requires.0), s-small c.before)
 
 pub minus-over-requires : goal.minus-over-requires
-minus-over-requires c =
-    (
-      wide 16777216 c.args.x _ (omega arith) (x_small c.before.before) c.many.ensures,
-      wide c.args.g c.args.s _ c.requires.0 (s-small c.before.before) c.many-2.ensures,
-    )
+minus-over-requires c = (
+  wide 16777216 c.args.x _ (omega arith) (x_small c.before.before) c.many.ensures,
+  wide c.args.g c.args.s _ c.requires.0 (s-small c.before.before) c.many-2.ensures,
+)
 
 over_is :
     (c : After-minus-over)

@@ -14,12 +14,11 @@ After-corner_vertex-c = lts.After-corner_vertex3 tie.the-claims reads.Pre reads.
 small : (c : After-corner_vertex-c)
     → (c.corner_vertex-a.result < 12) × (c.corner_vertex-b.result < 12)
     × (c.corner_vertex-c.result < 12)
-small c =
-    (
-      vertex_12 c.args.s 1 c.requires.1 (omega arith) c.corner_vertex-a.ensures,
-      vertex_12 c.args.s 2 c.requires.1 (omega arith) c.corner_vertex-b.ensures,
-      vertex_12 c.args.s 3 c.requires.1 (omega arith) c.corner_vertex-c.ensures,
-    )
+small c = (
+  vertex_12 c.args.s 1 c.requires.1 (omega arith) c.corner_vertex-a.ensures,
+  vertex_12 c.args.s 2 c.requires.1 (omega arith) c.corner_vertex-b.ensures,
+  vertex_12 c.args.s 3 c.requires.1 (omega arith) c.corner_vertex-c.ensures,
+)
 
 pub offset_bounds-weights-a : goal.offset_bounds-weights-a
 offset_bounds-weights-a c = omega (arith, (small c.before).0)

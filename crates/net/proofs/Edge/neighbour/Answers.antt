@@ -33,7 +33,7 @@ overflow_mul-result c = omega (
 )
 
 -- the span_of, where the last digit stands
-spans : (c : After-span_of-x) → 
+spans : (c : After-span_of-x) →
     c.span_of-x.result ≡ span_of c.args.self.code.0 (2 ^ (54 - 2 * degree_of c.args.self.code.0))
     c.args.self.number
 spans c = c.span_of-x.ensures

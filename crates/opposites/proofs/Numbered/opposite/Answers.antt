@@ -27,12 +27,11 @@ pub opposite_side-requires : goal.opposite_side-requires
 opposite_side-requires c = a_side c
 
 pub renumbered-r-requires : goal.renumbered-r-requires
-renumbered-r-requires c =
-    (
-      numbered_fields c.args.self.code c.requires.0 c.args.self.number c.requires.1,
-      omega arith,
-      rw c.opposite_side.ensures (opposite_side_lem _ (a_side c.before)).1,
-    )
+renumbered-r-requires c = (
+  numbered_fields c.args.self.code c.requires.0 c.args.self.number c.requires.1,
+  omega arith,
+  rw c.opposite_side.ensures (opposite_side_lem _ (a_side c.before)).1,
+)
 
 pub returns : goal.returns
 returns c =

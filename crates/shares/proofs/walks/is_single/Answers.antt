@@ -18,9 +18,8 @@ pub runs_straight-requires-3 : goal.runs_straight-requires-3
 runs_straight-requires-3 c = tt
 
 pub returns : goal.returns
-returns c t =
-    (
-      c.runs_straight.ensures c.if-not-runs_straight.false,
-      c.runs_straight-2.ensures c.if-not-runs_straight-2.false,
-      c.runs_straight-3.ensures t,
-    )
+returns c t = (
+  c.runs_straight.ensures c.if-not-runs_straight.false,
+  c.runs_straight-2.ensures c.if-not-runs_straight-2.false,
+  c.runs_straight-3.ensures t,
+)

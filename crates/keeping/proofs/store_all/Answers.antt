@@ -1,0 +1,47 @@
+-- The loop writes place by place (frame's Below). Assumes nothing.
+use mathlib.Core.Path.{refl, ◌∙◌, ap}
+use mathlib.Core.List.{List}
+use Prim.Native.Nat.{ℕ}
+use native.Mathlib.Omega.{arith}
+use native.Mathlib.Numerals.{add-one}
+use lib.ListN.{length, set, length-set}
+use Rattle.frame.specs.Lists.{below}
+use Rattle.frame.proofs.Below.{below_next, below_all}
+use Rattle.keeping.proofs.store_all.Goals as goal
+use Rattle.keeping.proofs.store_all.Invariants.{counted, summed}
+
+pub loop-p-init : goal.loop-p-init
+unfolding below
+loop-p-init c = (omega arith, refl, refl, refl, refl)
+
+pub store-requires : goal.store-requires
+store-requires c = (omega arith, omega arith, omega arith)
+
+pub loop-p-preserved : goal.loop-p-preserved
+loop-p-preserved c =
+    let l = c.loop-p in
+    let a = c.args in
+    let list = a.list.now in
+    let e = c.store.ensures in (
+      omega arith,
+      simp add-one (e.0 ∙ ap (λ (x : List ℕ). set x l.p (counted list l.p)) l.invariant.1
+          ∙ below_next (counted list) a.counts.now l.p (omega arith) refl),
+      ap length e.0 ∙ length-set l.counts l.p (counted list l.p) ∙ l.invariant.2,
+      simp add-one (e.1 ∙ ap (λ (x : List ℕ). set x l.p (summed list l.p)) l.invariant.3
+          ∙ below_next (summed list) a.sums.now l.p (omega arith) refl),
+      ap length e.1 ∙ length-set l.sums l.p (summed list l.p) ∙ l.invariant.4,
+    )
+
+pub shape_of-counts : goal.shape_of-counts
+shape_of-counts c = c.loop-p.invariant.2
+
+pub shape_of-sums : goal.shape_of-sums
+shape_of-sums c = c.loop-p.invariant.4
+
+pub returns : goal.returns
+returns c =
+    let l = c.loop-p in
+    let a = c.args in (
+      l.invariant.1 ∙ below_all (counted a.list.now) a.counts.now l.p (omega arith) l.invariant.0,
+      l.invariant.3 ∙ below_all (summed a.list.now) a.sums.now l.p (omega arith) (omega arith),
+    )

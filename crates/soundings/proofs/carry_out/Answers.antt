@@ -1,0 +1,66 @@
+-- Checked, then one place of each list written (coarse's Refused, tables' Answering). Assumes nothing.
+use mathlib.Core.Path.{sym, ◌∙◌, ap}
+use native.Mathlib.Omega.{arith}
+use Prim.Native.Nat.{◌≤◌}
+use lib.ListN.{length}
+use Rattle.tables.specs.Owners.{Shared, shared}
+use Rattle.tables.proofs.Numbers.{desk_most}
+use Rattle.tables.proofs.Holding.{after_long}
+use Rattle.tables.proofs.Answering.{checked, lent_refused, lent_written}
+use Rattle.coarse.specs.Sums.{coarse, chart, coarse_after, chart_after}
+use Rattle.coarse.proofs.Refused.{Kept, kept_known}
+use Rattle.soundings.proofs.carry_out.Goals as goal
+use Rattle.soundings.proofs.carry_out.Lts as lts
+use Rattle.soundings.proofs.carry_out.Reads as reads
+use Rattle.soundings.proofs.carry_out.Tie as tie
+
+abbrev Else-checked-ne0 : Type 0
+Else-checked-ne0 = lts.Else1 tie.the-claims reads.Pre reads.Post
+
+known : (c : Else-checked-ne0)
+    → (let a = c.args in
+    Kept a.deed a.desk a.degree a.t
+    (chart (shared a.list.now a.owners.now) (coarse a.counts.now a.sums.now)))
+known c =
+    let a = c.args in
+    let list = a.list.now in
+    kept_known a.deed a.desk a.degree a.t
+    (chart (shared list a.owners.now) (coarse a.counts.now a.sums.now))
+    (sym (checked list _ _ c.refuse_kept-checked.ensures) ∙ c.if-checked-ne0.false)
+
+pub returns-then-checked-ne0 : goal.returns-then-checked-ne0
+returns-then-checked-ne0 c =
+    let a = c.args in
+    let old = chart (shared a.list.now a.owners.now) (coarse a.counts.now a.sums.now) in
+    lent_refused a.list.now _ (chart_after a.deed a.desk a.degree a.t old) old _
+    c.refuse_kept-checked.ensures c.if-checked-ne0.true
+
+pub overflow_cast-desk : goal.overflow_cast-desk
+overflow_cast-desk c =
+    let d = c.args.desk in
+    let l : d ≤ 2 = desk_most d (known c).owned.desk in
+    omega (arith, l)
+
+pub write-requires : goal.write-requires
+write-requires c =
+    let o = (known c.before.before).owned in (o.passed.code.passes, o.passed.in_list, o.in_owners)
+
+pub keep-requires : goal.keep-requires
+keep-requires c =
+    let g = known c.before.before.before.before.before.before.before.before.before in
+    let a = c.args in
+    let long =
+    ap (λ (s : Shared). length s.readings) c.write.ensures
+    ∙ after_long a.deed a.desk a.t (shared a.list.now a.owners.now) in
+    let p = g.owned.passed in
+    (p.degree, p.code, long ∙ p.long, g.lists.counts_long, g.lists.sums_long)
+
+pub returns : goal.returns
+returns c =
+    let a = c.args in
+    let sums = coarse a.counts.now a.sums.now in
+    let old = chart (shared a.list.now a.owners.now) sums in
+    let s = c.write.ensures in
+    let then = c.keep.ensures ∙ ap (λ (x : Shared). coarse_after a.degree a.t x.readings sums) s in
+    lent_written a.list.now _ (chart_after a.deed a.desk a.degree a.t old) old _
+    c.refuse_kept-checked.ensures c.if-checked-ne0.false (λ i. chart (s i) (then i))

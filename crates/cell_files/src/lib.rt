@@ -13,6 +13,9 @@ mod telling;
 
 ghost use Rattle.std.specs.Prelude.{◌≤◌, length};
 
+use std::io::Read;
+use std::rt::Env;
+
 // What reading comes to: so much is held, or a read failed.
 #[derive(Clone, Copy)]
 enum Taken {
@@ -21,18 +24,16 @@ enum Taken {
 }
 
 // Reads standard input to its end, of whatever length.
-fn read_all(chunk: &mut [u8], head: &mut [u8]) -> Taken
+fn read_all(input: &mut impl Read, chunk: &mut [u8], head: &mut [u8]) -> Taken
     requires { 32768 ≤ length head.old }
 {
     let mut size = 0;
     // No input lasts for so many.
     let mut turns: u64 = 18446744073709551615;
     while 0 < turns {
-        let read = libc::read(0, chunk);
-        if read < 0 {
+        let Ok(got) = input.read(chunk) else {
             return Taken::Unread;
-        }
-        let got = io::count(read, chunk);
+        };
         if got == 0 {
             return Taken::Held(size);
         }
@@ -54,57 +55,58 @@ fn put_lines(head: &[u8], size: usize, verbose: bool, out: &mut [u8]) -> usize
     end
 }
 
-// Writes the first n bytes to a descriptor, and says whether all were taken.
-fn write_first(descriptor: i32, bytes: &[u8], n: usize) -> bool
+// Writes the first n bytes, and says whether all were taken.
+fn write_first(to: &impl Print, bytes: &[u8], n: usize) -> bool
     requires { n ≤ length bytes.now }
 {
-    io::write_all(descriptor, &bytes[0..n])
+    to.write_all(&bytes[0..n]).is_ok()
 }
 
-// Writes the lines of what is held to a descriptor, and says whether all were taken.
-fn write_lines(descriptor: i32, head: &[u8], size: usize, verbose: bool) -> bool
+// Writes the lines of what is held, and says whether all were taken.
+fn write_lines(to: &impl Print, head: &[u8], size: usize, verbose: bool) -> bool
     requires { 32768 ≤ length head.now }
 {
-    let mut out = io::buffer();
+    let mut out = [0u8; 4096];
     let n = put_lines(head, size, verbose, &mut out);
-    write_first(descriptor, &out, n)
+    write_first(to, &out, n)
 }
 
 // Whether argument i is this word.
-fn is_asked(i: usize, word: &[u8]) -> bool {
-    let mut given = io::buffer();
-    let n = os::arg(i, &mut given);
+fn is_asked(rt: &impl Env, i: usize, word: &[u8]) -> bool {
+    let mut given = [0u8; 4096];
+    let n = rt.arg(i, &mut given).unwrap_or(0);
     check::same(&given[..n], word)
 }
 
 // Checks the list that is held, or says that its lines were lost.
-fn check_held(head: &[u8], size: usize)
+fn check_held(rt: &(impl Print + Env), err: &impl Print, head: &[u8], size: usize)
     requires { 32768 ≤ length head.now }
 {
-    if !write_lines(1, head, size, is_asked(1, b"-v")) {
-        io::write_all(2, b"cells: the line could not be written\n");
+    if !write_lines(rt, head, size, is_asked(rt, 1, b"-v")) {
+        let _ = err.write_all(b"cells: the line could not be written\n");
     }
 }
 
 // Checks or mends the list that is held, as the arguments ask for.
-fn answer(head: &[u8], size: usize)
+fn answer(rt: &(impl Print + Env), err: &impl Print, head: &[u8], size: usize)
     requires { 32768 ≤ length head.now }
 {
-    if is_asked(1, b"mend") {
-        mends::mend_held(head, size, !is_asked(2, b"-n"));
+    if is_asked(rt, 1, b"mend") {
+        mends::mend_held(rt, err, head, size, !is_asked(rt, 2, b"-n"));
     } else {
-        check_held(head, size);
+        check_held(rt, err, head, size);
     }
 }
 
-// The program.
-pub fn answer_input() {
-    let mut chunk = io::large_buffer();
+// The program. Its messages and its report go to `err`.
+pub fn answer_input(rt: &(impl Input + Print + Env), err: &impl Print) {
+    let mut chunk = [0u8; 65536];
     let mut head = [0u8; 32768];
-    match read_all(&mut chunk, &mut head) {
-        Taken::Held(size) => answer(&head, size),
+    let taken = read_all(&mut rt.reader(), &mut chunk, &mut head);
+    match taken {
+        Taken::Held(size) => answer(rt, err, &head, size),
         Taken::Unread => {
-            io::write_all(2, b"cells: the list could not be read\n");
+            let _ = err.write_all(b"cells: the list could not be read\n");
         }
     }
 }

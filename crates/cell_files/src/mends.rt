@@ -4,26 +4,26 @@ ghost use Rattle.std.specs.Prelude.{◌*◌, ◌≤◌, length};
 use crate::{report, write_first, write_lines};
 
 // Writes the first words of a list, eight bytes each, and says whether all were taken.
-fn write_list(list: &[u64], count: usize) -> bool
+fn write_list(rt: &impl Print, list: &[u64], count: usize) -> bool
     requires { (count ≤ length list.now) × (count ≤ 4096) }
 {
     let mut bytes = [0u8; 32768];
     octets::write_words(list, count, &mut bytes);
-    write_first(1, &bytes, 8 * count)
+    write_first(rt, &bytes, 8 * count)
 }
 
 // The same where it is asked for.
-fn deliver(list: &[u64], count: usize, listed: bool) -> bool
+fn deliver(rt: &impl Print, list: &[u64], count: usize, listed: bool) -> bool
     requires { (count ≤ length list.now) × (count ≤ 4096) }
 {
     if listed {
-        return write_list(list, count);
+        return write_list(rt, list, count);
     }
     true
 }
 
 // Mends a list, writes the mended one where it is asked for, and reports.
-fn mend_words(words: &[u64], listed: bool)
+fn mend_words(rt: &impl Print, err: &impl Print, words: &[u64], listed: bool)
     requires { length words.now ≤ 4096 }
 {
     let mut why = [0u64; 4096];
@@ -43,8 +43,9 @@ fn mend_words(words: &[u64], listed: bool)
     );
     let count = z.count;
     let changes = z.changes;
-    if deliver(&list, count, listed) {
+    if deliver(rt, &list, count, listed) {
         report::tell_all(
+            err,
             words,
             &why,
             &changed[..changes],
@@ -52,28 +53,28 @@ fn mend_words(words: &[u64], listed: bool)
             count as u64,
         );
     } else {
-        io::write_all(2, b"cells: the list could not be written\n");
+        let _ = err.write_all(b"cells: the list could not be written\n");
     }
 }
 
 // The same of the first words of the bytes.
-fn mend_bytes(head: &[u8], count: usize, listed: bool)
+fn mend_bytes(rt: &impl Print, err: &impl Print, head: &[u8], count: usize, listed: bool)
     requires { (8 * count ≤ length head.now) × (count ≤ 4096) }
 {
     let mut words = [0u64; 4096];
     octets::read_words(head, count, &mut words);
-    mend_words(&words[..count], listed);
+    mend_words(rt, err, &words[..count], listed);
 }
 
 // Mends the list that is held. One that cannot be mended gets the line that it has where it is checked.
-pub fn mend_held(head: &[u8], size: usize, listed: bool)
+pub fn mend_held(rt: &impl Print, err: &impl Print, head: &[u8], size: usize, listed: bool)
     requires { 32768 ≤ length head.now }
 {
     if size % 8 == 0 {
         if size / 8 <= 4096 {
-            mend_bytes(head, size / 8, listed);
+            mend_bytes(rt, err, head, size / 8, listed);
             return;
         }
     }
-    write_lines(2, head, size, false);
+    write_lines(err, head, size, false);
 }

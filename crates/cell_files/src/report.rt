@@ -130,64 +130,77 @@ fn put_closing(taken: u64, left: u64, reasons: &[u64], out: &mut [u8], at: usize
 // ---- the report
 
 // Writes the lines so far, where there may be no room for one more. How many bytes of them are still to be written.
-fn make_room(out: &[u8], filled: usize) -> usize
+fn make_room(err: &impl Print, out: &[u8], filled: usize) -> usize
     requires { (filled ≤ length out.now) × (65536 ≤ length out.now) }
     ensures { result ≤ 65000 }
 {
     if filled <= 65000 {
         return filled;
     }
-    write_first(2, out, filled);
+    write_first(err, out, filled);
     0
 }
 
 // The word at a place, where it is dropped.
-fn tell_word(place: u64, w: u64, reason: u64, out: &mut [u8], filled: usize) -> usize
+fn tell_word(
+    err: &impl Print,
+    place: u64,
+    w: u64,
+    reason: u64,
+    out: &mut [u8],
+    filled: usize,
+) -> usize
     requires { (filled ≤ 65536) × (65536 ≤ length out.old) }
     ensures { result ≤ 65536 }
 {
     if reason == 0 {
         return filled;
     }
-    let at = make_room(out, filled);
+    let at = make_room(err, out, filled);
     put_dropped(place, w, reason, out, at)
 }
 
 // The words that are dropped, in the order of the list.
-fn tell_dropped(words: &[u64], why: &[u64], out: &mut [u8]) -> usize
+fn tell_dropped(err: &impl Print, words: &[u64], why: &[u64], out: &mut [u8]) -> usize
     requires { (length words.now ≤ length why.now) × (65536 ≤ length out.old) }
     ensures { result ≤ 65536 }
 {
     let mut filled = 0;
     let mut i = 0;
     while i < words.len() {
-        filled = tell_word(i as u64, words[i], why[i], out, filled);
+        filled = tell_word(err, i as u64, words[i], why[i], out, filled);
         i += 1;
     }
     filled
 }
 
 // A row of the change list, where it is a merge.
-fn tell_merge(w: u64, reason: u64, out: &mut [u8], filled: usize) -> usize
+fn tell_merge(err: &impl Print, w: u64, reason: u64, out: &mut [u8], filled: usize) -> usize
     requires { (filled ≤ 65536) × (65536 ≤ length out.old) }
     ensures { result ≤ 65536 }
 {
     if reason != 5 {
         return filled;
     }
-    let at = make_room(out, filled);
+    let at = make_room(err, out, filled);
     put_merge(w, out, at)
 }
 
 // The merges of the change list, in its order.
-fn tell_merges(changed: &[u64], reasons: &[u64], out: &mut [u8], before: usize) -> usize
+fn tell_merges(
+    err: &impl Print,
+    changed: &[u64],
+    reasons: &[u64],
+    out: &mut [u8],
+    before: usize,
+) -> usize
     requires { (length reasons.now ≤ length changed.now) × (before ≤ 65536) × (65536 ≤ length out.old) }
     ensures { result ≤ 65536 }
 {
     let mut filled = before;
     let mut i = 0;
     while i < reasons.len() {
-        filled = tell_merge(changed[i], reasons[i], out, filled);
+        filled = tell_merge(err, changed[i], reasons[i], out, filled);
         i += 1;
     }
     filled
@@ -195,13 +208,20 @@ fn tell_merges(changed: &[u64], reasons: &[u64], out: &mut [u8], before: usize) 
 
 // Reports how a list was mended: `why` has the reason of each of its words, 0 for one that is kept, `changed` and
 // `reasons` are the change list, and `left` words are in the mended one.
-pub fn tell_all(words: &[u64], why: &[u64], changed: &[u64], reasons: &[u64], left: u64)
+pub fn tell_all(
+    err: &impl Print,
+    words: &[u64],
+    why: &[u64],
+    changed: &[u64],
+    reasons: &[u64],
+    left: u64,
+)
     requires { (length words.now ≤ length why.now) × (length reasons.now ≤ length changed.now) }
 {
-    let mut out = io::large_buffer();
-    let dropped = tell_dropped(words, why, &mut out);
-    let merges = tell_merges(changed, reasons, &mut out, dropped);
-    let at = make_room(&out, merges);
+    let mut out = [0u8; 65536];
+    let dropped = tell_dropped(err, words, why, &mut out);
+    let merges = tell_merges(err, changed, reasons, &mut out, dropped);
+    let at = make_room(err, &out, merges);
     let end = put_closing(words.len() as u64, left, reasons, &mut out, at);
-    write_first(2, &out, end);
+    write_first(err, &out, end);
 }

@@ -2,6 +2,6 @@
 // docs/CELLS.md: 1001 and 10012.
 #![tactic(auto)]
 
-fn main() {
-    cell_files::answer_input();
+fn main(rt: HostRuntime) {
+    cell_files::answer_input(&rt, &rt.stderr());
 }

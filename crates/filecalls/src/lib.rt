@@ -7,6 +7,10 @@
 
 ghost use Rattle.std.specs.Prelude.{◌≤◌, length};
 
+use std::fs::{File, OpenFile};
+use std::io::{Read, Write};
+use std::rt::Files;
+use std::{fs, str};
 use tablecalls::held::{Held, Reply, Task};
 use tablecalls::{files, held};
 
@@ -26,57 +30,67 @@ fn put_new_name(name: &[u8], out: &mut [u8]) -> usize
     lines::put_bytes(b".new", out, end)
 }
 
-// Writes all bytes to a descriptor, and to the disk, and closes it; whether all went well.
-fn write_closing(descriptor: i32, bytes: &[u8]) -> bool {
-    let written = io::write_all(descriptor, bytes);
-    let kept = libc::fsync(descriptor);
-    let closed = libc::close(descriptor);
-    written & (kept == 0) & (closed == 0)
+// Writes all bytes to a file, and to the disk, and closes it; whether all was written.
+fn write_closing(mut file: impl Write + OpenFile + Drop, bytes: &[u8]) -> bool {
+    let written = file.write_all(bytes).is_ok();
+    let kept = file.sync_all().is_ok();
+    written & kept
 }
 
 // Writes a file under a name that no file has, and then gives it another name, whose file it replaces; whether all went
 // well. Else nothing of it is left.
-fn write_as(new: &[u8], bytes: &[u8], name: &[u8]) -> bool {
-    let descriptor = os::create(new);
-    if descriptor < 0 {
+fn write_as(rt: &impl Files, new: &str, bytes: &[u8], name: &str) -> bool {
+    let Ok(file) = File::options().write(true).create_new(true).open(rt, new) else {
         return false;
-    }
-    if write_closing(descriptor, bytes) {
-        if os::rename(new, name) == 0 {
+    };
+    if write_closing(file, bytes) {
+        if fs::rename(rt, new, name).is_ok() {
             return true;
         }
     }
-    os::unlink(new);
+    let _ = fs::remove_file(rt, new);
     false
 }
 
-// The same, the first name being the first m bytes of a buffer, and what is written the first n of another.
-fn write_first(space: &[u8], m: usize, bytes: &[u8], n: usize, name: &[u8]) -> bool
-    requires { (m ≤ length space.now) × (n ≤ length bytes.now) }
-{
-    write_as(&space[..m], &bytes[..n], name)
+// The same by the bytes of the names. (The standard library takes a name that is UTF-8, and no other.)
+fn write_named(rt: &impl Files, new: &[u8], bytes: &[u8], name: &[u8]) -> bool {
+    let Ok(new) = str::from_utf8(new) else {
+        return false;
+    };
+    let Ok(name) = str::from_utf8(name) else {
+        return false;
+    };
+    write_as(rt, new, bytes, name)
 }
 
-fn write_by(name: &[u8], bytes: &[u8], n: usize, space: &mut [u8]) -> bool
+// The same, the first name being the first m bytes of a buffer, and what is written the first n of another.
+fn write_first(rt: &impl Files, space: &[u8], m: usize, bytes: &[u8], n: usize, name: &[u8]) -> bool
+    requires { (m ≤ length space.now) × (n ≤ length bytes.now) }
+{
+    write_named(rt, &space[..m], &bytes[..n], name)
+}
+
+fn write_by(rt: &impl Files, name: &[u8], bytes: &[u8], n: usize, space: &mut [u8]) -> bool
     requires { (length name.now ≤ 1000) × (n ≤ length bytes.now) × (4096 ≤ length space.old) }
 {
     let m = put_new_name(name, space);
-    write_first(space, m, bytes, n, name)
+    write_first(rt, space, m, bytes, n, name)
 }
 
 // Writes the first n bytes as a file, by way of one with .new after its name; until all is written, what stood there
 // stays. (A line has at most 1000 bytes, and so has a name.)
-fn write_file(name: &[u8], bytes: &[u8], n: usize) -> bool
+fn write_file(rt: &impl Files, name: &[u8], bytes: &[u8], n: usize) -> bool
     requires { n ≤ length bytes.now }
 {
     if 1000 < name.len() {
         return false;
     }
-    let mut space = io::buffer();
-    write_by(name, bytes, n, &mut space)
+    let mut space = [0u8; 4096];
+    write_by(rt, name, bytes, n, &mut space)
 }
 
 fn save_by(
+    rt: &impl Files,
     name: &[u8],
     held: Held,
     list: &[i32],
@@ -88,21 +102,35 @@ fn save_by(
     ensures { result.size ≤ 16000 }
 {
     let n = files::put_file(held, list, owners, bytes);
-    let written = write_file(name, bytes, n);
+    let written = write_file(rt, name, bytes, n);
     files::saved(written, held, out)
 }
 
 // A table that is not refused.
-fn save_sound(name: &[u8], held: Held, list: &[i32], owners: &[u8], out: &mut [u8]) -> Reply
+fn save_sound(
+    rt: &impl Files,
+    name: &[u8],
+    held: Held,
+    list: &[i32],
+    owners: &[u8],
+    out: &mut [u8],
+) -> Reply
     requires { 16384 ≤ length out.old }
     ensures { result.size ≤ 16000 }
 {
     let mut bytes = room();
-    save_by(name, held, list, owners, &mut bytes, out)
+    save_by(rt, name, held, list, owners, &mut bytes, out)
 }
 
 // The table that is held to the file of this name.
-pub fn save(name: &[u8], held: Held, list: &[i32], owners: &[u8], out: &mut [u8]) -> Reply
+pub fn save(
+    rt: &impl Files,
+    name: &[u8],
+    held: Held,
+    list: &[i32],
+    owners: &[u8],
+    out: &mut [u8],
+) -> Reply
     requires { 16384 ≤ length out.old }
     ensures { result.size ≤ 16000 }
 {
@@ -110,7 +138,7 @@ pub fn save(name: &[u8], held: Held, list: &[i32], owners: &[u8], out: &mut [u8]
     if 0 < refused {
         return held::whole(refused, held);
     }
-    save_sound(name, held, list, owners, out)
+    save_sound(rt, name, held, list, owners, out)
 }
 
 // ---- open
@@ -122,25 +150,30 @@ enum Taken {
     Unread,
 }
 
-// Whether the last read from a descriptor failed: then the next one does too.
-fn has_failed(descriptor: i32) -> bool {
-    let mut space = io::buffer();
-    libc::read(descriptor, &mut space) < 0
+// Reads until the file ends or the buffer is full.
+fn read_full(file: &mut impl Read, bytes: &mut [u8]) -> Taken {
+    let mut n = 0;
+    while n < bytes.len() {
+        let Ok(got) = file.read(&mut bytes[n..]) else {
+            return Taken::Unread;
+        };
+        if got == 0 {
+            return Taken::Read(n);
+        }
+        n += got;
+    }
+    Taken::Read(n)
 }
 
 // Reads a file until it ends or the buffer is full.
-fn read_file(name: &[u8], bytes: &mut [u8]) -> Taken {
-    let descriptor = os::open_read(name);
-    if descriptor < 0 {
+fn read_file(rt: &impl Files, name: &[u8], bytes: &mut [u8]) -> Taken {
+    let Ok(name) = str::from_utf8(name) else {
         return Taken::Unread;
-    }
-    let n = io::read_full(descriptor, bytes);
-    let failed = has_failed(descriptor);
-    libc::close(descriptor);
-    if failed {
+    };
+    let Ok(mut file) = File::open(rt, name) else {
         return Taken::Unread;
-    }
-    Taken::Read(n)
+    };
+    read_full(&mut file, bytes)
 }
 
 // The table of the first n bytes, which are no more than there are.
@@ -164,6 +197,7 @@ fn open_first(
 }
 
 fn open_by(
+    rt: &impl Files,
     name: &[u8],
     held: Held,
     list: &mut [i32],
@@ -176,7 +210,7 @@ fn open_by(
     requires { 16384 ≤ length out.old }
     ensures { result.size ≤ 16000 }
 {
-    let taken = read_file(name, bytes);
+    let taken = read_file(rt, name, bytes);
     match taken {
         Taken::Unread => files::no_file(held, out),
         Taken::Read(n) => open_first(bytes, n, held, list, owners, counts, sums, out),
@@ -185,6 +219,7 @@ fn open_by(
 
 // The table of the file of this name.
 pub fn open(
+    rt: &impl Files,
     name: &[u8],
     held: Held,
     list: &mut [i32],
@@ -197,13 +232,14 @@ pub fn open(
     ensures { result.size ≤ 16000 }
 {
     let mut bytes = room();
-    open_by(name, held, list, owners, counts, sums, &mut bytes, out)
+    open_by(rt, name, held, list, owners, counts, sums, &mut bytes, out)
 }
 
 // ---- by a line
 
 // The places of a name are in its line, and none that is wrong is handed out; but nothing of this crate is promised that.
 fn save_named(
+    rt: &impl Files,
     line: &[u8],
     from: usize,
     end: usize,
@@ -221,10 +257,11 @@ fn save_named(
     if line.len() < end {
         return files::saved(false, held, out);
     }
-    save(&line[from..end], held, list, owners, out)
+    save(rt, &line[from..end], held, list, owners, out)
 }
 
 fn open_named(
+    rt: &impl Files,
     line: &[u8],
     from: usize,
     end: usize,
@@ -244,11 +281,12 @@ fn open_named(
     if line.len() < end {
         return files::no_file(held, out);
     }
-    open(&line[from..end], held, list, owners, counts, sums, out)
+    open(rt, &line[from..end], held, list, owners, counts, sums, out)
 }
 
 // What is left to do of a line, with its answer; or the answer that it has already.
 pub fn finish(
+    rt: &impl Files,
     line: &[u8],
     r: Reply,
     list: &mut [i32],
@@ -264,9 +302,9 @@ pub fn finish(
     let held = r.held;
     match task {
         Task::Nothing => r,
-        Task::Save(from, end) => save_named(line, from, end, held, list, owners, out),
+        Task::Save(from, end) => save_named(rt, line, from, end, held, list, owners, out),
         Task::Open(from, end) => {
-            open_named(line, from, end, held, list, owners, counts, sums, out)
+            open_named(rt, line, from, end, held, list, owners, counts, sums, out)
         }
     }
 }

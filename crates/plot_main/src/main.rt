@@ -2,6 +2,6 @@
 // of the help stands (tests/examples.py).
 #![tactic(auto)]
 
-fn main() {
-    talk::answer_lines();
+fn main(rt: HostRuntime) {
+    talk::answer_lines(&rt, &rt.stderr());
 }

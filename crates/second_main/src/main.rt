@@ -2,6 +2,6 @@
 // (tests/second.py) and nothing stores. Where they have not been made it is run on no line, and writes none.
 #![tactic(auto)]
 
-fn main() {
-    talk::answer_lines();
+fn main(rt: HostRuntime) {
+    talk::answer_lines(&rt, &rt.stderr());
 }

@@ -15,6 +15,10 @@ ghost use Rattle.std.specs.Prelude.{◌≡◌, ◌+◌, ◌*◌, ◌≤◌, leng
 
 use lines::Number;
 use reading::Collected;
+use std::fs;
+use std::fs::File;
+use std::io::{Read, Write};
+use std::rt::{Env, Files};
 use tally::Tally;
 
 // What is asked for.
@@ -47,15 +51,15 @@ enum Outcome {
 
 // ---- filing
 
-// Writes the first n bytes to a descriptor, and says whether all were taken.
-fn write_first(descriptor: i32, bytes: &[u8], n: usize) -> bool
+// Writes the first n bytes, and says whether all were taken.
+fn write_first(to: &impl Print, bytes: &[u8], n: usize) -> bool
     requires { n ≤ length bytes.now }
 {
-    io::write_all(descriptor, &bytes[0..n])
+    to.write_all(&bytes[0..n]).is_ok()
 }
 
 // Writes the lines so far where there may be no room for those of 1024 directions, and of one that is not read.
-fn make_room(out: &[u8], p: Progress) -> Progress
+fn make_room(rt: &impl Print, out: &[u8], p: Progress) -> Progress
     requires { (p.filled ≤ length out.now) × (65536 ≤ length out.now) }
     ensures { result.filled ≤ 35000 }
 {
@@ -63,7 +67,7 @@ fn make_room(out: &[u8], p: Progress) -> Progress
     if filled <= 35000 {
         return p;
     }
-    let written = write_first(1, out, filled);
+    let written = write_first(rt, out, filled);
     let tally = p.tally;
     Progress {
         length: p.length,
@@ -112,6 +116,7 @@ fn pass_over(out: &mut [u8], p: Progress) -> Progress
 
 // Files what was collected, and passes over the direction after it where that was not read.
 fn file_collected(
+    rt: &impl Print,
     degree: u64,
     c: Collected,
     dirs: &[i32],
@@ -123,7 +128,7 @@ fn file_collected(
         × (65536 ≤ length out.old) }
     ensures { result.filled ≤ 65536 }
 {
-    let mut room = make_room(out, p);
+    let mut room = make_room(rt, out, p);
     room.length = c.length;
     let filed = file_part(degree, dirs, c.count, codes, out, room);
     if c.unread {
@@ -134,6 +139,7 @@ fn file_collected(
 
 // The bytes that one read brought, to the first write that fails.
 fn take(
+    rt: &impl Print,
     order: Order,
     chunk: &[u8],
     line: &mut [u8],
@@ -150,7 +156,7 @@ fn take(
     let mut i = 0;
     while i < chunk.len() {
         let c = reading::collect(chunk, i, line, p.length, dirs, order.packed);
-        p = file_collected(order.degree, c, dirs, codes, out, p);
+        p = file_collected(rt, order.degree, c, dirs, codes, out, p);
         if p.lost {
             return p;
         }
@@ -160,14 +166,14 @@ fn take(
 }
 
 // Writes the lines so far. The direction goes on, unless they are lost.
-fn flush(out: &[u8], p: Progress) -> Outcome
+fn flush(rt: &impl Print, out: &[u8], p: Progress) -> Outcome
     requires { p.filled ≤ length out.now }
 {
     let filled = p.filled;
     if p.lost {
         return Outcome::Lost;
     }
-    if write_first(1, out, filled) {
+    if write_first(rt, out, filled) {
         let tally = p.tally;
         return Outcome::More(p.length, tally);
     }
@@ -190,6 +196,7 @@ fn begun(n: usize, tally: Tally) -> Progress
 
 // Files what one read brought, after n bytes of a direction.
 fn file_chunk(
+    rt: &impl Print,
     order: Order,
     chunk: &[u8],
     line: &mut [u8],
@@ -202,12 +209,13 @@ fn file_chunk(
     requires { (1000 ≤ length line.old) × (3072 ≤ length dirs.old) × (1024 ≤ length codes.old)
         × (65536 ≤ length out.old) }
 {
-    let p = take(order, chunk, line, dirs, codes, out, begun(n, tally));
-    flush(out, p)
+    let p = take(rt, order, chunk, line, dirs, codes, out, begun(n, tally));
+    flush(rt, out, p)
 }
 
 // The input has ended after n bytes of a direction: a last line without its end, or a direction cut short.
 fn finish(
+    rt: &impl Print,
     order: Order,
     line: &[u8],
     dirs: &mut [i32],
@@ -219,8 +227,8 @@ fn finish(
     requires { (3072 ≤ length dirs.old) × (1024 ≤ length codes.old) × (65536 ≤ length out.old) }
 {
     let c = reading::last(line, n, dirs, order.packed);
-    let p = file_collected(order.degree, c, dirs, codes, out, begun(0, tally));
-    let last = flush(out, p);
+    let p = file_collected(rt, order.degree, c, dirs, codes, out, begun(0, tally));
+    let last = flush(rt, out, p);
     let Outcome::More(_, filed) = last else {
         return last;
     };
@@ -229,6 +237,8 @@ fn finish(
 
 // One read, and the lines of the directions that end in it, after n bytes of a direction.
 fn turn(
+    rt: &impl Print,
+    input: &mut impl Read,
     order: Order,
     chunk: &mut [u8],
     line: &mut [u8],
@@ -241,19 +251,20 @@ fn turn(
     requires { (1000 ≤ length line.old) × (3072 ≤ length dirs.old) × (1024 ≤ length codes.old)
         × (65536 ≤ length out.old) }
 {
-    let read = libc::read(0, chunk);
-    if read < 0 {
+    let Ok(got) = input.read(chunk) else {
         return Outcome::Unread;
-    }
-    let got = io::count(read, chunk);
+    };
     if got == 0 {
-        return finish(order, line, dirs, codes, out, n, tally);
+        return finish(rt, order, line, dirs, codes, out, n, tally);
     }
-    file_chunk(order, &chunk[..got], line, dirs, codes, out, n, tally)
+    file_chunk(rt, order, &chunk[..got], line, dirs, codes, out, n, tally)
 }
 
 // Turn after turn, to the end of the input or to what failed.
 fn all_turns(
+    rt: &impl Print,
+    err: &impl Print,
+    input: &mut impl Read,
     order: Order,
     chunk: &mut [u8],
     line: &mut [u8],
@@ -269,13 +280,13 @@ fn all_turns(
     // No input lasts for so many.
     let mut turns: u64 = 18446744073709551615;
     while 0 < turns {
-        let t = turn(order, chunk, line, dirs, codes, out, n, tally);
+        let t = turn(rt, input, order, chunk, line, dirs, codes, out, n, tally);
         let Outcome::More(so_far, filed) = t else {
             return t;
         };
         n = so_far;
         tally = filed;
-        messages::tell_progress(order.watch, tally);
+        messages::tell_progress(err, order.watch, tally);
         turns -= 1;
     }
     Outcome::Unread
@@ -284,65 +295,96 @@ fn all_turns(
 // ---- the program
 
 // Says on standard error what the sweep came to, or what failed. The status.
-fn tell(watch: bool, t: Outcome) -> u8
+fn tell(err: &impl Print, watch: bool, t: Outcome) -> u8
     ensures { result ≤ 3 }
 {
-    messages::clear(watch);
+    messages::clear(err, watch);
     match t {
-        Outcome::End(tally) => messages::close(tally),
-        Outcome::Lost => messages::say(b"sweep: the codes could not be written\n", 3),
-        _ => messages::say(b"sweep: the directions could not be read\n", 3),
+        Outcome::End(tally) => messages::close(err, tally),
+        Outcome::Lost => messages::say(err, b"sweep: the codes could not be written\n", 3),
+        _ => messages::say(err, b"sweep: the directions could not be read\n", 3),
     }
 }
 
 // Files the directions of standard input. The status.
-fn file_input(order: Order) -> u8
+fn file_input(rt: &(impl Input + Print), err: &impl Print, order: Order) -> u8
     ensures { result ≤ 3 }
 {
-    let mut chunk = io::large_buffer();
-    let mut line = io::buffer();
+    let mut chunk = [0u8; 65536];
+    let mut line = [0u8; 4096];
     let mut dirs = [0i32; 3072];
     let mut codes = [0u64; 1024];
-    let mut out = io::large_buffer();
+    let mut out = [0u8; 65536];
     let last = all_turns(
-        order, &mut chunk, &mut line, &mut dirs, &mut codes, &mut out,
+        rt,
+        err,
+        &mut rt.reader(),
+        order,
+        &mut chunk,
+        &mut line,
+        &mut dirs,
+        &mut codes,
+        &mut out,
     );
-    tell(order.watch, last)
+    tell(err, order.watch, last)
 }
 
 // The degree of the first argument. None is longer than the buffer: the system takes none that is.
-fn degree_asked() -> Number {
+fn degree_asked(rt: &impl Env) -> Number {
     let mut word = [0u8; 131072];
-    let n = os::arg(1, &mut word);
+    let n = rt.arg(1, &mut word).unwrap_or(0);
     lines::read_number(&word[..n])
 }
 
 // Whether argument i is this word.
-fn is_asked(i: usize, word: &[u8]) -> bool {
-    let mut given = io::buffer();
-    let n = os::arg(i, &mut given);
+fn is_asked(rt: &impl Env, i: usize, word: &[u8]) -> bool {
+    let mut given = [0u8; 4096];
+    let n = rt.arg(i, &mut given).unwrap_or(0);
     check::same(&given[..n], word)
 }
 
 // Files the directions of standard input as the arguments ask for. The status.
-fn carry_out() -> u8
+fn carry_out(rt: &(impl Input + Print + Env), err: &impl Print) -> u8
     ensures { result ≤ 3 }
 {
-    let Number::Value(degree) = degree_asked() else {
-        return messages::say(b"sweep: write it as ./sweep [--packed] DEGREE\n", 2);
+    let Number::Value(degree) = degree_asked(rt) else {
+        return messages::say(err, b"sweep: write it as ./sweep [--packed] DEGREE\n", 2);
     };
     if 24 < degree {
-        return messages::refuse_degree();
+        return messages::refuse_degree(err);
     }
-    file_input(Order {
+    let order = Order {
         degree,
-        packed: is_asked(2, b"packed"),
-        watch: is_asked(3, b"watch"),
-    })
+        packed: is_asked(rt, 2, b"packed"),
+        watch: is_asked(rt, 3, b"watch"),
+    };
+    file_input(rt, err, order)
 }
 
-// The program.
-pub fn file_directions() {
-    let status = carry_out();
-    io::write_all(3, &[b'0' + status]);
+// Descriptor 3 by a name, since the standard library opens none by its number.
+const STATUS: &str = "/proc/self/fd/3";
+
+// Whether descriptor 3 is one to write to, which its name's permissions say.
+fn takes_status(rt: &impl Files) -> bool {
+    match fs::symlink_metadata(rt, STATUS) {
+        Ok(named) => !named.permissions().readonly(),
+        Err(_) => false,
+    }
+}
+
+// Writes the status after what stands there. (To open a pipe that nobody reads, to write alone, is to wait.)
+fn write_status(rt: &impl Files, status: u8)
+    requires { status ≤ 3 }
+{
+    if takes_status(rt) {
+        if let Ok(mut file) = File::options().read(true).append(true).open(rt, STATUS) {
+            let _ = file.write_all(&[b'0' + status]);
+        }
+    }
+}
+
+// The program. Its messages go to `err`.
+pub fn file_directions(rt: &(impl Input + Print + Env + Files), err: &impl Print) {
+    let status = carry_out(rt, err);
+    write_status(rt, status);
 }

@@ -6,18 +6,19 @@ use crate::write_first;
 use sweeps::SweepAnswer;
 
 // Says a text, which ends the sweep with a status.
-pub fn say(text: &[u8], status: u8) -> u8
+pub fn say(err: &impl Print, text: &[u8], status: u8) -> u8
     requires { status ≤ 3 }
     ensures { result ≤ 3 }
 {
-    io::write_all(2, text);
+    let _ = err.write_all(text);
     status
 }
 
-pub fn refuse_degree() -> u8
+pub fn refuse_degree(err: &impl Print) -> u8
     ensures { result ≤ 3 }
 {
     say(
+        err,
         b"sweep: refused 1: a degree, as field or argument, is above 24\n",
         1,
     )
@@ -26,9 +27,9 @@ pub fn refuse_degree() -> u8
 // ---- progress, on a terminal
 
 // Clears the line of the progress.
-pub fn clear(watch: bool) {
+pub fn clear(err: &impl Print, watch: bool) {
     if watch {
-        io::write_all(2, b"\r\x1b[K");
+        let _ = err.write_all(b"\r\x1b[K");
     }
 }
 
@@ -58,11 +59,11 @@ fn put_progress(t: Tally, out: &mut [u8]) -> usize
 }
 
 // Tells how far the sweep is.
-pub fn tell_progress(watch: bool, t: Tally) {
+pub fn tell_progress(err: &impl Print, watch: bool, t: Tally) {
     if watch {
-        let mut text = io::buffer();
+        let mut text = [0u8; 4096];
         let n = put_progress(t, &mut text);
-        write_first(2, &text, n);
+        write_first(err, &text, n);
     }
 }
 
@@ -143,11 +144,11 @@ fn status_of(t: Tally) -> u8
 }
 
 // Says what the sweep came to.
-pub fn close(t: Tally) -> u8
+pub fn close(err: &impl Print, t: Tally) -> u8
     ensures { result ≤ 3 }
 {
-    let mut text = io::buffer();
+    let mut text = [0u8; 4096];
     let n = put_closing(t, &mut text);
-    write_first(2, &text, n);
+    write_first(err, &text, n);
     status_of(t)
 }

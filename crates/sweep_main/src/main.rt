@@ -2,6 +2,6 @@
 // of docs/SWEEP.md.
 #![tactic(auto)]
 
-fn main() {
-    stream::file_directions();
+fn main(rt: HostRuntime) {
+    stream::file_directions(&rt, &rt.stderr());
 }

@@ -9,6 +9,8 @@
 ghost use Rattle.std.specs.Prelude.{◌≡◌, ◌+◌, ◌≤◌, length};
 
 use console::{Held, Reply};
+use std::io::Read;
+use std::rt::Files;
 
 // The line so far: `length` of its bytes, 1001 where it has more than 1000. The answers so far: `filled` bytes of their
 // buffer. Whether a write failed. The table.
@@ -31,14 +33,14 @@ enum Outcome {
 }
 
 // Writes the first n bytes, and says whether all were taken.
-fn write_first(bytes: &[u8], n: usize) -> bool
+fn write_first(to: &impl Print, bytes: &[u8], n: usize) -> bool
     requires { n ≤ length bytes.now }
 {
-    io::write_all(1, &bytes[..n])
+    to.write_all(&bytes[..n]).is_ok()
 }
 
 // Writes the answers so far where there may be no room for one more.
-fn make_room(answers: &[u8], p: Progress) -> Progress
+fn make_room(rt: &impl Print, answers: &[u8], p: Progress) -> Progress
     requires { (p.filled ≤ length answers.now) × (65536 ≤ length answers.now) }
     ensures { result.filled ≤ 49000 }
 {
@@ -46,7 +48,7 @@ fn make_room(answers: &[u8], p: Progress) -> Progress
     if filled <= 49000 {
         return p;
     }
-    let written = write_first(answers, filled);
+    let written = write_first(rt, answers, filled);
     let held = p.held;
     Progress {
         length: p.length,
@@ -58,6 +60,7 @@ fn make_room(answers: &[u8], p: Progress) -> Progress
 
 // The answer of a line of n bytes, or its first part.
 fn line_answer(
+    rt: &impl Files,
     line: &[u8],
     n: usize,
     held: Held,
@@ -77,11 +80,12 @@ fn line_answer(
         return console::nothing(held);
     }
     let r = console::answer(&line[..n], held, list, owners, counts, sums, out);
-    filecalls::finish(line, r, list, owners, counts, sums, out)
+    filecalls::finish(rt, line, r, list, owners, counts, sums, out)
 }
 
 // The other parts of an answer that has them, to the first write that fails.
 fn put_rest(
+    rt: &impl Print,
     list: &[i32],
     owners: &[u8],
     counts: &[u64],
@@ -96,7 +100,7 @@ fn put_rest(
     let mut p = before;
     let mut left = rest;
     while 0 < left {
-        let room = make_room(answers, p);
+        let room = make_room(rt, answers, p);
         if room.lost {
             return room;
         }
@@ -117,6 +121,7 @@ fn put_rest(
 
 // The answer of the line, whole or its first part and the others.
 fn put_answer(
+    rt: &(impl Print + Files),
     line: &[u8],
     list: &mut [i32],
     owners: &mut [u8],
@@ -131,6 +136,7 @@ fn put_answer(
     let at = p.filled;
     let before = p.held;
     let r = line_answer(
+        rt,
         line,
         p.length,
         before,
@@ -147,15 +153,15 @@ fn put_answer(
         lost: p.lost,
         held,
     };
-    put_rest(list, owners, counts, sums, answers, first, r.rest)
+    put_rest(rt, list, owners, counts, sums, answers, first, r.rest)
 }
 
 // The line end after an answer, and no byte yet of the next line.
-fn end_answer(answers: &mut [u8], p: Progress) -> Progress
+fn end_answer(rt: &impl Print, answers: &mut [u8], p: Progress) -> Progress
     requires { (p.filled ≤ 65536) × (65536 ≤ length answers.old) }
     ensures { result.filled ≤ 65536 }
 {
-    let room = make_room(answers, p);
+    let room = make_room(rt, answers, p);
     let at = room.filled;
     let held = room.held;
     answers[at] = b'\n';
@@ -169,6 +175,7 @@ fn end_answer(answers: &mut [u8], p: Progress) -> Progress
 
 // The line has ended: its answer.
 fn end_line(
+    rt: &(impl Print + Files),
     line: &[u8],
     list: &mut [i32],
     owners: &mut [u8],
@@ -180,9 +187,9 @@ fn end_line(
     requires { (p.filled ≤ 65536) × (65536 ≤ length answers.old) }
     ensures { result.filled ≤ 65536 }
 {
-    let room = make_room(answers, p);
-    let answered = put_answer(line, list, owners, counts, sums, answers, room);
-    end_answer(answers, answered)
+    let room = make_room(rt, answers, p);
+    let answered = put_answer(rt, line, list, owners, counts, sums, answers, room);
+    end_answer(rt, answers, answered)
 }
 
 // One byte more of a line of n; what is past the thousandth is not kept.
@@ -199,6 +206,7 @@ fn add_byte(b: u8, line: &mut [u8], n: usize) -> usize
 
 // One byte of the input.
 fn take_byte(
+    rt: &(impl Print + Files),
     b: u8,
     line: &mut [u8],
     list: &mut [i32],
@@ -212,7 +220,7 @@ fn take_byte(
     ensures { result.filled ≤ 65536 }
 {
     if b == b'\n' {
-        return end_line(line, list, owners, counts, sums, answers, p);
+        return end_line(rt, line, list, owners, counts, sums, answers, p);
     }
     let held = p.held;
     Progress {
@@ -225,6 +233,7 @@ fn take_byte(
 
 // The bytes that one read brought, to the first write that fails.
 fn take(
+    rt: &(impl Print + Files),
     chunk: &[u8],
     line: &mut [u8],
     list: &mut [i32],
@@ -240,7 +249,7 @@ fn take(
     let mut p = before;
     let mut i = 0;
     while i < chunk.len() {
-        p = take_byte(chunk[i], line, list, owners, counts, sums, answers, p);
+        p = take_byte(rt, chunk[i], line, list, owners, counts, sums, answers, p);
         if p.lost {
             return p;
         }
@@ -250,14 +259,14 @@ fn take(
 }
 
 // Writes the answers so far. The line goes on, unless they are lost.
-fn flush(answers: &[u8], p: Progress) -> Outcome
+fn flush(rt: &impl Print, answers: &[u8], p: Progress) -> Outcome
     requires { p.filled ≤ length answers.now }
 {
     let filled = p.filled;
     if p.lost {
         return Outcome::Lost;
     }
-    if write_first(answers, filled) {
+    if write_first(rt, answers, filled) {
         let held = p.held;
         return Outcome::Line(p.length, held);
     }
@@ -278,6 +287,7 @@ fn begun(n: usize, held: Held) -> Progress
 
 // The answers of the lines that end in what one read brought, after n bytes of a line.
 fn answer_chunk(
+    rt: &(impl Print + Files),
     chunk: &[u8],
     line: &mut [u8],
     list: &mut [i32],
@@ -291,6 +301,7 @@ fn answer_chunk(
     requires { (1000 ≤ length line.old) × (65536 ≤ length answers.old) }
 {
     let p = take(
+        rt,
         chunk,
         line,
         list,
@@ -300,11 +311,12 @@ fn answer_chunk(
         answers,
         begun(n, held),
     );
-    flush(answers, p)
+    flush(rt, answers, p)
 }
 
 // The input has ended after n bytes of a line: a last line without its end.
 fn finish(
+    rt: &(impl Print + Files),
     line: &[u8],
     list: &mut [i32],
     owners: &mut [u8],
@@ -319,8 +331,17 @@ fn finish(
     if n == 0 {
         return Outcome::End;
     }
-    let p = end_line(line, list, owners, counts, sums, answers, begun(n, held));
-    let last = flush(answers, p);
+    let p = end_line(
+        rt,
+        line,
+        list,
+        owners,
+        counts,
+        sums,
+        answers,
+        begun(n, held),
+    );
+    let last = flush(rt, answers, p);
     let Outcome::Line(_, _) = last else {
         return last;
     };
@@ -329,6 +350,8 @@ fn finish(
 
 // One read, and the answers of the lines that end in it, after n bytes of a line.
 fn turn(
+    rt: &(impl Print + Files),
+    input: &mut impl Read,
     chunk: &mut [u8],
     line: &mut [u8],
     list: &mut [i32],
@@ -341,15 +364,14 @@ fn turn(
 ) -> Outcome
     requires { (1000 ≤ length line.old) × (65536 ≤ length answers.old) }
 {
-    let read = libc::read(0, chunk);
-    if read < 0 {
+    let Ok(got) = input.read(chunk) else {
         return Outcome::Unread;
-    }
-    let got = io::count(read, chunk);
+    };
     if got == 0 {
-        return finish(line, list, owners, counts, sums, answers, n, held);
+        return finish(rt, line, list, owners, counts, sums, answers, n, held);
     }
     answer_chunk(
+        rt,
         &chunk[..got],
         line,
         list,
@@ -364,6 +386,8 @@ fn turn(
 
 // Turn after turn, to the end of the input or to what failed.
 fn all_turns(
+    rt: &(impl Print + Files),
+    input: &mut impl Read,
     chunk: &mut [u8],
     line: &mut [u8],
     list: &mut [i32],
@@ -379,7 +403,9 @@ fn all_turns(
     // No input lasts for so many.
     let mut turns: u64 = 18446744073709551615;
     while 0 < turns {
-        let t = turn(chunk, line, list, owners, counts, sums, answers, n, held);
+        let t = turn(
+            rt, input, chunk, line, list, owners, counts, sums, answers, n, held,
+        );
         let Outcome::Line(so_far, now_held) = t else {
             return t;
         };
@@ -391,28 +417,30 @@ fn all_turns(
 }
 
 // Says on standard error what failed.
-fn tell(t: Outcome) {
+fn tell(err: &impl Print, t: Outcome) {
     match t {
         Outcome::Unread => {
-            io::write_all(2, b"plot: the calls could not be read\n");
+            let _ = err.write_all(b"plot: the calls could not be read\n");
         }
         Outcome::Lost => {
-            io::write_all(2, b"plot: the answers could not be written\n");
+            let _ = err.write_all(b"plot: the answers could not be written\n");
         }
         _ => {}
     }
 }
 
-// Answers the lines of standard input.
-pub fn answer_lines() {
-    let mut chunk = io::large_buffer();
-    let mut line = io::buffer();
+// Answers the lines of standard input. What failed is said to `err`.
+pub fn answer_lines(rt: &(impl Input + Print + Files), err: &impl Print) {
+    let mut chunk = [0u8; 65536];
+    let mut line = [0u8; 4096];
     let mut list = [0i32; 81921];
     let mut owners = [0u8; 81921];
     let mut counts = [0u64; 20481];
     let mut sums = [0u64; 20481];
-    let mut answers = io::large_buffer();
+    let mut answers = [0u8; 65536];
     let last = all_turns(
+        rt,
+        &mut rt.reader(),
         &mut chunk,
         &mut line,
         &mut list,
@@ -421,5 +449,5 @@ pub fn answer_lines() {
         &mut sums,
         &mut answers,
     );
-    tell(last);
+    tell(err, last);
 }

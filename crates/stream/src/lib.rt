@@ -1,6 +1,6 @@
 // The program that ./sweep runs: files every direction of standard input at a degree, and writes a line for each to
 // standard output (docs/SWEEP.md). Its arguments are DEGREE, `text` or `packed`, and `watch` or `quiet`. How it ends is
-// told on standard error and, since a program has no exit status of its own, by one digit to descriptor 3: that status.
+// told on standard error and, to ./sweep, by one digit to descriptor 3: its status.
 //
 // No contract can say what is read or written. Proved is that it returns, given that each read and write does, that it
 // stays in its buffers, and that it uses the sweep by its contract.
@@ -372,13 +372,12 @@ fn takes_status(rt: &impl Files) -> bool {
     }
 }
 
-// Writes the status after what stands there. (To open a pipe that nobody reads, to write alone, is to wait.)
-fn write_status(rt: &impl Files, status: u8)
-    requires { status ≤ 3 }
-{
+// Writes the status after what stands there. (It is opened to be read too: to open a pipe that nobody reads for writing
+// alone is to wait.)
+fn write_status(rt: &impl Files, status: &[u8]) {
     if takes_status(rt) {
         if let Ok(mut file) = File::options().read(true).append(true).open(rt, STATUS) {
-            let _ = file.write_all(&[b'0' + status]);
+            let _ = file.write_all(status);
         }
     }
 }
@@ -386,5 +385,5 @@ fn write_status(rt: &impl Files, status: u8)
 // The program. Its messages go to `err`.
 pub fn file_directions(rt: &(impl Input + Print + Env + Files), err: &impl Print) {
     let status = carry_out(rt, err);
-    write_status(rt, status);
+    write_status(rt, &[b'0' + status]);
 }

@@ -1,12 +1,14 @@
 #!/usr/bin/env python3
-"""include/dogrzewin.h says in C what crates/host exports in Rattle. Nothing else holds the one to the other.
+"""include/dogrzewin.h says in C what crates/host_c exports in Rattle. Nothing else holds the one to the other, nor
+crates/host_c to crates/host, whose functions are held to the promises.
 
 Every line of the header is read by one of a few forms, and what fits none is an error. So is an exported function of
-crates/host/src/ that cannot be read. Held together are: the calls' names, their parameters with names, types and order,
-and the type of what is returned; the refusal numbers, each under the sentence that crate texts has for it: document
-01's, and of document 02's those that a call names; the order of refusals (frame/specs/Refusals.antt, with what
+crates/host_c/src/ that cannot be read. Held together are: the calls' names, their parameters with names, types and
+order, and the type of what is returned; the refusal numbers, each under the sentence that crate texts has for it:
+document 01's, and of document 02's those that a call names; the order of refusals (frame/specs/Refusals.antt, with what
 harbour/specs/Refusals.antt puts into it and host_cells/specs/Refusals.antt before it), in which each call names its
-own.
+own. Each exported function has the parameters, the result and the clauses of the one by its name in crates/host, whose
+names mean the same there, and only calls it.
 
     python3 tests/header.py                         a line for each thing that is wrong; status 1 if there is one
     python3 tests/header.py --seen CALLS ANSWERS    the refusals that each call names, and the bytes that it needs, are
@@ -22,7 +24,7 @@ import sys
 
 ROOT = pathlib.Path(__file__).resolve().parent.parent
 HEADER = ROOT / "include" / "dogrzewin.h"
-EXPORTS = ROOT / "crates" / "host" / "src"
+EXPORTS, LIBRARY = (ROOT / "crates" / crate / "src" for crate in ("host_c", "host"))
 REASONS = ROOT / "crates" / "texts" / "src" / "lib.rt"
 ORDER = ROOT / "crates" / "frame" / "specs" / "Refusals.antt"
 INTO = ROOT / "crates" / "harbour" / "specs" / "Refusals.antt"
@@ -55,27 +57,38 @@ def parameter_in_c(text):
         return [(NUMBERS[kind], name)]
     if re.fullmatch(r"\w+", name) and kind in SLICES:
         return [(SLICES[kind], name), ("size_t", f"{name}_length")]
-    raise Unreadable(f"crates/host: the parameter '{spaced(text)}'")
+    raise Unreadable(f"crates/host_c: the parameter '{spaced(text)}'")
 
 
 def exported(source):
     code = re.sub(r"//.*", "", source)
-    form = r'#\[no_mangle\]\s*pub extern "C" fn (\w+)\(([^()]*)\)\s*->\s*(\w+)\s+(?=requires|ensures|\{)'
+    form = r'#\[unsafe\(no_mangle\)\]\s*pub extern "C" fn (\w+)\(([^()]*)\)\s*->\s*(\w+)\s+(?=requires|ensures|\{)'
     functions = {}
     for name, parameters, result in re.findall(form, code):
         if result not in NUMBERS or name in functions:
-            raise Unreadable(f"crates/host: {name} returns {result}, or stands there twice")
+            raise Unreadable(f"crates/host_c: {name} returns {result}, or stands there twice")
         parts = [part for part in parameters.split(",") if part.strip()]
         functions[name] = NUMBERS[result], [c for part in parts for c in parameter_in_c(part)]
     for word in "no_mangle", "extern":
         if len(re.findall(rf"\b{word}\b", code)) != len(functions):
-            raise Unreadable(f"crates/host: not every '{word}' is that of a function that could be read")
+            raise Unreadable(f"crates/host_c: not every '{word}' is that of a function that could be read")
     return functions
 
 
-def exporting():
-    """All source of the crate that exports."""
-    return "\n".join(path.read_text() for path in sorted(EXPORTS.glob("**/*.rt")))
+def all_of(folder):
+    """All source of a crate."""
+    return "\n".join(path.read_text() for path in sorted(folder.glob("**/*.rt")))
+
+
+def functions_of(crate, source):
+    """Each function's head, parameters with their types, and body; and what the clauses' names stand for."""
+    code = re.sub(r"//.*", "", source)
+    form = r'fn (\w+)\(([^()]*)\)\s*(->\s*\w+\s+(?:requires|ensures)[^\n]*\n(?:    [^\n]*\n)*)\{\n(.*?)\n\}'
+    found = {name: (spaced(parameters).rstrip(","), spaced(clauses), spaced(body))
+             for name, parameters, clauses, body in re.findall(form, code, re.S)}
+    if len(found) != len(re.findall(r"\bfn\b", code)):
+        raise Unreadable(f"crates/{crate}: not every function could be read, or one stands there twice")
+    return found, sorted(re.findall(r"^ghost use (.*)", code, re.M))
 
 
 # ---- the header
@@ -173,11 +186,11 @@ def reasons(given):
 
 
 def order():
-    first = re.search(r"firstOf \(((?:\d+ ∷ )+)order\)", FIRST.read_text())[1]
+    first = re.search(r"first_of \(((?:\d+ ∷ )+)order\)", FIRST.read_text())[1]
     base = numbers(re.search(r"^order = (.*)$", ORDER.read_text(), re.M)[1])
     # numbers put into it, each directly after another, the innermost first
-    into = re.search(r"^harbourOrder = ((?:directlyAfter \d+ \d+ \(?)+)order\)*$", INTO.read_text(), re.M)[1]
-    for new, after in reversed(re.findall(r"directlyAfter (\d+) (\d+)", into)):
+    into = re.search(r"^harbour_order = ((?:directly_after \d+ \d+ \(?)+)order\)*$", INTO.read_text(), re.M)[1]
+    for new, after in reversed(re.findall(r"directly_after (\d+) (\d+)", into)):
         base.insert(base.index(int(after)) + 1, int(new))
     return numbers(first) + base
 
@@ -190,10 +203,25 @@ def in_c(call):
 
 def wrong_calls(header, functions):
     for name in sorted(header.calls.keys() ^ functions.keys()):
-        yield f"{name} stands in {'the header' if name in header.calls else 'crates/host'} alone"
+        yield f"{name} stands in {'the header' if name in header.calls else 'crates/host_c'} alone"
     for name in sorted(header.calls.keys() & functions.keys()):
         if header.calls[name] != functions[name]:
             yield f"{name} is {in_c(header.calls[name])} in the header, and exported as {in_c(functions[name])}"
+
+
+def wrong_exports(source, library):
+    (exports, uses), (calls, own_uses) = functions_of("host_c", source), functions_of("host", library)
+    for name in sorted(exports.keys() ^ calls.keys()):
+        yield f"{name} stands in crates/{'host_c' if name in exports else 'host'} alone"
+    for name in sorted(exports.keys() & calls.keys()):
+        parameters, clauses, body = exports[name]
+        if (parameters, clauses) != calls[name][:2]:
+            yield f"{name} has other parameters or clauses in crates/host_c than in crates/host"
+        given = ", ".join(re.findall(r"(\w+):", parameters))
+        if body != f"host::{name}({given})":
+            yield f"{name} of crates/host_c is not the call of crates/host alone"
+    if uses != own_uses:
+        yield "the clauses of crates/host_c have their names from other places than those of crates/host"
 
 
 def wrong_refusals(header):
@@ -354,8 +382,17 @@ PLANTED_IN_RATTLE = [
     ("a type that C has no name for here", "word: u64", "word: u128"),
     ("a slice of other numbers", "edge: u64, out: &mut [u8]", "edge: u64, out: &mut [u64]"),
     ("a function with no result", " -> u64\n", "\n"),
-    ("a function exported otherwise", "#[no_mangle]\n", ""),
+    ("a function exported otherwise", "#[unsafe(no_mangle)]\n", ""),
     ("an order of parameters", "code: u64, edge: u64", "edge: u64, code: u64"),
+    ("another clause", "CrossBytes (code_of code) edge out.old", "CrossBytes (code_of code) edge out.new"),
+    ("no clause", "    ensures { CrossBytes (code_of code) edge out.old result out.new }\n", ""),
+    ("a clause too many", "ensures { CrossBytes", "requires { edge ≤ 3 }\n    ensures { CrossBytes"),
+    ("a clause's name from another place", "ghost use Rattle.net.specs.Corners.{name_of}",
+     "ghost use Rattle.words.specs.Family.{name_of}"),
+    ("another call", "host::grid_opposite(code, out)", "host::grid_small(code, out)"),
+    ("an argument for another", "host::grid_cross(code, edge, out)", "host::grid_cross(edge, code, out)"),
+    ("more than the call", "    host::grid_small(code, out)", "    out[0] = 0;\n    host::grid_small(code, out)"),
+    ("a function that is no call of host", "pub extern \"C\" fn grid_small(", "pub extern \"C\" fn grid_less("),
 ]
 # Pairs of call and answer that the true header agrees with.
 PAIRS = [
@@ -398,13 +435,14 @@ def put(text, old, new):
 def reported(text, source, pairs):
     """What is said of a header, of the source and of calls with their answers."""
     try:
-        return [*wrong_header(text, exported(source)), *wrong_seen(text, *pairs)]
+        wrong = [*wrong_header(text, exported(source)), *wrong_seen(text, *pairs)]
+        return wrong + list(wrong_exports(source, all_of(LIBRARY)))
     except Unreadable as what:
         return [f"cannot be read: {what}"]
 
 
 def self_test():
-    text, source, pairs = HEADER.read_text(), exporting(), list(zip(*PAIRS))
+    text, source, pairs = HEADER.read_text(), all_of(EXPORTS), list(zip(*PAIRS))
     yield from reported(text, source, pairs)
     for what, old, new in PLANTED:
         if not wrong_header(put(text, old, new), exported(source)):
@@ -425,7 +463,9 @@ def ask(words):
     if words:
         calls, answers = (pathlib.Path(word).read_text().splitlines() for word in words[1:])
         return list(wrong_seen(HEADER.read_text(), calls, answers)), "each call gives just the refusals that it names"
-    return wrong_header(HEADER.read_text(), exported(exporting())), "its calls and refusals are those of Rattle"
+    source = all_of(EXPORTS)
+    wrong = [*wrong_header(HEADER.read_text(), exported(source)), *wrong_exports(source, all_of(LIBRARY))]
+    return wrong, "its calls and refusals are those of Rattle"
 
 
 def main(words):

@@ -1,7 +1,8 @@
 // What is exported to a C host (document 02, 2026-01): plain numbers and lent bytes in, a refusal number out. Document
 // 01's calls are in the crates host_grid and host_filing, the sweep of 2026-04 in host_sweeps, those on a cell list
 // of 2026-09 and 2026-10 in host_cells, those on the small form of 2026-11 in host_harbour, the opposites of 2026-12 in
-// host_opposites. A library for C has the functions of one crate, and so they stand here once more, a line each.
+// host_opposites. A library for C has the functions of one crate, and so they stand here once more, a line each; the
+// crate host_c exports them.
 #![tactic(auto)]
 
 ghost use Rattle.std.specs.Prelude.{◌≡◌};
@@ -20,40 +21,35 @@ ghost use Rattle.host_harbour.specs.Answers.{SmallBytes, LargeBytes, CrossSmallB
 ghost use Rattle.host_opposites.specs.Answers.{OppositeBytes, OppositeNameBytes};
 
 // Checking a word as a triangle code.
-#[unsafe(no_mangle)]
-pub extern "C" fn grid_check_triangle(word: u64) -> u64
+pub fn grid_check_triangle(word: u64) -> u64
     ensures { result ≡ check_code (code_of word) }
 {
     host_grid::grid_check_triangle(word)
 }
 
 // Checking a word as a corner name.
-#[unsafe(no_mangle)]
-pub extern "C" fn grid_check_name(word: u64) -> u64
+pub fn grid_check_name(word: u64) -> u64
     ensures { result ≡ check_name (name_of word) }
 {
     host_grid::grid_check_name(word)
 }
 
 // Crossing an edge: the code and the edge's number there, in sixteen bytes.
-#[unsafe(no_mangle)]
-pub extern "C" fn grid_cross(code: u64, edge: u64, out: &mut [u8]) -> u64
+pub fn grid_cross(code: u64, edge: u64, out: &mut [u8]) -> u64
     ensures { CrossBytes (code_of code) edge out.old result out.new }
 {
     host_grid::grid_cross(code, edge, out)
 }
 
 // Filing a direction: the code, in eight bytes.
-#[unsafe(no_mangle)]
-pub extern "C" fn grid_file(degree: u64, x: i32, y: i32, z: i32, out: &mut [u8]) -> u64
+pub fn grid_file(degree: u64, x: i32, y: i32, z: i32, out: &mut [u8]) -> u64
     ensures { FileBytes degree (towards x y z) out.old result out.new }
 {
     host_filing::grid_file(degree, x, y, z, out)
 }
 
 // Listing: the count and then the codes, in at most fifty-six bytes.
-#[unsafe(no_mangle)]
-pub extern "C" fn grid_list(degree: u64, x: i32, y: i32, z: i32, out: &mut [u8]) -> u64
+pub fn grid_list(degree: u64, x: i32, y: i32, z: i32, out: &mut [u8]) -> u64
     ensures { ListBytes degree (towards x y z) out.old result out.new }
 {
     host_filing::grid_list(degree, x, y, z, out)
@@ -61,8 +57,7 @@ pub extern "C" fn grid_list(degree: u64, x: i32, y: i32, z: i32, out: &mut [u8])
 
 // A sweep: twelve bytes a direction, eight a code, and in twenty-four bytes how many directions are refused, the first
 // one's place and its refusal.
-#[unsafe(no_mangle)]
-pub extern "C" fn grid_sweep(degree: u64, dirs: &[u8], codes: &mut [u8], out: &mut [u8]) -> u64
+pub fn grid_sweep(degree: u64, dirs: &[u8], codes: &mut [u8], out: &mut [u8]) -> u64
     ensures { SweepBytes degree dirs.now codes.old out.old result
         (codes.new, out.new) }
 {
@@ -70,8 +65,7 @@ pub extern "C" fn grid_sweep(degree: u64, dirs: &[u8], codes: &mut [u8], out: &m
 }
 
 // Checking a cell list: the reason and the place of its first offence, in sixteen bytes.
-#[unsafe(no_mangle)]
-pub extern "C" fn grid_check_cells(list: &[u8], out: &mut [u8]) -> u64
+pub fn grid_check_cells(list: &[u8], out: &mut [u8]) -> u64
     ensures { CheckBytes list.now out.old result out.new }
 {
     host_cells::grid_check_cells(list, out)
@@ -79,8 +73,7 @@ pub extern "C" fn grid_check_cells(list: &[u8], out: &mut [u8]) -> u64
 
 // Mending a cell list: its codes; for each change its word and its reason, in two lists; and both counts, in sixteen
 // bytes.
-#[unsafe(no_mangle)]
-pub extern "C" fn grid_mend_cells(
+pub fn grid_mend_cells(
     list: &[u8],
     mended: &mut [u8],
     words: &mut [u8],
@@ -95,56 +88,49 @@ pub extern "C" fn grid_mend_cells(
 }
 
 // The small code of a code, in four bytes.
-#[unsafe(no_mangle)]
-pub extern "C" fn grid_small(code: u64, out: &mut [u8]) -> u64
+pub fn grid_small(code: u64, out: &mut [u8]) -> u64
     ensures { SmallBytes (code_of code) out.old result out.new }
 {
     host_harbour::grid_small(code, out)
 }
 
 // The code of a small one, in eight bytes.
-#[unsafe(no_mangle)]
-pub extern "C" fn grid_large(word: u32, out: &mut [u8]) -> u64
+pub fn grid_large(word: u32, out: &mut [u8]) -> u64
     ensures { LargeBytes (small_code word) out.old result out.new }
 {
     host_harbour::grid_large(word, out)
 }
 
 // Checking a word as a small code.
-#[unsafe(no_mangle)]
-pub extern "C" fn grid_check_small(word: u32) -> u64
+pub fn grid_check_small(word: u32) -> u64
     ensures { result ≡ check_small (small_code word) }
 {
     host_harbour::grid_check_small(word)
 }
 
 // Crossing an edge on the small form: the small code and the edge's number there, in twelve bytes.
-#[unsafe(no_mangle)]
-pub extern "C" fn grid_cross_small(word: u32, edge: u64, out: &mut [u8]) -> u64
+pub fn grid_cross_small(word: u32, edge: u64, out: &mut [u8]) -> u64
     ensures { CrossSmallBytes (small_code word) edge out.old result out.new }
 {
     host_harbour::grid_cross_small(word, edge, out)
 }
 
 // Filing a direction on the small form: the small code, in four bytes.
-#[unsafe(no_mangle)]
-pub extern "C" fn grid_file_small(degree: u64, x: i32, y: i32, z: i32, out: &mut [u8]) -> u64
+pub fn grid_file_small(degree: u64, x: i32, y: i32, z: i32, out: &mut [u8]) -> u64
     ensures { FileSmallBytes degree (towards x y z) out.old result out.new }
 {
     host_harbour::grid_file_small(degree, x, y, z, out)
 }
 
 // The opposite of a triangle: its code, in eight bytes.
-#[unsafe(no_mangle)]
-pub extern "C" fn grid_opposite(code: u64, out: &mut [u8]) -> u64
+pub fn grid_opposite(code: u64, out: &mut [u8]) -> u64
     ensures { OppositeBytes (code_of code) out.old result out.new }
 {
     host_opposites::grid_opposite(code, out)
 }
 
 // The opposite of a corner: its name, in eight bytes.
-#[unsafe(no_mangle)]
-pub extern "C" fn grid_opposite_name(name: u64, out: &mut [u8]) -> u64
+pub fn grid_opposite_name(name: u64, out: &mut [u8]) -> u64
     ensures { OppositeNameBytes (name_of name) out.old result out.new }
 {
     host_opposites::grid_opposite_name(name, out)

@@ -16,9 +16,10 @@ import tempfile
 ROOT = pathlib.Path(__file__).resolve().parent.parent
 FILES = ["include/dogrzewin.h", "lib/libdogrzewin.a", "lib/pkgconfig/dogrzewin.pc"]
 RT = """#!/bin/sh
-[ "$*" = "staticlib host" ] || exit 2
-[ ! -e fails ] || { echo 'rt: FAILED: host'; exit 1; }
-mkdir -p target/staticlib && cat library >target/staticlib/libhost.a
+[ "${PWD##*/} $*" = "host_c lib" ] || exit 2
+cd ../..
+[ ! -e fails ] || { echo 'rt: the library host did not build'; exit 1; }
+mkdir -p crates/host_c/out && cat library >crates/host_c/out/libhost_c.a
 """
 TOOLS = "bash cat chmod dirname mkdir mktemp mv rm sed sh".split()
 wrong = []
@@ -52,6 +53,7 @@ class StandIn:
             (self.home / name).parent.mkdir(parents=True, exist_ok=True)
             shutil.copy(ROOT / name, self.home / name)
         write(self.home / "library", "the library\n")
+        write(self.home / "crates" / "host_c" / "src" / "lib.rt", "")
         write(self.tools / "rt", RT, 0o755)
         write(self.tools / "uname", f"#!/bin/sh\necho {machine}\n", 0o755)
         for tool in TOOLS:
@@ -109,7 +111,8 @@ def test_kept(place):
     write(place.home / "library", "a third\n")
     prefix = str(place.prefix)
     write(place.home / "fails", "")
-    kept("a proof that fails", place.install(prefix), "rt: FAILED: host\ninstall: the library was not built\n")
+    said = "rt: the library host did not build\ninstall: the library was not built\n"
+    kept("a proof that fails", place.install(prefix), said)
     (place.home / "fails").unlink()
     (place.tools / "rt").rename(place.tools / "other")
     kept("no rt", place.install(prefix), "rt is not on the PATH")

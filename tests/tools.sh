@@ -40,17 +40,16 @@ need_for_programs() {
     [ "$machine" = x86_64 ] || [ -n "$(emulator)" ] || need qemu-x86_64 qemu-user
 }
 
-# The toolkit's emulator, which it has where the processor is another one; else Debian's.
-emulator() {
-    local kit=${RATTLE_HOME:-$(dirname "$(dirname "$(readlink -f "$(command -v rt)")")")}
-    local own=$kit/on/$machine/toolchain/bin/qemu-x86_64
-    if [ -x "$own" ]; then echo "$own"; else command -v qemu-x86_64; fi
-}
+# What runs a program for x86-64 on another processor.
+emulator() { command -v qemu-x86_64; }
 
-# build_library CRATE LOG: proves a crate and builds target/staticlib/libCRATE.a.
+# The file that a static library is built to.
+library_of() { echo "$home/crates/$1/out/lib$1.a"; }
+
+# build_library CRATE LOG: proves a static library and builds it.
 build_library() {
     say "building the library (some minutes where it has yet to be proved)"
-    if ! (cd "$home" && rt staticlib "$1") >"$2" 2>&1; then
+    if ! (cd "$home/crates/$1" && rt lib) >"$2" 2>&1; then
         cat "$2" >&2
         die "the library was not built"
     fi

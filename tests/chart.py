@@ -195,7 +195,9 @@ class StandIn(standins.StandIn):
         self.known = second_answers()
         write(self.answers / "answers", json.dumps(self.known))
         self.answer_wrongly({})
-        super().__init__("chart", CONSOLE % {"python": os.path.realpath(sys.executable), "place": str(self.answers)})
+        example = {"stdin": "file 1 0 0 1\n", "stdout": self.known["file 1 0 0 1"] + "\n"}
+        console = CONSOLE % {"python": os.path.realpath(sys.executable), "place": str(self.answers)}
+        super().__init__("chart", console, example)
 
     def __exit__(self, *which):
         super().__exit__(*which)

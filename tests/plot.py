@@ -37,6 +37,7 @@ while IFS= read -r line || [ -n "$line" ]; do
     'file 2 0 0 1') answer='10003 0x208C000000000000' ;;
     'file 25 0 0 1') answer='refused 1: a degree, as field or argument, is above 24' ;;
     'corner 200 2') answer='error: no such call; help shows them' ;;
+    help) answer=$(cat help.txt) ;;
     mute) exit ;;
     dies) exit 9 ;;
     esac
@@ -45,8 +46,13 @@ done
 """
 
 
+# What the console is held to: all of help, which lies in the folder where it runs, and a call.
+HELP = re.match(r"(?s).*?^help .*?\n", (ROOT / "crates" / "plot_main" / "stdout").read_text(), re.M)[0]
+EXAMPLE = {"stdin": "help\nfile 2 0 0 1\n", "stdout": f"{HELP}{ANSWERS['file 2 0 0 1']}\n", "data/help.txt": HELP}
+
+
 def stand_in(machine="x86_64"):
-    return standins.StandIn("plot", CONSOLE, machine)
+    return standins.StandIn("plot", CONSOLE, EXAMPLE, machine)
 
 
 # ---- what ./plot answers, and its statuses
@@ -136,12 +142,12 @@ def test_toolkit(place):
     expect("--help without rt", run(place, "--help", env={"PATH": str(place.tools)})[0], 0)
     one_line("a wrong RATTLE_HOME", with_environment(RATTLE_HOME="/nonsense"), "/nonsense", "RATTLE_HOME")
     expect("the right RATTLE_HOME", with_environment(RATTLE_HOME=str(place.kit))[0], 0)
-    (place.toolchain / "bin" / "qemu-x86_64").unlink()
+    (place.tools / "qemu-x86_64").unlink()
     expect("x86-64 without an emulator", run(place, "file 2 0 0 1")[0], 0)
-    (place.toolchain / "lib" / "ld-linux-x86-64.so.2").unlink()
+    place.loader.unlink()
     one_line("no loader", run(place, "file 2 0 0 1"), "loader", "ld-linux-x86-64.so.2")
-    (place.kit / "on").rename(place.kit / "off")
-    one_line("a toolkit for no machine", run(place, "file 2 0 0 1"), "x86_64", str(place.kit))
+    place.loader.parent.rmdir()
+    one_line("a toolkit without a C library", run(place, "file 2 0 0 1"), "toolkit", str(place.kit))
 
 
 def test_emulator():
@@ -149,16 +155,16 @@ def test_emulator():
         for more in {}, {"QEMU_STRACE": "1"}:
             got = run(place, "file 2 0 0 1", env={**place.environment, **more})
             expect(f"by the emulator {more}", got[:2], (0, ANSWERS["file 2 0 0 1"] + "\n"))
-        (place.toolchain / "bin" / "qemu-x86_64").unlink()
-        one_line("no emulator", run(place, "file 2 0 0 1"), "emulator", "qemu-x86_64")
+        (place.tools / "qemu-x86_64").unlink()
+        one_line("no emulator", run(place, "file 2 0 0 1"), "emulator", "qemu-x86_64", "aarch64")
 
 
 def test_progress():
     said = "plot: proving and building the console first, which can take some minutes\n"
     with stand_in() as place:
         status, _, err = run(place, "file 2 0 0 1")
-        plain = said + "plot: crate 2 of 3: console proved (7 s)\nplot: crate 3 of 3: plot_main proved (8 s)\n"
-        expect("a build in plain lines", (status, re.sub(r"\d+ s\)\n$", "N s)\n", err)),
+        plain = said + "plot: crate 2 of 3: console proved (N s)\nplot: crate 3 of 3: plot_main proved (N s)\n"
+        expect("a build in plain lines", (status, re.sub(r"\(\d+ s\)\n", "(N s)\n", err)),
                (0, plain + "plot: the console is proved and built (N s)\n"))
         log = place.home / "target" / "plot" / "build.log"
         expect("its log", log.exists() and "what the prover says\n" in log.read_text(), True)
@@ -204,7 +210,7 @@ def test_staleness():
         runs_after("the contents of before have their console", 2)
         write(place.home / "crates" / "other" / "src" / "lib.rt", "changed")
         runs_after("a crate that the console does not rest on changes nothing", 2)
-        write(place.home / "crates" / "plot_main" / "stdin", "help\n")
+        write(place.source / "stdin", "help\nfile 2 0 0 1")
         runs_after("other stored calls are compared", 3)
         write(place.kit / "KIT-ID", "another\n")
         runs_after("another toolkit builds", 4)
@@ -212,13 +218,22 @@ def test_staleness():
 
 def test_failed_build():
     with stand_in() as place:
+        log = str(place.home / "target" / "plot" / "build.log")
         (place.home / "fails").touch()
-        for what in "a failed comparison", "the console that failed is not used":
+        for what in "a failed proof", "the console that failed is not used":
             status, out, err = run(place, "file 2 0 0 1")
-            log = str(place.home / "target" / "plot" / "build.log")
-            expect(what, (status, out, "plot: rt: FAILED: plot_main\n" in err, log in err), (4, "", True, True))
+            said = "plot: fn plot_main::main: not proved\nplot: rt: the library other did not build\n"
+            expect(what, (status, out, said in err, log in err), (4, "", True, True))
         expect("it is built again", place.runs(), 2)
         (place.home / "fails").unlink()
+        others = {"stdin": "file 2 0 0 1\n", "stdout": "help\n", "data/help.txt": "help", "status": "1\n"}
+        for part, text in others.items():
+            write(place.source / part, text)
+            for what in f"another {part}", f"another {part}, again":
+                status, out, err = run(place, "file 2 0 0 1")
+                expect(what, (status, out, " its examples" in err, log in err), (4, "", True, True))
+            write(place.source / part, EXAMPLE.get(part, "0\n"))
+        expect("they are compared each time", place.runs(), 10)
         (place.home / "changes").touch()
         status, out, err = run(place, "file 2 0 0 1")
         expect("a source that changes meanwhile", (status, out, "changed" in err), (4, "", True))

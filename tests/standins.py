@@ -32,30 +32,36 @@ def verdict(name, right):
 # rt counts its runs, reads what it is given, says what it proves, and leaves a program. While the file waits is in the
 # checkout it stays in the middle of a line, for some ten seconds; changes makes it change the source, fails fail.
 RT = """#!/bin/sh
-case $* in "check plot_main" | "check sweep_main" | "check cells_main") ;; *) exit 2 ;; esac
+crate=${PWD##*/}
+case "$crate $*" in "plot_main run" | "sweep_main run -- 2 text quiet" | "cells_main run") ;; *) exit 2 ;; esac
+cd ../..
 echo run >>runs
 head -c 1 >/dev/null
-printf 'rt: lines '
+exec >&2
+printf 'only=0 '
 waited=0
 while [ -e waits ] && [ "$waited" -lt 200 ]; do sleep 0.05; waited=$((waited + 1)); done
-echo 'proved (unchanged since it was last proved)'
+echo 'proved=0'
 [ ! -e changes ] || echo changed >>crates/console/src/lib.rt
-mkdir -p target/bin && cp program "target/bin/$2"
-echo 'rt: console proved (7 s)'
+echo 'rt: chose --jobs 2 for console'
 echo 'what the prover says'
-echo "rt: $2 proved (8 s)"
-[ ! -e fails ] || { echo "rt: FAILED: $2"; exit 1; }
-echo 'rt: ok, 3 crates proved'
+echo 'logic=proved functions=9'
+echo "rt: chose --jobs 1 for $crate"
+[ ! -e fails ] || { echo "fn $crate::main: not proved"; echo "rt: the library other did not build"; exit 1; }
+echo 'logic=proved functions=1'
+mkdir -p "crates/$crate/out" && cp program "crates/$crate/out/$crate"
+echo "rt: running out/$crate; to give it other input, run that file yourself"
 """
 
 CRATES = "plot_main: console # the program\nsweep_main: console\ncells_main: console\nconsole: lines\nlines:\nother:\n"
 LOADER = '#!/bin/sh\nshift 2\nexec "$@"\n'
 EMULATOR = '#!/bin/sh\n[ -z "$QEMU_STRACE" ] || echo traced\nexec "$@"\n'
 TOOLS = (
-    "awk bash cat cp cut dirname find flock head mkdir mktemp mv od readlink rm sed sha256sum sh sleep sort tail tee "
-    "tr xargs"
+    "awk bash cat cmp cp cut dirname find flock head mkdir mktemp mv od readlink rm sed sha256sum sh sleep sort tail "
+    "tee tr xargs"
 ).split()
 SCRIPTS = "programs.sh", "chart.awk", "chart.html"
+CRATE = {"plot": "plot_main", "chart": "plot_main", "sweep": "sweep_main", "cells": "cells_main"}
 
 
 def write(path, text, mode=0o644):
@@ -65,10 +71,11 @@ def write(path, text, mode=0o644):
 
 
 class StandIn:
-    """A checkout and a toolkit for a kind of machine, in a folder of their own. Nothing else is on the PATH. The script
-    of the root by this name is run there, with this program."""
+    """A checkout and a toolkit, in a folder of their own, on a kind of machine. Nothing else is on the PATH. The script
+    of the root by this name is run there, with this program; the example that it is held to is the files beside its
+    source."""
 
-    def __init__(self, name, program, machine="x86_64"):
+    def __init__(self, name, program, example, machine="x86_64"):
         self.folder = pathlib.Path(tempfile.mkdtemp(prefix=f"{name}-"))
         self.folder.chmod(0o755)
         self.home, self.kit, self.tools = (self.folder / part for part in ("checkout", "kit", "tools"))
@@ -79,11 +86,14 @@ class StandIn:
         for crate in "lines", "console", "plot_main", "sweep_main", "cells_main", "other":
             write(self.home / "crates" / crate / "src" / "lib.rt", crate)
         shutil.copy(ROOT / "crates" / "plot_main" / "stdout", self.home / "crates" / "plot_main")
+        self.source = self.home / "crates" / CRATE[name]
+        for part, text in example.items():
+            write(self.source / part, text)
         write(self.kit / "KIT-ID", "a stand-in\n")
         write(self.kit / "bin" / "rt", RT, 0o755)
-        self.toolchain = self.kit / "on" / machine / "toolchain"
-        write(self.toolchain / "lib" / "ld-linux-x86-64.so.2", LOADER, 0o755)
-        write(self.toolchain / "bin" / "qemu-x86_64", EMULATOR, 0o755)
+        self.loader = self.kit / "toolchain" / "lib" / "ld-linux-x86-64.so.2"
+        write(self.loader, LOADER, 0o755)
+        write(self.tools / "qemu-x86_64", EMULATOR, 0o755)
         write(self.tools / "uname", f"#!/bin/sh\necho {machine}\n", 0o755)
         for tool in TOOLS:
             (self.tools / tool).symlink_to(shutil.which(tool))

@@ -47,8 +47,8 @@ CLEAR = "\r\033[K"
 PROGRAM = r"""#!/usr/bin/env bash
 finish() {
     printf '%s\n' "$2" >&2 2>/dev/null
-    printf %s "$1" >&3
-    exit
+    { printf %s "$1" >&3; } 2>/dev/null
+    exit 0
 }
 case $1 in
 25) finish 1 'sweep: refused 1: a degree, as field or argument, is above 24' ;;
@@ -86,7 +86,7 @@ finish "$status" "$text"
 
 
 def stand_in(program=PROGRAM):
-    return standins.StandIn("sweep", program)
+    return standins.StandIn("sweep", program, {"args": "2\ntext\nquiet\n", "stdin": "0 0 1\n", "stdout": UP})
 
 
 # ---- what ./sweep writes, and its statuses
@@ -251,25 +251,26 @@ def test_build():
     with stand_in() as place:
         status, out, err = run(place, "2", given="0 0 1\n")
         wanted = ("sweep: proving and building the program first, which can take some minutes\n"
-                  "sweep: crate 2 of 3: console proved (7 s)\nsweep: crate 3 of 3: sweep_main proved (8 s)\n"
+                  "sweep: crate 2 of 3: console proved (N s)\nsweep: crate 3 of 3: sweep_main proved (N s)\n"
                   "sweep: the program is proved and built (N s)\nsweep: 1 direction, 0 refused\n")
-        expect("a build", (status, out, re.sub(r"built \(\d+ s\)", "built (N s)", err)), (0, UP, wanted))
+        expect("a build", (status, out, re.sub(r"\(\d+ s\)", "(N s)", err)), (0, UP, wanted))
         run(place, "2", given="0 0 1\n")
         expect("the second run builds nothing", place.runs(), 1)
         write(place.home / "crates" / "plot_main" / "src" / "lib.rt", "changed")
         run(place, "2", given="0 0 1\n")
         expect("a change of the console's crate builds nothing", place.runs(), 1)
-        write(place.home / "crates" / "sweep_main" / "stdin", "0 0 1\n")
+        write(place.source / "stdin", "0 0 1")
         expect("another stored example is compared", (run(place, "2", given="0 0 1\n")[0], place.runs()), (0, 2))
     with stand_in() as place:
         (place.home / "fails").touch()
         status, out, err = run(place, "2", given="0 0 1\n")
-        said = "sweep: rt: FAILED: sweep_main\n" in err, str(place.home / "target" / "sweep" / "build.log") in err
+        log = str(place.home / "target" / "sweep" / "build.log")
+        said = "sweep: fn sweep_main::main: not proved\n" in err, log in err
         expect("a failed build", (status, out, *said), (4, "", True, True))
 
 
 def test_beside_plot():
-    """rt twice at work in one target/ would fail: ./plot and ./sweep wait for each other."""
+    """./plot and ./sweep wait for each other, so that what both rest on is proved once."""
     with stand_in() as place:
         (place.home / "waits").touch()
         first = start(place, "file 2 0 0 1", script=place.home / "plot")

@@ -9,7 +9,7 @@ A place is `crate/path: name, name`, or `crate/path`: `name`, `name`, with the p
                 variable, an imported name and a word of a comment are none
     in .rt      a function, struct, enum or const of the file, `Type::method`, or `Struct.field`
 
-After a record, struct or type the names without a dot may be its own fields or methods: `Bounds.word-0, word-0-name`.
+After a record, struct or type the names without a dot may be its own fields or methods: `Bounds.word_0, word_0_name`.
 Instead of a path DECISIONS.md also has a crate, whose src/ is meant.
 
 In the tables of PROMISES.md a name without a file is one of a file that stands in the same cell; in the section 'The
@@ -41,7 +41,7 @@ ARCHITECTURE = "docs/ARCHITECTURE.md"
 DOCS = (README, PROMISES, DECISIONS, ARCHITECTURE, "docs/FILING.md", "docs/CONSOLE.md", "docs/CELLS.md")
 DOCS += ("docs/PERFORMANCE.md", "docs/HARBOUR.md", "docs/OPPOSITES.md", "docs/PAPER.md", "docs/CHART.md")
 DEMANDS, MISTAKES = "grid/specs/Demands.antt", "grid/specs/Mistakes.antt"
-CONTRACTS, HOST_CONTRACTS = "crates/grid/specs/Contracts.antt", "crates/contracts/specs/Host.antt"
+CONTRACTS, HOST_CONTRACTS = "crates/grid/specs/CallContracts.antt", "crates/contracts/specs/Host.antt"
 HOST_PROMISES = ("exports/specs/Promises.antt", "host_sweeps/specs/Promises.antt", "host_cells/specs/Promises.antt")
 HOST_PROMISES += ("host_harbour/specs/Promises.antt", "host_opposites/specs/Promises.antt")
 TABLE_CONTRACTS = "crates/contracts/specs/Soundings.antt"
@@ -205,13 +205,15 @@ def calls():
     """The calls of document 01: the methods of a triangle code, and the functions that grid hands on."""
     methods = sorted(name for _, name in file_names("words/src/lib.rt").parts["TriangleCode"])
     lib = (CRATES / "grid/src/lib.rt").read_text(encoding="utf-8")
-    return [f"TriangleCode::{m}" for m in methods] + re.findall(r"^pub use \w+::([a-z]\w*);", lib, re.MULTILINE)
+    used = re.findall(r"^pub use \w+::(?:\{([^}]*)\}|(\w+));", lib, re.MULTILINE)
+    handed_on = [name for several, one in used for name in re.findall(r"\w+", several or one)]
+    return [f"TriangleCode::{m}" for m in methods] + [name for name in handed_on if name[0].islower()]
 
 
 @functools.cache
 def exported():
     """The calls for a program in C."""
-    lib = (CRATES / "host/src/lib.rt").read_text(encoding="utf-8")
+    lib = (CRATES / "host_c/src/lib.rt").read_text(encoding="utf-8")
     return re.findall(r'^pub extern "C" fn (\w+)\(', lib, re.MULTILINE)
 
 
@@ -226,7 +228,7 @@ def of_table():
 def of_sweep():
     """The calls of a sweep: the functions that need nothing asked and promise a whole result."""
     lib = (CRATES / "sweeper/src/lib.rt").read_text(encoding="utf-8")
-    return re.findall(r"^pub fn (\w+)\([^{]*\n    ensures \{ λ r\. ⌜ \w+Result ", lib, re.MULTILINE)
+    return re.findall(r"^pub fn (\w+)\([^{]*\n    ensures (?:\w+ )?\{ \w+Result ", lib, re.MULTILINE)
 
 
 def on_list(crate):
@@ -325,7 +327,7 @@ class Documents:
     def __init__(self, falsified=()):
         self.falsified, self.wrong = dict(falsified), []
         lines = self.text("crates.txt").splitlines()
-        self.crates = [line.split(":")[0] for line in lines if line.strip() and not line.startswith("#")]
+        self.crates = [line.split(":")[0].split()[0] for line in lines if line.strip() and not line.startswith("#")]
 
     def text(self, path):
         return self.falsified.get(path) or original(path)
@@ -513,7 +515,7 @@ class Documents:
             promised = {name for each in promises for _, name in file_names(each).parts[record]}
             for name in sorted(rows ^ promised):
                 self.say(file, f"{name} is a row of Contracts or of {record}, and not of both")
-            asked = re.findall(r"Says \((\w+)\.Asked ", text)
+            asked = re.findall(r"Says \((\w+)_call\.Asked ", text)
             for call in of_file:
                 if asked.count(call.rpartition("::")[2]) != 1:
                     self.say(file, f"{call} has not one row")
@@ -533,13 +535,13 @@ class Documents:
 
 # What is false; the section of PROMISES.md and a row more of its table; words of what must be reported.
 ROWS = (
-    ("a field that there is not", "Document 01", "`grid/specs/Examples.antt: Bounds.word-1`", "Bounds has no word-1"),
-    ("another record's field", "Document 01", "`grid/specs/Examples.antt: Points.word-0`", "Points has no word-0"),
-    ("a field without its record", "Document 01", "`grid/specs/Examples.antt: word-0`", "no word-0"),
-    ("a field after another record", "Document 01", "`grid/specs/Examples.antt: Bounds.word-0, five`", "no five"),
-    ("a record that there is not", "Document 01", "`grid/specs/Examples.antt: Limits.word-0`", "no record or type"),
+    ("a field that there is not", "Document 01", "`grid/specs/Examples.antt: Bounds.word_1`", "Bounds has no word_1"),
+    ("another record's field", "Document 01", "`grid/specs/Examples.antt: Points.word_0`", "Points has no word_0"),
+    ("a field without its record", "Document 01", "`grid/specs/Examples.antt: word_0`", "no word_0"),
+    ("a field after another record", "Document 01", "`grid/specs/Examples.antt: Bounds.word_0, five`", "no five"),
+    ("a record that there is not", "Document 01", "`grid/specs/Examples.antt: Limits.word_0`", "no record or type"),
     ("a name local to a `where`", "Document 01", "`frame/proofs/Refusing.antt: go`", "no go"),
-    ("a name of a module, not pub", "Document 01", "`twelves/proofs/name_back/Proof.antt: low`", "no low"),
+    ("a name of a module, not pub", "Document 01", "`net/proofs/Names.antt: low`", "no low"),
     ("a bound variable", "Document 01", "`frame/specs/Answers.antt: zeros`", "no zeros"),
     ("a word of a comment", "Document 01", "`frame/specs/Refusals.antt: several`", "no several"),
     ("an imported name", "Document 01", "`grid/specs/Demands.antt: Keeps`", "no Keeps"),
@@ -552,12 +554,12 @@ ROWS = (
     ("another type's method", "Document 01", "`words/src/lib.rt: CornerName::parent`", "CornerName has no parent"),
     ("a local of a function", "Document 01", "`knots/src/back.rt: left`", "no left"),
     ("another struct's field", "Document 01", "`corners/src/lib.rt: NameAnswer.edge`", "NameAnswer has no edge"),
-    ("a clause that a demand has not", ASKED, "`Demand3`: `oneOther, allDistinct`", "allDistinct"),
+    ("a clause that a demand has not", ASKED, "`Demand3`: `one_other, all_distinct`", "all_distinct"),
     ("a demand that there is not", ASKED, "`Demand4`", "`Demand4`"),
-    ("a mistake that there is not", WRONG_ANSWERS, "`edge-lost` | `corners/cross_itself`", "Mistakes has no edge-lost"),
+    ("a mistake that there is not", WRONG_ANSWERS, "`edge_lost` | `corners/cross_itself`", "Mistakes has no edge_lost"),
     ("another record's mistake", WRONG_ANSWERS, "`reversed` | `corners/cross_itself`", "Mistakes has no reversed"),
-    ("an edit that there is not", WRONG_ANSWERS, "`edge-kept` | `corners/cross_all`", "no edit corners/cross_all"),
-    ("an edit of another crate", WRONG_ANSWERS, "`edge-kept` | `net/cross_itself`", "no edit net/cross_itself"),
+    ("an edit that there is not", WRONG_ANSWERS, "`edge_kept` | `corners/cross_all`", "no edit corners/cross_all"),
+    ("an edit of another crate", WRONG_ANSWERS, "`edge_kept` | `net/cross_itself`", "no edit net/cross_itself"),
     ("an edit without its crate", BY_CALL, "`cross_itself`", "no edit None/cross_itself"),
 )
 
@@ -579,39 +581,39 @@ LINES = (
 # What is missing; a document, and what is taken out of it; words of what must be reported.
 TAKEN = (
     ("an edit's row", PROMISES, "`words/check_degree_25`", "no row for the must-fail edit words/check_degree_25"),
-    ("a mistake's row", PROMISES, "`edge-kept`", "no row for Mistakes.edge-kept"),
+    ("a mistake's row", PROMISES, "`edge_kept`", "no row for Mistakes.edge_kept"),
     ("a call's row", PROMISES, "`name_back`", "name_back has fewer than two"),
     ("a crate's line", README, "\n    golden ", "no golden"),
     ("a section", PROMISES, "## " + BY_CALL, "no section"),
-    ("a call's contract", CONTRACTS, "Says (ring.Asked", "ring has not one row"),
+    ("a call's contract", CONTRACTS, "Says (ring_call.Asked", "ring has not one row"),
     ("a row of Demand1", CONTRACTS, "  pub ring :", "ring is a row of Contracts or of Demand1"),
-    ("an exported call's contract", HOST_CONTRACTS, "Says (grid_list.Asked", "grid_list has not one row"),
+    ("an exported call's contract", HOST_CONTRACTS, "Says (grid_list_call.Asked", "grid_list has not one row"),
     ("an exported call's row", PROMISES, "`grid_cross`", "grid_cross has fewer than two"),
-    ("a table call's contract", TABLE_CONTRACTS, "Says (clear.Asked", "clear has not one row"),
+    ("a table call's contract", TABLE_CONTRACTS, "Says (clear_call.Asked", "clear has not one row"),
     ("a table call's row", PROMISES, "`clear`", "clear has fewer than two"),
-    ("a cell list's contract", CELLS_CONTRACTS, "Says (check.Asked", "check has not one row"),
+    ("a cell list's contract", CELLS_CONTRACTS, "Says (check_call.Asked", "check has not one row"),
     ("a cell list's row", PROMISES, "`check`", "check has fewer than two"),
-    ("a small call's contract", HARBOUR_CONTRACTS, "Says (write.Asked", "harbour::write has not one row"),
+    ("a small call's contract", HARBOUR_CONTRACTS, "Says (write_call.Asked", "harbour::write has not one row"),
     ("a small call's row", PROMISES, "`SmallCode::read`", "SmallCode::read has fewer than two"),
-    ("an opposite's contract", OPPOSITE_CONTRACTS, "Says (opposite_name.Asked", "opposite_name has not one row"),
+    ("an opposite's contract", OPPOSITE_CONTRACTS, "Says (opposite_name_call.Asked", "opposite_name has not one row"),
     ("an opposite's row", PROMISES, "`opposite`", "opposite has fewer than two"),
-    ("a paper call's contract", PAPER_CONTRACTS, "Says (to_vertex.Asked", "to_vertex has not one row"),
+    ("a paper call's contract", PAPER_CONTRACTS, "Says (to_vertex_call.Asked", "to_vertex has not one row"),
     ("a paper call's row", PROMISES, "`from_domain`", "from_domain has fewer than two"),
-    ("a mark's contract", MARK_CONTRACTS, "Says (edge_mark.Asked", "edge_mark has not one row"),
+    ("a mark's contract", MARK_CONTRACTS, "Says (edge_mark_call.Asked", "edge_mark has not one row"),
     ("a mark's row", PROMISES, "`table_mark`", "table_mark has fewer than two"),
     ("a mistake's row of another file", PROMISES, "Mistakes.reversed", "no row for Mistakes.reversed"),
 )
 
 # Rows that are right, and bring no report.
 RIGHT = (
-    ("Document 01", "`grid/specs/Examples.antt: Bounds.word-0, word-0-name, Points`"),
+    ("Document 01", "`grid/specs/Examples.antt: Bounds.word_0, word_0_name, Points`"),
     ("Document 01", "`words/src/lib.rt: TriangleCode::check, parent, power`"),
-    ("Document 01", "`frame/proofs/Answering.antt: refusing, answer-one`"),
+    ("Document 01", "`frame/proofs/Answering.antt: refusing, answer_one`"),
     ("Document 01", "`corners/src/lib.rt: StepAnswer.first, second, cross`"),
     ("Document 01", "`net/specs/Steps.antt: Across`; `Turn`"),
     ("Document 01", "`net/specs/Steps.antt`: `Across`, `Turn`"),
-    ("Document 01", "`golden/specs/Numbers.antt: _*φ_`"),
-    (ASKED, "`Demand3`: `oneOther, crossed`"),
+    ("Document 01", "`golden/specs/Numbers.antt: ◌*φ◌`"),
+    (ASKED, "`Demand3`: `one_other, crossed`"),
 )
 
 

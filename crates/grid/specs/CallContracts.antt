@@ -25,7 +25,7 @@ use Rattle.corners.proofs.cross.Reads as cross_call
 use Rattle.twelves.proofs.weights_of.Reads as weights_of_call
 use Rattle.twelves.proofs.weights_of_name.Reads as weights_of_name_call
 use Rattle.corners.proofs.name_of.Reads as name_of_call
-use Rattle.twelves.proofs.name_back.Reads as nameBack_call
+use Rattle.twelves.proofs.name_back.Reads as name_back_call
 use Rattle.corners.proofs.ring.Reads as ring_call
 use Rattle.points.specs.Answers.{PlaceAnswer, NamePlaceAnswer, TickAnswer, NameTickAnswer, DrawAnswer, NameDrawAnswer}
 use Rattle.points.specs.declared.CoordinatesAnswer.{CoordinatesAnswer}
@@ -85,7 +85,7 @@ pub record Contracts : Type 0 where
   pub naming : (κs : Lfts 0) (t : TriangleCode) (i : ℕ) (r : NameAnswer)
       → Says (name_of_call.Asked κs (t, (i, tt))) (name_of_call.Learnt κs (t, (i, tt)) r (t, (i, tt))) (NamingAnswer t i r)
   pub back : (κs : Lfts 1) (n : ℕ) (weights new : Slice) (r : NameAnswer)
-      → Says (nameBack_call.Asked κs (n, (weights, tt))) (nameBack_call.Learnt κs (n, (weights, tt)) r (n, (new, tt)))
+      → Says (name_back_call.Asked κs (n, (weights, tt))) (name_back_call.Learnt κs (n, (weights, tt)) r (n, (new, tt)))
       (BackAnswer n weights.now r)
   pub ring : (κs : Lfts 1) (q : CornerName) (out new : Room) (r : CountAnswer)
       → Says (ring_call.Asked κs (q, (out, tt))) (ring_call.Learnt κs (q, (out, tt)) r (q, (new, tt)))

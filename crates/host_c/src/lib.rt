@@ -1,6 +1,8 @@
 // The calls of the crate host once more, each with the same clauses, as what a program in C calls: the static library
 // that ./install installs. A static library can be no other crate's library, and so host stands apart, for contracts to
 // hold to its promises; tests/header.py holds each function here to the one of host that it calls.
+#![tactic(auto)]
+
 ghost use Rattle.std.specs.Prelude.{◌≡◌};
 ghost use Rattle.words.specs.Family.{code_of};
 ghost use Rattle.words.specs.Refusals.{check_code};

@@ -2,4 +2,3 @@
 // (specs/), with the laws of it (proofs/), and no code. The calls themselves are in the crates host_grid and
 // host_filing.
 #![tactic(auto)]
-

@@ -27,8 +27,8 @@ loop-i-preserved c =
       omega arith,
       simp add-one
           (elim c.if-is_bad.branch [
-            then-is_bad w ↦ finds is_bad list i (pos 0) l k c.loop-i.invariant.1 c.if-is_bad.found (sym q ∙ w.if-is_bad.true) w.found-is |
-            else-is_bad w ↦ goes_on is_bad list i (pos 0) l k c.loop-i.invariant.1 c.if-is_bad.found (sym q ∙ w.if-is_bad.false) w.found-is
+            | then-is_bad w ↦ finds is_bad list i (pos 0) l k c.loop-i.invariant.1 c.if-is_bad.found (sym q ∙ w.if-is_bad.true) w.found-is
+            | else-is_bad w ↦ goes_on is_bad list i (pos 0) l k c.loop-i.invariant.1 c.if-is_bad.found (sym q ∙ w.if-is_bad.false) w.found-is
           ]),
     )
 

@@ -22,8 +22,8 @@ loop-place-preserved c =
       omega arith,
       simp add-one
           (elim c.if-is_other.branch [
-            then-is_other w ↦ finds is_other owners i 0 l k c.loop-place.invariant.1 c.if-is_other.found (sym q ∙ w.if-is_other.true) w.found-is |
-            else-is_other w ↦ goes_on is_other owners i 0 l k c.loop-place.invariant.1 c.if-is_other.found (sym q ∙ w.if-is_other.false) w.found-is
+            | then-is_other w ↦ finds is_other owners i 0 l k c.loop-place.invariant.1 c.if-is_other.found (sym q ∙ w.if-is_other.true) w.found-is
+            | else-is_other w ↦ goes_on is_other owners i 0 l k c.loop-place.invariant.1 c.if-is_other.found (sym q ∙ w.if-is_other.false) w.found-is
           ]),
     )
 

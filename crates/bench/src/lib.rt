@@ -1,6 +1,7 @@
 // The calls of document 01, the opposites, those on the paper's codes, those of a table of soundings, the marks, and
-// those of a cell list, exported to C, for `./bench` to count; checking is the crate host's. Each is thin: it hands the numbers
-// on, and answers one number that depends on all numbers of the answer, so that the compiler can leave nothing out.
+// those of a cell list, exported to C, for `./bench` to count; checking is the crate host_c's. Each is thin: it hands
+// the numbers on, and answers one number that depends on all numbers of the answer, so that the compiler can leave
+// nothing out.
 // Where a code or a name is answered, this is the code (with the edge's number in its lowest bits) or the name, or the
 // refusal's number.
 // Two calls are counted without all of their answer: crossing drops how the corners turned, as the call for a C host

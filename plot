@@ -55,7 +55,7 @@ answer_call() {
     esac
 }
 
-# The calls of standard input. The console ends with status 0 even so, and says what failed.
+# The calls of standard input. The console ends with status 0 whatever failed, and says what did.
 answer_lines() {
     local said status=0
     { said=$("${run[@]}" "$program" 2>&1 >&3) || status=$?; } 3>&1

@@ -18,8 +18,7 @@ usage() {
 
     0    answered
     1    refused: the answer begins with 'refused '
-    2    not read, no table is open, or a table's file cannot be read or written: the answer begins with 'error: ';
-         or an argument has a line end
+    2    not read, or no table is open: the answer begins with 'error: '; or an argument has a line end
     3    the answers could not be written, or the calls not be read
     4    the console could not be built or run
 

@@ -29,7 +29,7 @@ FORMS = constant("texts/src/lib.rt", "CALLS").splitlines()
 NAMES = [form.split()[0] for form in FORMS]
 # How a document may write a form that has optional parts: without them, and with them.
 SPELLED = {form.split(" [")[0] for form in FORMS} | {form.replace("[", "").replace("]", "") for form in FORMS}
-ON_TABLE = NAMES[NAMES.index("table") : NAMES.index("check-cells")] + ["mark", "save", "open"]
+ON_TABLE = NAMES[NAMES.index("table") : NAMES.index("check-cells")]
 
 
 def stored():

@@ -74,26 +74,8 @@ that have too many digits, or digits that the paper's text does not allow. Each 
 request's sentences, the vertices being built from centres by (36) and (37); and the formulae with each other and with
 the paper's sentences, to degree 3.
 
-For the marks of request 2026-14 a mark is the list of its points, none, one or two, which are drawn as all corners are.
-The console's calls are made with every triangle to degree 4 over each edge, a share of degree 5, and some of degree 6
-to 24 from both sides; with words that are damaged, and other edges; and on tables with every place of degree 0 to 3,
-before it is taken, with a reading and when that is gone, with some at 4 to 6, and with every refusal, alone and with
-each other one. Each answer is then compared with the request's sentences: with what drawn and bits answer for the
-corners, lower number first; with the mark of the same edge from its other side, as cross tells how the corners turned;
-and with what get answers.
-
-For a table's file, of docs/CONSOLE.md, there is a folder with files at the beginning: good ones of every degree, and
-such that are damaged in every way, in the degree, the number of bytes, a reading or an owner. The console's calls open
-each of them; save and open tables of every degree, with histories before, between and after; save tables that are
-refused, over files that are then opened again; and are made with names of every kind, with folders, with names that no
-file has, and with a file in the way. All answers are then compared with maps that were put aside when a table was
-saved, and with the damage that was done to a file; and every reading and writing of a file with the same on a disk.
-
-    second.py CALLS ANSWERS DATA      writes the calls, one a line, and the answers that the console must give to them,
-                                      run in a folder that it may write to and that has the files of DATA, no others:
-                                      these are written too, to a new folder
-    second.py --answer                answers the call lines of standard input, all but help, from no open table on;
-                                      save and open work on the files of the current folder
+    second.py CALLS ANSWERS           writes the calls, one a line, and the answers that the console must give to them
+    second.py --answer                answers the call lines of standard input, all but help, from no open table on
     second.py --host CALLS ANSWERS    writes the calls of the test bench in C, and the answers that it must give to them
     second.py --host-answer           answers the test bench's call lines of standard input; any other line is an error
     second.py --sweep FOLDER          writes for each case of ./sweep NAME.args, its arguments, one a line, and NAME.in,
@@ -114,7 +96,6 @@ import random
 import re
 import struct
 import sys
-import tempfile
 from collections import Counter, namedtuple
 from functools import lru_cache, reduce
 from types import SimpleNamespace
@@ -1307,135 +1288,6 @@ def vertex_refusals(t):
     return when(1, len(rest) > DEEPEST) | when(33, not allowed)
 
 
-# ==== Document 02, 2026-14, "Marks on the chart"
-
-# "a mark is nothing, one dot, or a segment between two points": the list of its points, none, one or two, each as its
-# degree and weights.
-
-
-def table_mark(table, code):
-    # "Asked for a triangle of a table, the answer is nothing where it has no reading, and otherwise a dot at its corner
-    # 1."
-    has_reading = table.places[place_of(code)] != NOTHING
-    return [(degree_of(code), corners(code)[0])] if has_reading else []
-
-
-def edge_mark(code, edge):
-    # "Asked for an edge of a triangle, it is a segment between that edge's corners in rising number." Document 01:
-    # "Edge k lies opposite corner k."
-    return [(degree_of(code), p) for number, p in enumerate(corners(code), 1) if number != edge]
-
-
-# ==== A table's file: docs/CONSOLE.md, "A table of soundings"
-
-
-def table_file(table):
-    # "its degree, the readings and the owners in the order of their places, eight bytes a number, the most significant
-    # first, a number below 0 in two's complement"
-    return file_of(number % 2**64 for number in (table.degree, *table.places, *table.owners))
-
-
-def save_refusals(table):
-    # "It is refused with 1, 20, 22, 23 (with its place) and 25"
-    return reading_list_refusals(table) | owner_list_refusals(table)
-
-
-def read_table_file(data):
-    """The table, without counts and sums, and what it is refused by; no table, where the bytes are not those of one."""
-    # "1 for a degree above 24, 20 for one of 7 to 24, 22 where the file has not just the bytes of a table of its degree
-    # (also where it has less than eight)"
-    if len(data) < 8:
-        return None, {22}
-    n, *_ = words_of(data[:8])
-    refusals = table_degree_refusals(n)
-    refusals |= when(22, n > TABLE_DEEPEST or len(data) != 8 + 16 * 20 * 4**n)
-    if refusals:
-        return None, refusals
-    numbers = [number for (number,) in struct.iter_unpack(">q", data[8:])]
-    places, owners = numbers[: len(numbers) // 2], numbers[len(numbers) // 2 :]
-    parents = len(parents_of(n))
-    lists = [places, owners, [0] * parents, [0] * parents]
-    table = Table(n, *lists, bad_places(places), other_owners_in(owners))
-    # "23 where a number of the readings is neither a reading nor -1 (with its place), and 25 where one of the owners is
-    # not 0, 1 or 2"
-    return table, reading_list_refusals(table) | owner_list_refusals(table)
-
-
-class Folder:
-    """Files by their names, kept here and not on a disk; and the folders that they lie in, no other."""
-
-    def __init__(self, files):
-        self.files = dict(files)
-        self.folders = {"", *(name.rpartition("/")[0] for name in files)}
-
-    def place(self, name):
-        """The file that a name means, whether it is there or not; nothing, where there can be none: it is a folder, or
-        its folder is missing."""
-        *above, last = name.split("/")
-        above = "/".join(x for x in above if x not in ("", "."))
-        place = f"{above}/{last}" if above else last
-        can_be = above in self.folders and last not in ("", ".", "..") and place not in self.folders
-        can_be &= not name.startswith("/") and "\0" not in name and len(last) < 256
-        return place if can_be else None
-
-    def read(self, name):
-        """What the file holds, or nothing where it cannot be read."""
-        return self.files.get(self.place(name))
-
-    def write(self, name, data):
-        """Whether the file could be written."""
-        # "the table goes to FILE with `.new` after it, which then gets the name FILE. Where that cannot be done .. FILE
-        # is as it was; so it is where a file FILE`.new` is there already."
-        new, place = self.place(name + ".new"), self.place(name)
-        if new is None or place is None or new in self.files:
-            return False
-        self.files[place] = data
-        return True
-
-
-class DiskFolder:
-    """The same for a folder on a disk."""
-
-    def __init__(self, folder):
-        self.folder = os.fsencode(folder)
-
-    def path(self, name):
-        return os.path.join(self.folder, name.encode("latin-1"))
-
-    def read(self, name):
-        try:
-            with open(self.path(name), "rb") as file:
-                return file.read()
-        except (OSError, ValueError):  # No name has a byte 0.
-            return None
-
-    def write(self, name, data):
-        try:
-            with open(self.path(name + ".new"), "xb") as file:
-                file.write(data)
-            os.replace(self.path(name + ".new"), self.path(name))
-        except (OSError, ValueError):
-            return False
-        return True
-
-
-class BothFolders:
-    """The one folder, and a check that the other, on a disk, has the same files."""
-
-    def __init__(self, folder, disk):
-        self.folder, self.disk = folder, disk
-
-    def read(self, name):
-        data = self.folder.read(name)
-        must(self.disk.read(name) == data, "read as from a disk", name)
-        return data
-
-    def write(self, name, data):
-        done = self.folder.write(name, data)
-        must(self.disk.write(name, data) == done and self.disk.read(name) == self.folder.read(name), "written", name)
-        return done
-
-
 # ==== The console's answers
 
 
@@ -1559,17 +1411,6 @@ def say_drawn(n, p):
 
 def say_bits(n, p):
     return axes(word_text(f64_bits(t, n)) for t in ticks(p))
-
-
-def mark_text(mark):
-    # "Coordinates are the ones for drawing as amended by 2026-02"
-    points = [say_drawn(n, p) for n, p in mark]
-    return ("nothing", "dot {}", "segment {} to {}")[len(points)].format(*points)
-
-
-def call_edge_mark(code, edge):
-    # "Refusals are those already numbered, with the mark nothing."
-    return either(code_refusals(code) | number_refusals(edge), lambda: mark_text(edge_mark(code, edge)))
 
 
 def answer_triangles(refusals, search, places):
@@ -1706,8 +1547,8 @@ def call_from_paper_vertex(t):
 
 # "The console holds one table (document 02, 2026-03, 2026-07 and 2026-08), from the line that opens it to the next one
 # that does, or the end of the input". "It has four lists: of readings and of owners, and of counts and of sums for the
-# triangles one degree up." This is all that is carried from line to line, but for the files that it saves and opens.
-CONSOLE = SimpleNamespace(table=None, folder=None)
+# triangles one degree up." This is all that is carried from line to line.
+CONSOLE = SimpleNamespace(table=None)
 NO_TABLE = "error: no table is open; table DEGREE opens one"
 
 
@@ -1879,38 +1720,6 @@ def call_work_out(table):
     return "ok"
 
 
-def call_mark(table, code):
-    # "It is refused just where `get CODE` is, by the same number, 23 with its place"
-    no = first(sounding_refusals(table, code))
-    return refused_with_place(table, no) if no else mark_text(table_mark(table, code))
-
-
-UNWRITTEN, UNOPENED = "error: the file could not be written", "error: the file could not be read"
-
-
-def call_save(table, name):
-    # "no file is touched then", where it is refused
-    no = first(save_refusals(table))
-    if no:
-        return refused_with_place(table, no)
-    return "ok" if CONSOLE.folder.write(name, table_file(table)) else UNWRITTEN
-
-
-def call_open(name):
-    """This one needs no open table."""
-    data = CONSOLE.folder.read(name)
-    if data is None:
-        return UNOPENED
-    table, refusals = read_table_file(data)
-    no = first(refusals)
-    if no:
-        return refused_with_place(table, no)
-    # "and works its counts and sums out afresh"
-    must(call_work_out(table) == "ok", "a table with all its lists", name)
-    CONSOLE.table = table
-    return f"degree {table.degree}, {len(table.places)} places"
-
-
 # ==== The console's lines
 
 HEX = re.compile("0x([0-9A-Fa-f]{1,16})")
@@ -1918,7 +1727,6 @@ SMALL_HEX = re.compile("0x([0-9A-Fa-f]{1,8})")
 TRIANGLE = re.compile("[0-7][01][01][0-3]{0,24}")
 WHOLE_NUMBER = re.compile("[0-9]+")
 SIGNED_NUMBER = re.compile("-?[0-9]+")
-BLANKS = " \t\r"
 PART = re.compile("[^ \t\r]+")  # "words separated by spaces, tabs or carriage returns"
 MOST_PLACES, MOST_NUMBERS, MOST_LENT, MOST_DIGITS = 16, 48, 64, 32
 
@@ -1997,7 +1805,7 @@ READERS.update({"PLACES": read_places, "[PLACES]": read_places, "[CODE]": read_c
 LENT_LISTS = ("MENDED", "WORDS", "REASONS")
 READERS.update(dict.fromkeys(LENT_LISTS, read_lent_length))
 DIGIT_PLACES = "[PLACES] of digits"  # The forms write it as [PLACES] too.
-READERS.update({DIGIT_PLACES: read_digit_places, "DIGITS": read_digits, "FILE": str})
+READERS.update({DIGIT_PLACES: read_digit_places, "DIGITS": read_digits})
 PAPER_CALLS = ["paper", "paper-name", "from-paper", "from-paper-vertex"]
 
 ANSWERS = {
@@ -2035,7 +1843,6 @@ ANSWERS = {
     "paper-name NAME [PLACES]": call_paper_name,
     "from-paper DIGITS": call_from_paper,
     "from-paper-vertex DIGITS": call_from_paper_vertex,
-    "edge-mark CODE EDGE": call_edge_mark,
 }
 TABLE_ANSWERS = {
     "table DEGREE [LENGTH FILL [PLACE VALUE]..]": call_table,
@@ -2048,9 +1855,6 @@ TABLE_ANSWERS = {
     "owners [LENGTH FILL [PLACE OWNER]..]": on_table(call_owners),
     "coarse [CODE]": on_table(call_coarse),
     "work-out": on_table(call_work_out),
-    "mark CODE": on_table(call_mark),
-    "save FILE": on_table(call_save),
-    "open FILE": call_open,
     "counts LENGTH FILL [PLACE N]..": on_table(lambda table, numbers: lay(table, "counts", numbers)),
     "sums LENGTH FILL [PLACE N]..": on_table(lambda table, numbers: lay(table, "sums", numbers)),
 }
@@ -2131,14 +1935,8 @@ def parts_of(line):
     return PART.findall(line)
 
 
-def rest_of(line):
-    # "the rest of the line, without the spaces, tabs and carriage returns before and after it"
-    rest = PART.sub("", line, count=1).strip(BLANKS)
-    return [rest] if rest else []
-
-
 def answer(line):
-    """The answer to one line, a character for each byte, and what it does to the open table and to files."""
+    """The answer to one line, a character for each byte, and what it does to the open table."""
     if len(line) > 1000:
         return "error: a line has at most 1000 bytes"
     parts = parts_of(line)
@@ -2149,15 +1947,15 @@ def answer(line):
         return "error: no such call; help shows them"
     form, kinds, call = FORMS[parts[0]]
     try:
-        values = read_arguments(kinds, rest_of(line) if kinds == ["FILE"] else parts[1:])
+        values = read_arguments(kinds, parts[1:])
     except Unreadable:
         return "error: write it as " + form
     return call(*values)
 
 
-def answers_to(lines, folder=None):
-    """The answers of one run, from no open table on, in a folder that has the first files."""
-    CONSOLE.table, CONSOLE.folder = None, folder or Folder(first_files())
+def answers_to(lines):
+    """The answers of one run, from no open table on."""
+    CONSOLE.table = None
     return [answer(line) for line in lines]
 
 
@@ -2340,7 +2138,7 @@ def check_table_lines():
 
 
 def check_by_hand():
-    for some in (ICE_DESK, BOTH_DESKS, COARSE, MARKS, FILES):
+    for some in (ICE_DESK, BOTH_DESKS, COARSE):
         for (line, text), found in zip(some, answers_to(line for line, _ in some)):
             must(found == text, "by hand", line, text, found)
     must(answers_to(["table 0", "get 0x2050000000000001"])[1] == refused(4), "4 before 20")
@@ -2371,8 +2169,6 @@ def internal_checks():
     check_opposite_lines()
     check_paper()
     check_paper_lines()
-    check_mark_lines()
-    check_table_files()
 
 
 # ==== Internal checks of what file and list are answered to degree 5
@@ -2759,7 +2555,7 @@ def deep_corner_calls(n, p, chance):
 
 # ==== The calls: refusals
 
-# The calls of 2026-11 to 2026-14 on a code or a name have their own, below.
+# The calls of 2026-11, 2026-12 and 2026-13 on a code or a name have their own, below.
 CODE_CALLS = {
     "check": [""],
     "parent": [""],
@@ -3034,7 +2830,7 @@ def unreadable_calls():
     """Every call with arguments missing, one too many, and each argument unreadable."""
     chance = random.Random(9)
     with_all = ["check", "check-name", "child", "file", "list", "ring", "sweep", "check-cells", "mend-cells"]
-    with_all += SMALL_CALLS + OPPOSITE_CALLS + PAPER_CALLS + ["edge-mark"]
+    with_all += SMALL_CALLS + OPPOSITE_CALLS + PAPER_CALLS
     for call, (_, kinds, _) in GRID_FORMS.items():
         good = good_arguments(kinds)
         least = len(kinds) - (kinds[-1] in ("[PLACES]", DIGIT_PLACES, "WEIGHTS", "[NUMBER]..", "[CODE].."))
@@ -3092,11 +2888,6 @@ UNKNOWN = """
     from_paper_vertex 20; frompapervertex 20; from-papervertex 20; from-paper-vertex20; from-paper-vertex: 20
     from-paper-vertex#; from-paper-vertex- 20; from-vertex 20; vertex 20; from-paper-vertex\u00a020
     vertex-from-paper 20; paper-from 100; S(100); V(20)
-    Edge-mark 100 1; edge-Mark 100 1; EDGE-MARK 100 1; edge_mark 100 1; edgemark 100 1; edge-marks 100 1; edge 100 1
-    edge-mar 100 1; edge- 100 1; edge-mark: 100 1; edge-mark, 100 1; edge-mark100 1; edge-mark#; -edge-mark 100 1
-    edge--mark 100 1; edge-mark- 100 1; edge-mark\u00a0100 1; mark-edge 100 1; marks-edge 100 1; segment 100 1
-    line 100 1; edges 100; edge-mark-1 100; edge-mark-small 0x20000000 1; name-mark 0x2000000000000001; dot 100
-    corner-mark 100 1
     drawn-name 100 1; exact-name 100 1; name-; -name; name-name 1; check#; check, 100; chéck 100; check\u00a0100
     \u2003check 100; \ufeffcheck 100; φ
 """
@@ -3117,7 +2908,6 @@ def unknown_calls():
     yield from ["paper-name\xff", "from-paper\x0b100", "\x00from-paper 100", "from-paper\xff", "from\x00paper 100"]
     yield from ["from-paper\x0c-vertex 20", "from-paper-vertex\x0b20", "\x00from-paper-vertex 20"]
     yield "from-paper-vertex\xff"
-    yield from ["edge-mark\x0b100 1", "edge-mark\x00", "\x0cedge-mark 100 1", "edge\x00mark 100 1", "edge-mark\xff"]
     yield as_bytes("check 100\u00a0")
 
 
@@ -3612,8 +3402,6 @@ WITHOUT_TABLE = """
     give 1 1001; give 2 0x1; give 18446744073709551615 7013; set 0 600 -1; set 0xFFFFFFFFFFFFFFFF 0x0 -2; clear 256 100
     coarse; coarse 100; coarse 1001; coarse 600; coarse 0xFFFFFFFFFFFFFFFF; work-out; counts 20 0; counts 0 0; sums 20 0
     counts 20481 18446744073709551615 20480 0; sums 0 5; sums 20 0 19 0xFFFFFFFFFFFFFFFF
-    mark 1001; mark 100; mark 600; mark 0x0; mark 0xFFFFFFFFFFFFFFFF; mark 100000000000000000000000000; save x; save .
-    save no-such-folder/x; save a b; save # note; save degree-0; save held
 """
 UNREADABLE_ON_TABLE = """
     table; table 0 20; table 0 20 -1 3; table 0 20 -1 3 5 4; table 0 20 -1 3 5 4 6 19; table x; table 7 3; table 25 x
@@ -3666,15 +3454,11 @@ UNREADABLE_ON_TABLE = """
     sums 20480 0 20480 1; sums 81920 0; sums 81921 0; sums 20 18446744073709551616; sums 20 0 3 18446744073709551616
     sums 20 0 0x14 1; sums 20 0 100 1; sums LENGTH FILL; sums [20 0]; sums 20, 0; sums 20 0 # note; sums # note
     sums 20 1250 mm; sums 20 0 3 1250 mm; sums 20 1.0; sums 20 0 3 0x; sums 20 0 3 1 x; sums sums
-    mark; mark 1; mark 0; mark x; mark all; mark 100 1; mark 100 101; mark 100 0; mark 1 100; mark 2 1001; mark 1001 x
-    mark 100 # note; mark #; mark CODE; mark DESK CODE; mark 600 1; mark 1004; mark 100,; mark -100; mark dot 100
-    mark edge 100 1; mark -edge 100 1; mark 100 5 mm; mark 0x; mark 2050000000000000; mark mark; mark nothing; mark 20 0
-    save; open
 """
 UNKNOWN_ON_TABLE = """
     Table 0; TABLE 0; tables 0; tabl 0; table0; table:0; table, 0; Set 1 100 5; SET 1 100 5; sets 1 100 5; se 1 100 5
     set1 100 5; set, 1 100 5; Get 100; GET 100; gets 100; got 100; ge 100; get100; Clear 1 100; CLEAR 1 100
-    clears 1 100; clear1 100; clea; clear-all; reading; Readings; READINGS; readings:; readings,; close
+    clears 1 100; clear1 100; clea; clear-all; reading; Readings; READINGS; readings:; readings,; open 0; close
     unset 1 100; put 1 100 5; fresh 0; table\u00a00; set\u00a01 100 5; get\u00a0100; readings\u00a0; holds 100
     1001 1250 mm; degree 1, 80 places; 1 take 100; 1 set 100 5; desk 1; desk 1 take 100; ice take 100; Take 1 100
     TAKE 1 100; takes 1 100; took 1 100; tak 1 100; take1 100; take, 1 100; take:; Give 1 100; GIVE 1 100; gives 1 100
@@ -3684,11 +3468,6 @@ UNKNOWN_ON_TABLE = """
     workout; work out; work_out; work -out; Work-out; WORK-OUT; work-out:; work-out100; work; -out; work-out\u00a0
     count; count 20 0; Counts 20 0; COUNTS 20 0; counts20 0; counts: 20 0; counts\u00a020 0; sum; sum 20 0; Sums 20 0
     SUMS 20 0; sums20 0; sums: 20 0; sums\u00a020 0; count 1 sum 5; 100 count 1 sum 5
-    Mark 100; MARK 100; marks; marks 100; mar 100; mark100; mark: 100; mark, 100; marked 100; mark#; mark- 100
-    -mark 100; mark\u00a0100; mark-code 100; mark-all; dot; nothing; Save x; SAVE x; saves x; sav x; save: x; save, x
-    saved; save-x; save#; -save x; save\u00a0x; savex; save-as x; Open degree-0; OPEN degree-0; opens degree-0; open#
-    ope degree-0; open: degree-0; open, degree-0; opened; opendegree-0; open-degree-0; -open degree-0; reopen
-    open\u00a0degree-0; load degree-0; read degree-0; write x; store x; degree-0; ./degree-0
 """
 BAD_LENGTHS = BAD_NUMBERS + "81922 163840 4294967296 4294967316 18446744073709551615 0x14002 000081922".split()
 BAD_PLACE_NUMBERS = BAD_NUMBERS + "20 21 0x14 00020 81920 4294967296 4294967299 18446744073709551615".split()
@@ -3708,7 +3487,6 @@ TABLE_ARGUMENTS = [
     ("owners", ["20", "0"], [BAD_LENGTHS, BAD_OWNERS]),
     ("owners", ["20", "0", "3", "1"], [BAD_LENGTHS, BAD_OWNERS, BAD_PLACE_NUMBERS, BAD_OWNERS]),
     ("coarse", ["100"], [BAD_TABLE_CODES]),
-    ("mark", ["100"], [BAD_TABLE_CODES]),
     ("counts", ["20", "0"], [BAD_PARENT_LENGTHS, BAD_NUMBERS]),
     ("counts", ["20", "0", "3", "1"], [BAD_NUMBERS, BAD_NUMBERS, BAD_PLACE_NUMBERS, BAD_NUMBERS]),
     ("sums", ["20", "0"], [BAD_PARENT_LENGTHS, BAD_NUMBERS]),
@@ -3731,7 +3509,6 @@ def unknown_table_lines():
     yield from ["readings\x00", "", " \t", "# table 0", "#readings", " # set 1 100 5"]
     yield from ["take\x0b1 100", "give\x0c1 100", "owners\x00", "owners\x0b20 0", "#owners", "# take 1 100"]
     yield from ["coarse\x0b100", "coarse\x00", "work-out\x0c", "counts\x0b20 0", "sums\x0020 0", "#coarse", "#work-out"]
-    yield from ["mark\x0b100", "mark\x00", "save\x0bx", "save\x00x", "open\x0cdegree-0", "open\x00", "#save x", "#open"]
 
 
 def before_any_table():
@@ -3857,7 +3634,7 @@ def desk_of(place):
 
 
 def sounding_line(call, desk, word, mm):
-    words = [call] + ([] if call in ("get", "mark", "coarse") else [desk]) + [word] + ([mm] if call == "set" else [])
+    words = [call] + ([] if call in ("get", "coarse") else [desk]) + [word] + ([mm] if call == "set" else [])
     return " ".join(map(str, words))
 
 
@@ -4119,9 +3896,6 @@ SOUNDING_NUMBERS = {
 }
 # Likewise for the calls on the counts and sums. `coarse` is the one with a code here.
 COARSE_NUMBERS = {"coarse": [1, 2, 3, 4, 20, 28], "work-out": [1, 20, 22, 23, 28]}
-# "It is refused just where `get CODE` is", and to save is refused for the lists of readings and of owners alone.
-MARK_NUMBERS, SAVE_NUMBERS = {"mark": SOUNDING_NUMBERS["get"]}, {"save": [1, 20, 22, 23, 25]}
-NO_WORD = {"work-out": "work-out", "save": "save trial"}  # The calls without a code, with their lines.
 PARENT_LISTS = ["counts", "sums"]
 # What a stored number may be off by, modulo 2^64, so that MOST is one too few.
 OFF_BY = [1, 2, 4, 2**8, 2**16, 2**31, 2**32, 2**32 + 1, 2**63, MOST, MOST - 1, MOST - 3, 100_000, MOST - 99_999]
@@ -4319,11 +4093,11 @@ FOR_OWNERS_LENGTH = {spoil_owners_short, spoil_owners_long, spoil_owners_length}
 def can_be(call, numbers, some):
     """In a word with a degree above 24 no digit is beyond it, for 3. A word that is no code of the table's degree has
     no place of its own, nor has any where the list of owners is too short; and no parent of its own, nor are there
-    children's readings where the list has the wrong length. To work out, or to save, takes no word, and the table's
-    degree is not 1 and 20 at once."""
+    children's readings where the list has the wrong length. To work out takes no word, and the table's degree is not 1
+    and 20 at once."""
     if 3 in numbers and SPOIL_WORD_DEGREE in some:
         return False
-    if call in NO_WORD and ({SPOIL_WORD_DEGREE, spoil_code_degree} & set(some) or {1, 20} <= set(numbers)):
+    if call == "work-out" and ({SPOIL_WORD_DEGREE, spoil_code_degree} & set(some) or {1, 20} <= set(numbers)):
         return False
     no_place = {1, 2, 3, 4, 20} & set(numbers)
     if set(SPOIL_STORED) & set(some) and (no_place or {22, 28} & set(numbers)):
@@ -4345,8 +4119,8 @@ def trial_calls(call, numbers, trial):
     lines.append(owned(trial.owner_length, trial.owner_fill, trial.owners.items()))
     table = Soundings(*read_table(parts_of(lines[0])[1:]))
     table.lay(*read_owners(parts_of(lines[1])[1:]))
-    # get and mark look at neither list.
-    for kind, true in tallied(trial.numbers.items()).items() if call not in ("get", "mark") else ():
+    # get looks at neither list.
+    for kind, true in tallied(trial.numbers.items()).items() if call != "get" else ():
         if trial.parent_fill[kind]:
             true = {}
         if trial.n != 0 or trial.parents[kind]:
@@ -4354,7 +4128,7 @@ def trial_calls(call, numbers, trial):
             table.lay_parents(kind, *read_parents(parts_of(lines[-1])[1:]))
     held = table.refusals(call, trial.desk, trial.word, trial.mm)
     must(set(numbers) <= held and first(held) == first(numbers), "meant to hold", call, numbers, held, trial)
-    line = NO_WORD.get(call) or sounding_line(call, trial.desk, word_text(trial.word), trial.mm)
+    line = call if call == "work-out" else sounding_line(call, trial.desk, word_text(trial.word), trial.mm)
     yield from [*lines, line, *SHOWN]
 
 
@@ -4368,11 +4142,8 @@ def number_sets(numbers):
 
 
 def table_refusal_calls():
-    yield from refusal_trials(random.Random(32), {**SOUNDING_NUMBERS, **COARSE_NUMBERS})
-
-
-def refusal_trials(chance, numbers_of):
-    for call, can_hold in numbers_of.items():
+    chance = random.Random(32)
+    for call, can_hold in {**SOUNDING_NUMBERS, **COARSE_NUMBERS}.items():
         for numbers in number_sets(can_hold):
             for ways in ways_to(chance, call, numbers):
                 # At degree 0 there are no triangles one degree up.
@@ -4889,19 +4660,17 @@ class Soundings:
 
     def refusals(self, call, desk, code, mm):
         wrong = self.own_refusals()
-        if call not in NO_WORD:
+        if call != "work-out":
             wrong |= code_refusals(code) | when(20, degree_of(code) != self.n - (call == "coarse"))
         if call != "coarse":
             wrong |= when(22, not self.right_length) | when(23, self.bad)
-        if call not in ("get", "mark", "save"):
+        if call != "get":
             wrong |= when(28, not self.right_parents())
-        if call in (*CALLS[:4], "save"):
-            wrong |= when(25, self.others or not self.right_owners)
         if call not in CALLS[:4]:
             return wrong
         owner = self.owner_of(code)
         wrong |= when(21, call == "set" and mm not in range(100_001)) | when(24, desk != 1 and desk != 2)
-        wrong |= when(26, owner not in (None, 0, desk))
+        wrong |= when(25, self.others or not self.right_owners) | when(26, owner not in (None, 0, desk))
         return wrong | when(27, owner == 0 and call != "take") | when(29, self.is_off(code))
 
     def work_out(self):
@@ -4912,8 +4681,6 @@ class Soundings:
     def answer(self, call, desk, code, mm):
         if call == "get":
             return f"{self.map[code]} mm" if code in self.map else "no reading"
-        if call == "mark":
-            return "dot " + answer(f"drawn {word_text(code)} 1") if code in self.map else "nothing"
         if call == "coarse":
             return coarse_text(*self.stored_for(code))
         if call == "work-out":
@@ -4959,7 +4726,7 @@ def read_sounding(call, words):
     """The desk, the code and the reading, zeros where there are none."""
     if call == "work-out":
         return 0, 0, 0
-    desk, *words = [0] + words if call in ("get", "mark", "coarse") else [read_number(words[0])] + words[1:]
+    desk, *words = [0] + words if call in ("get", "coarse") else [read_number(words[0])] + words[1:]
     return desk, read_code(words[0]), read_signed(words[1]) if call == "set" else 0
 
 
@@ -4991,68 +4758,15 @@ def watched_call(table, call, words, text):
     return Sounded(call, table.n, no, frozenset(held), *asked, *before)
 
 
-FILE_LINE = re.compile("[ \t\r]*(save|open)[ \t\r]+([^ \t\r](.*[^ \t\r])?)[ \t\r]*")
-CAN_NOT = -1  # In place of a refusal: the file cannot be read or written.
-
-
-def file_name(line):
-    """FILE, without dots for the folder itself and slashes that say nothing."""
-    return re.sub(r"(^|/)(\./|/)+", r"\1", FILE_LINE.fullmatch(line)[2])
-
-
-def watched_save(table, files, line, text):
-    """A save, and what it leaves among the files: the table as its maps."""
-    name = file_name(line)
-    held = table.refusals("save", 0, 0, 0)
-    no = first(held)
-    folder, _, last = name.rpartition("/")
-    can = folder in ("", *FIRST_FOLDERS) and last not in ("", ".", *FIRST_FOLDERS)
-    can &= len(last) < 252 and "\0" not in name
-    if not no and can and name + ".new" not in {*files, *FIRST_FOLDERS}:
-        must(text == "ok", "saved", line, text)
-        files[name] = table.n, dict(table.map), dict(table.desk)
-        return Sounded("save", table.n, 0, frozenset(held))
-    must(text == (refused_text(no, table.bad) if no else UNWRITTEN), "not saved", line, text)
-    return Sounded("save", table.n, no or CAN_NOT, frozenset(held))
-
-
-def watched_open(table, files, line, text):
-    """An open, and the table that is open after it: that of the maps when it was saved, or that of the numbers with
-    which the file was made. It was made to be refused, or not."""
-    name = file_name(line)
-    if name not in files:
-        must(text == UNOPENED, "no such file", line, text)
-        return table, Sounded("open", 0, CAN_NOT, frozenset())
-    if isinstance(files[name], FileCase):
-        case = files[name]
-        if case.held:
-            must(text == refused_text(first(case.held), [case.place]), "made to be refused", line, text)
-            return table, Sounded("open", None, first(case.held), frozenset(case.held), bad=[case.place])
-        n, readings, owners = case.numbers
-    else:
-        n, had, desk = files[name]
-        readings, owners = ([x.get(code, none) for code in codes_of(n)] for x, none in ((had, -1), (desk, 0)))
-    must(text == f"degree {n}, {20 * 4**n} places", "opened", line, text)
-    table = Soundings(n, readings)
-    table.lay(owners)
-    table.work_out()
-    return table, Sounded("open", n, 0, frozenset())
-
-
 def watched_calls(calls, answers):
     """Every readable call on a table, with what it was answered."""
-    table, files = None, dict(file_cases())
+    table = None
     for line, text in zip(calls, answers):
         if TABLE_LINE.match(line) and not text.startswith(UNREAD):
             call, *words = parts_of(line)
-            if call not in ("table", "open"):
+            if call != "table":
                 must((text == NO_TABLE) == (table is None), "no table is open", line)
-            if call == "open":
-                table, seen = watched_open(table, files, line, text)
-                yield seen
-            elif call == "save" and table is not None:
-                yield watched_save(table, files, line, text)
-            elif call == "table":
+            if call == "table":
                 n, *numbers = read_table(words)
                 held = when(1, n > 24) | when(20, 7 <= n <= 24) if not numbers else set()
                 must(text.startswith(f"refused {first(held)}: " if held else f"degree {n}, "), "opened", line, text)
@@ -5078,10 +4792,10 @@ def check_sounding_numbers(call, numbers, seen):
     20, if only the table's degree is given; and for 24: what is no desk owns nothing, for 26 and 27."""
     must({x.no for x in seen} == {0, *numbers}, "just these refusals, and answers", call)
     held = {x.held for x in seen}
-    never = {(26, 27), (1, 20)} if call in NO_WORD else {(26, 27)}
+    never = {(26, 27), (1, 20)} if call == "work-out" else {(26, 27)}
     for some in [set(x) for x in alone_and_in_pairs(numbers) if x and x not in never]:
         must(any(x.held >= some and x.no == first(some) for x in seen), "at once", call, some)
-        may = {20, 22, 25, 28} if 1 in some else {22, 25, 28} if 20 in some and call in NO_WORD else set()
+        may = {20, 22, 25, 28} if 1 in some else {22, 28} if 20 in some and call == "work-out" else set()
         may |= {26, 27} if 24 in some and call != "take" else set()
         must(any(some <= x <= some | may for x in held), "without a third", call, some)
     must(all(x & {20, 22, 28} for x in held if 1 in x), "1 is not alone", call)
@@ -5168,11 +4882,9 @@ def check_soundings(calls, answers):
             check_bad_places(call, 25, some)
             check_desks(call, some)
             check_parents(call, some)
-    for call, numbers in {**COARSE_NUMBERS, **MARK_NUMBERS, **SAVE_NUMBERS}.items():
-        check_sounding_numbers(call, numbers, [x for x in seen if x.call == call and x.no != CAN_NOT])
+    for call, numbers in COARSE_NUMBERS.items():
+        check_sounding_numbers(call, numbers, [x for x in seen if x.call == call])
     check_sounded_codes(seen)
-    check_table_marks([x for x in seen if x.call == "mark"])
-    check_files(calls, answers, [x for x in seen if x.call in ("save", "open")])
     must({x.no for x in seen if x.call == "table"} == {0, 1, 20}, "tables refused")
     must({x.no for x in seen if x.call == "readings"} == {0, 1, 20, 22}, "readings refused")
     must({x.no for x in seen if x.call == "owners"} == {0, 1, 20, 25}, "owners refused")
@@ -5185,7 +4897,7 @@ def check_totals(calls, answers):
     # "the total over all parents equals the count and sum of readings present according to the history of calls from a
     # fresh table (no readings, no owners, sums 0)"
     compared = dict.fromkeys(range(TABLE_DEEPEST + 1), 0)
-    n, present, saved = 0, None, {}
+    n, present = 0, None
     for line, text in zip(calls, answers):
         if not TABLE_LINE.match(line) or text.startswith(("error: ", "refused ")):
             continue
@@ -5193,11 +4905,6 @@ def check_totals(calls, answers):
         if call in ("table", "owners", "counts", "sums") and (words or call == "table"):
             # Where a list is laid, it is no history of calls from a fresh table.
             n, present = (read_number(words[0]), {}) if len(words) == 1 else (0, None)
-        elif call == "save":
-            saved[file_name(line)] = n, None if present is None else dict(present)
-        elif call == "open":
-            n, present = saved.get(file_name(line), (0, None))
-            present = None if present is None else dict(present)
         elif present is not None and call == "set":
             present[read_code(words[1])] = int(words[2])
         elif present is not None and call in ("clear", "give"):
@@ -8577,809 +8284,6 @@ def check_paper_lines():
         must(answer(line) == "error: write it as " + FORMS[line.split(" ")[0]][0], "unreadable", line)
 
 
-# ==== The calls: marks, examples with the answers written out by hand
-
-# Side 401 is V(41), V(50), V(40), with the directions (-φ, 0, -1), (-φ, 0, 1), (-1, φ, 0); side 311 has V(40) and V(41)
-# as its corners 1 and 3. At degree 0 φ is drawn as 106039 / 65536. Of 1001 the corners are 2·V(00), V(00) + V(10) and
-# V(00) + V(20), with (0, 2, 2φ), (0, 0, 2φ) and (φ, 1, 1 + φ); 2φ is drawn as 212079 / 131072, φ as 106039 / 131072
-# and 1 + φ as 171575 / 131072. E8: corners 1 and 3 of 1001 are 1 and 2 of 2001. E9: corners 2 and 3 of 1002, which are
-# 2·V(10) and V(10) + V(20), are 3 and 2 of 1013, so that its segment goes the other way.
-EDGE_MARK_TEXT = """
-    edge-mark 401 1 -> segment x -1.6180267333984375 y 0 z 1 to x -1 y 1.6180267333984375 z 0
-    edge-mark 401 2 -> segment x -1.6180267333984375 y 0 z -1 to x -1 y 1.6180267333984375 z 0
-    edge-mark 401 3 -> segment x -1.6180267333984375 y 0 z -1 to x -1.6180267333984375 y 0 z 1
-    edge-mark 311 2 -> segment x -1 y 1.6180267333984375 z 0 to x -1.6180267333984375 y 0 z -1
-    edge-mark 100 1 -> segment x 0 y -1 z 1.6180267333984375 to x 1.6180267333984375 y 0 z 1
-    edge-mark 100 2 -> segment x 0 y 1 z 1.6180267333984375 to x 1.6180267333984375 y 0 z 1
-    edge-mark 100 3 -> segment x 0 y 1 z 1.6180267333984375 to x 0 y -1 z 1.6180267333984375
-    edge-mark 1001 1 -> segment M3 to M2
-    edge-mark 1001 2 -> segment x 0 y 1 z 1.61803436279296875 to M2
-    edge-mark 1001 3 -> segment x 0 y 1 z 1.61803436279296875 to M3
-    edge-mark 0x2050000000000000 2 -> segment x 0 y 1 z 1.61803436279296875 to M2
-    edge-mark 2001 3 -> segment x 0 y 1 z 1.61803436279296875 to M2
-    edge-mark 1000 1 -> segment M2 to M3
-    edge-mark 1002 1 -> segment x 0 y -1 z 1.61803436279296875 to M1
-    edge-mark 1013 1 -> segment M1 to x 0 y -1 z 1.61803436279296875
-    edge-mark 100 0 -> refused 5
-    edge-mark 100 4 -> refused 5
-    edge-mark 100 18446744073709551615 -> refused 5
-    edge-mark 100 4294967297 -> refused 5
-    edge-mark 0x2640000000000000 1 -> refused 1
-    edge-mark 0xC640000000000000 4 -> refused 1
-    edge-mark 600 1 -> refused 2
-    edge-mark 000 4 -> refused 2
-    edge-mark 0xC010000000000000 1 -> refused 2
-    edge-mark 0x2010000000000000 2 -> refused 3
-    edge-mark 0x2010000000000001 0 -> refused 3
-    edge-mark 0x2000000000000001 3 -> refused 4
-    edge-mark 0x2000000000000004 4 -> refused 4
-"""
-MIDDLES = {"M1": "x 0.80901336669921875 y -0.5 z 1.30901336669921875", "M3": "x 0 y 0 z 1.61803436279296875"}
-MIDDLES["M2"] = "x 0.80901336669921875 y 0.5 z 1.30901336669921875"
-EDGE_MARK_LINES = re.sub("M[123]", lambda found: MIDDLES[found[0]], EDGE_MARK_TEXT).strip().split("\n")
-EDGE_MARK_EXAMPLES = dict(map(in_words, EDGE_MARK_LINES))
-
-# A reading of 0 is one. Corner 1 of 1001 is 2·V(00), that of 5113 is the middle of V(10) and V(11), V(10) + V(11), with
-# (1, -1 - φ, φ): 511 is V(10), V(51), V(11), and its child 3 is M2, M1, A3.
-MARK_TEXT = """
-    table 1 -> degree 1, 80 places
-    mark 1001 -> nothing
-    take 1 1001 -> ok
-    mark 1001 -> nothing
-    set 1 1001 1250 -> ok
-    mark 1001 -> dot x 0 y 1 z 1.61803436279296875
-    mark 0x2050000000000000 -> dot x 0 y 1 z 1.61803436279296875
-    mark 1000 -> nothing
-    mark 1002 -> nothing
-    set 1 1001 0 -> ok
-    mark 1001 -> dot x 0 y 1 z 1.61803436279296875
-    take 2 5113 -> ok
-    set 2 5113 100000 -> ok
-    mark 5113 -> dot x 0.5 y -1.30901336669921875 z 0.80901336669921875
-    mark 100 -> refused 20: wrong degree
-    mark 10003 -> refused 20: wrong degree
-    mark 600 -> refused 2: a is 0, 6 or 7
-    mark 0x0050000000000001 -> refused 2: a is 0, 6 or 7
-    clear 1 1001 -> ok
-    mark 1001 -> nothing
-    mark 5113 -> dot x 0.5 y -1.30901336669921875 z 0.80901336669921875
-    give 2 5113 -> ok
-    mark 5113 -> nothing
-    table 0 20 0 -> degree 0, 20 places
-    owners 3 7 -> 3 places
-    counts 9 1 -> 9 places
-    mark 401 -> dot x -1.6180267333984375 y 0 z -1
-    mark 100 -> dot x 0 y 1 z 1.6180267333984375
-    table 1 80 -1 79 100000 3 -2 1 5 -> degree 1, 80 places
-    mark 1001 -> refused 23: the list holds a number that is neither a reading nor -1; place 3
-    mark 1000 -> refused 23: the list holds a number that is neither a reading nor -1; place 3
-    mark 100 -> refused 20: wrong degree
-    table 1 79 5 0 -2 -> degree 1, 79 places
-    mark 1001 -> refused 22: the list's length isn't 20*4^degree
-    table 7 3 500 -> degree 7, 3 places
-    mark 1001 -> refused 20: wrong degree
-    table 25 20 -1 -> degree 25, 20 places
-    mark 1001 -> refused 1: a degree, as field or argument, is above 24
-"""
-MARKS = by_hand(MARK_TEXT)
-
-
-# ==== The calls: marks of the edges of every triangle to degree 4, and of some below
-
-MARKED_WHOLE = 4
-
-
-def every_edge_mark():
-    """Each ninth triangle of degree 5 too."""
-    for n in range(MARKED_WHOLE + 2):
-        for at, code in enumerate(whole_degree(n)):
-            if n <= MARKED_WHOLE or at % 9 == 4:
-                yield from (f"edge-mark {some_form(code, at + edge)} {edge}" for edge in (1, 2, 3))
-
-
-def deep_edge_marks():
-    """A triangle's edges, and the same from the other side; with what is drawn for its corners, bit for bit. Where two
-    sides a00 meet, the lower corner is the lower one on both sides of an edge."""
-    chance = random.Random(191)
-    for n in range(MARKED_WHOLE + 1, DEEPEST + 1):
-        codes = [make(chance, n) for make in (random_code, random_code, random_code, seam_code, seam_code)]
-        for code in [*codes, make_code((chance.randint(1, 5), 0, 0), [chance.choice((1, 3)) for _ in range(n)])]:
-            for edge in (1, 2, 3):
-                other, shared = neighbour(code, edge)
-                yield from [f"edge-mark {any_form(chance, code)} {edge}", f"cross {any_form(chance, code)} {edge}"]
-                yield f"edge-mark {any_form(chance, other)} {shared}"
-                yield from (f"{call} {any_form(chance, code)} {edge}" for call in ("drawn", "bits"))
-
-
-def damaged_edge_marks():
-    """Words with one bit turned over, a value that a field must not have, or two such, with an edge and with none; and
-    good words with none."""
-    chance = random.Random(192)
-    for word in words_of_all_kinds(chance, (0, 1, 5, 14, 23, 24), (0, 4, 24)):
-        yield f"edge-mark {cell_form(chance, word)} {chance.choice([1, 2, 3])}"
-        yield f"edge-mark {cell_form(chance, word)} {chance.choice([0, 4, MOST, chance.choice(OUTSIDE_EDGES)])}"
-    for n in range(DEEPEST + 1):
-        for edge in (0, 4, MOST, *chance.sample(OUTSIDE_EDGES, 3)):
-            yield f"edge-mark {any_form(chance, random_code(chance, n))} {edge}"
-
-
-UNREADABLE_EDGE_MARKS = """
-    edge-mark; edge-mark 100; edge-mark 1; edge-mark x; edge-mark 100 x; edge-mark x 1; edge-mark 1 100
-    edge-mark 100 -1; edge-mark 100 +1; edge-mark 100 1.0; edge-mark 100 1 2; edge-mark 100 1 1; edge-mark 100 #
-    edge-mark 100 1 # note
-    edge-mark 100 18446744073709551616; edge-mark 100 0x10000000000000000; edge-mark 100 0x; edge-mark 0x 1
-    edge-mark 10 1; edge-mark 800 1; edge-mark 1004 1; edge-mark 100, 1; edge-mark 100 1,; edge-mark CODE EDGE
-    edge-mark 600; edge-mark 600 x; edge-mark 0x0; edge-mark 0x0 4 4; edge-mark 600 -1; edge-mark 100 edge 1
-    edge-mark 100 1 to 2; edge-mark 2050000000000000 1; edge-mark 1000000000000000000000000000 1; edge-mark -100 1
-    edge-mark 100 one; edge-mark edge-mark 100 1; edge-mark 100 1\u00a0; edge-mark 100 ١; edge-mark ١٠٠ 1
-"""
-
-
-def unreadable_edge_marks():
-    """What can not be read is said before any refusal."""
-    yield from written(UNREADABLE_EDGE_MARKS)
-    yield from ["edge-mark 100 1\x00", "edge-mark 100\x0b1", "edge-mark \x0c100 1", "edge-mark 100 \xff"]
-    yield filled("edge-mark 100", 998) + " x"
-
-
-READABLE_EDGE_MARKS = """
-    edge-mark 100 0x1; edge-mark 100 01; edge-mark 100 000000000000000000000000000000000003; edge-mark 100 0x4
-    edge-mark 0xb800000000000000 2; edge-mark 0xB800000000000000 0x02; edge-mark 0x0 1; edge-mark 0x1 0x0
-    edge-mark 000 0; edge-mark 711333333333333333333333333 1; edge-mark 511333333333333333333333333 1
-    edge-mark 100 0xFFFFFFFFFFFFFFFF
-    edge-mark 511333333333333333333333333 2; edge-mark 0xaBcDeF0123456789 3; edge-mark 100 18446744073709551615
-"""
-
-
-def spaced_edge_marks():
-    """Either case, tabs and carriage returns, and lines of 1000 bytes and more."""
-    yield from written(READABLE_EDGE_MARKS)
-    yield from ["\tedge-mark\t1001\t2\t", "edge-mark 10003 1\r", "  edge-mark   511   3  ", "\redge-mark\r100\r1"]
-    for length in (999, 1000, 1001, 2000):
-        yield filled("edge-mark 1001 2", length)
-        yield " " * (length - len("edge-mark 100 1")) + "edge-mark 100 1"
-        yield "edge-mark 100 " + "0" * (length - 15) + "3"
-        yield "edge-mark 1001 2"
-
-
-def edge_marks_on_table():
-    """They leave the open table as it is, also one that is refused or can not be read."""
-    for line in ("table 1 80 -1 1 1250 79 0", "table 7 3 500"):
-        yield line
-        for other in ("edge-mark 1001 2", "edge-mark 5113 1", "edge-mark 600 1", "edge-mark 1001 4", "edge-mark 1001"):
-            yield from [other, "mark 1001", "mark 1002", "readings"]
-
-
-# ==== The calls: marks of every place of the tables of degree 0 to 3, and of some below
-
-
-def mark_line(code, at):
-    return f"mark {some_form(code, at)}"
-
-
-def marked(code, at):
-    """The mark, and the reading that it is of."""
-    return [mark_line(code, at), f"get {some_form(code, at + 1)}"]
-
-
-def set_zero_or_own(code, at):
-    """A reading of 0 is one."""
-    place = place_of(code)
-    return sounding_line("set", desk_of(place), some_form(code, at), mm_of(place) if at % 3 else 0)
-
-
-def marks_place_by_place(chance, n):
-    """Each place before it is taken, when it is and has no reading, when it has one, and when that is cleared or given
-    back; and all of them when all have one."""
-    yield f"table {n}"
-    for at, code in enumerate(chance.sample(codes_of(n), len(codes_of(n)))):
-        yield from [mark_line(code, at), own_line("take", code, at)]
-        yield from [mark_line(code, at)] if n <= 1 or at % 4 == 0 else []
-        yield from [set_zero_or_own(code, at), mark_line(code, at + 1)]
-    for at, code in enumerate(codes_of(n)):
-        yield from marked(code, at)
-    for at, code in enumerate(chance.sample(codes_of(n), len(codes_of(n)))):
-        yield from [own_line(("clear", "give")[at % 2], code, at), mark_line(code, at)]
-    yield from SHOWN
-
-
-def every_mark():
-    chance = random.Random(193)
-    for n in range(4):
-        yield from marks_place_by_place(chance, n)
-    for n in range(3):
-        for fill in (0, 100_000, NOTHING):
-            yield opened(n, 20 * 4**n, fill)
-            yield from (mark_line(code, at) for at, code in enumerate(codes_of(n)))
-    for n in range(2):
-        for place, code in enumerate(codes_of(n)):
-            beside = codes_of(n)[(place + 1) % len(codes_of(n))]
-            yield opened(n, 20 * 4**n, NOTHING, [(place, (0, 1250)[place % 2])])
-            yield from [*marked(code, place), *marked(beside, place)]
-
-
-def some_marks():
-    """At degrees 3 to 6, with what lies beside; and in a table that is full."""
-    chance = random.Random(194)
-    for n, many in ((3, 24), (4, 60), (5, 40), (6, 16)):
-        places = chosen_places(chance, n, many)
-        yield f"table {n}"
-        for place in places:
-            code = codes_of(n)[place]
-            yield from [mark_line(code, place), own_line("take", code, place), set_zero_or_own(code, place)]
-            for near in (place - 1, place, (place + 1) % (20 * 4**n)):
-                yield mark_line(codes_of(n)[near], near)
-        for at, place in enumerate(places):
-            code = codes_of(n)[place]
-            yield from [own_line("clear" if at % 2 else "give", code, at), *marked(code, at)]
-        yield opened(n, 20 * 4**n, 0, [(places[0], NOTHING), (places[1], 100_000)])
-        for place in places:
-            yield from marked(codes_of(n)[place], place)
-    for n in range(MARKED_WHOLE + 1):
-        # What is drawn for a dot is drawn for the ends of two of the triangle's edges.
-        yield f"table {n} {20 * 4**n} 0"
-        for place in chosen_places(chance, n, 12):
-            code = codes_of(n)[place]
-            yield from [mark_line(code, place), *(f"edge-mark {some_form(code, place + k)} {k}" for k in (2, 3))]
-
-
-def mark_refusal_calls():
-    chance = random.Random(195)
-    yield from refusal_trials(chance, MARK_NUMBERS)
-    for n in range(TABLE_DEEPEST + 1):
-        code, places = bad_places_of(chance, n)
-        for value in BAD_READINGS if n <= 1 else chance.sample(BAD_READINGS, 2 if n <= 3 else 1):
-            for place in places:
-                yield opened(n, 20 * 4**n, chance.choice([NOTHING, 0, 777]), [(place, value)])
-                yield from marked(code, chance.randrange(4))
-        for _ in range(6 if n <= 3 else 1):
-            some = chance.sample(range(20 * 4**n), 4)
-            yield opened(n, 20 * 4**n, NOTHING, [(place, chance.choice(BAD_READINGS)) for place in some])
-            yield from marked(codes_of(n)[chance.choice(some)], 0)
-    for n in range(TABLE_DEEPEST + 1):
-        right = 20 * 4**n
-        for length in dict.fromkeys([0, 1, right - 1, right + 1, right // 4, min(right * 4, LONGEST_TABLE)]):
-            if length != right:
-                yield opened(n, length, chance.choice([NOTHING, 0, 5, -2]))
-                yield from marked(codes_of(n)[0], length)
-                yield from marked(chance.choice(codes_of(n)), length)
-    for n in ABOVE_TABLES + ABOVE_ALL:
-        like = random_code(chance, n) if n <= DEEPEST else with_degree(random_code(chance, 3), n) & ~(2**54 - 1)
-        for length in (0, 20, 80):
-            yield opened(n, length, chance.choice([NOTHING, 0, -2]))
-            for word in (like, random_code(chance, chance.randrange(TABLE_DEEPEST + 1))):
-                yield from (f"{call} {any_form(chance, word)}" for call in ("mark", "get"))
-    yield "table 2 320 5"
-    for word in words_of_all_kinds(chance, (0, 1, 2, 2, 3, 24), (2,)):
-        yield from (f"{call} {cell_form(chance, word)}" for call in ("mark", "get"))
-
-
-def spaced_marks():
-    """Either case, tabs and carriage returns, and lines of 1000 bytes and more. No mark changes the table."""
-    yield from ["table 0 20 -1 0 0 19 7", "owners 20 0 0 1"]
-    lines = ["\tmark\t100\r", "mark 511\r", "  mark   511  ", "\rmark\r100", "mark 0xb800000000000000"]
-    lines += ["mark 0xB800000000000000", "mark 0x0", "mark 0x00", "mark 000", "mark 711", "mark 0xaBcDeF0123456789"]
-    for length in (999, 1000, 1001, 2000):
-        lines += [filled("mark 100", length), " " * (length - len("mark 101")) + "mark 101", filled("mark", length)]
-    for line in lines:
-        yield from [line, *SHOWN]
-
-
-def mark_story_calls():
-    yield from (line for line, _ in MARKS)
-
-
-# ==== Internal checks of what is answered to marks
-
-EDGE_MARK_LINE = re.compile(r"[ \t\r]*edge-mark(?![^ \t\r])")
-POINT = "x [-.0-9]+ y [-.0-9]+ z [-.0-9]+"
-SEGMENT = re.compile(f"segment ({POINT}) to ({POINT})")
-EdgeMarkSeen = namedtuple("EdgeMarkSeen", "code edge held no points")
-
-
-def corner_answers(call, calls, answers):
-    """What was answered for each code and corner."""
-    found = {}
-    for line, text in zip(calls, answers):
-        if line.startswith(call + " ") and text.startswith("x "):
-            _, code, number = parts_of(line)
-            found[read_code(code), read_number(number)] = text
-    return found
-
-
-def bits_text(point):
-    """The bits of a point that is written in decimals."""
-    return axes(word_text(*words_of(struct.pack(">d", float(x)))) for x in point.split(" ")[1::2])
-
-
-def seen_edge_mark(line, text, drawn, bits):
-    """An edge's mark, compared with what is drawn for its two corners, the lower number first."""
-    code, edge = read_arguments(FORMS["edge-mark"][1], parts_of(line)[1:])
-    held = code_refusals(code) | when(5, not 1 <= edge <= 3)
-    no = first(held)
-    if no:
-        # "Refusals are those already numbered": it is refused as a step over the edge is.
-        must(text == refused(no) == call_cross(code, edge), "refused as cross is", line, text)
-        return EdgeMarkSeen(code, edge, held, no, None)
-    points = SEGMENT.fullmatch(text)
-    must(points and " y " in text, "a segment", line, text)
-    lower, higher = {1: (2, 3), 2: (1, 3), 3: (1, 2)}[edge]
-    for number, point in ((lower, points[1]), (higher, points[2])):
-        word = word_text(code)
-        must(point == (drawn.get((code, number)) or answer(f"drawn {word} {number}")), "as drawn", line, number, text)
-        # "equal bit for bit"
-        must(bits_text(point) == (bits.get((code, number)) or answer(f"bits {word} {number}")), "bits", line, text)
-    must(points[1] != points[2], "two points", line, text)
-    return EdgeMarkSeen(code, edge, held, 0, points.groups())
-
-
-def check_edge_mark_answers(calls, answers):
-    """Each triangle to degree 4 has its three marks; and each edge, from its two sides, the same two points, in the
-    order in which its corners turned."""
-    drawn, bits = (corner_answers(call, calls, answers) for call in ("drawn", "bits"))
-    lines = [(line, text) for line, text in zip(calls, answers) if EDGE_MARK_LINE.match(line)]
-    seen = [seen_edge_mark(line, text, drawn, bits) for line, text in lines if not text.startswith(UNREAD)]
-    found = {(x.code, x.edge): x.points for x in seen if x.no == 0}
-    met, turned = Counter(), set()
-    for (code, edge), (other, shared, (one, two)) in crossings_answered(calls, answers).items():
-        if (code, edge) in found and (other, shared) in found:
-            here, there = found[code, edge], found[other, shared]
-            must(there == (here if one < two else here[::-1]), "the same segment from both sides", code, edge)
-            met[degree_of(code), edge] += 1
-            turned.add((degree_of(code), one < two))
-    for n, edge in itertools.product(range(DEEPEST + 1), (1, 2, 3)):
-        many = met[n, edge]
-        must(many == 20 * 4**n if n <= MARKED_WHOLE else many > 0, "from both sides", n, edge, many)
-    must({(n, way) for n in range(DEEPEST + 1) for way in (True, False)} <= turned, "turned both ways", turned)
-    must({x.no for x in seen} == {0, 1, 2, 3, 4, 5}, "just these refusals, and answers")
-    at_once = {frozenset(two) for x in seen for two in itertools.combinations(x.held, 2)}
-    must(at_once == together("edge-mark", {1, 2, 3, 4, 5}), "just these at once", at_once)
-    must({x.edge for x in seen if x.held == {5}} >= {0, 4, MOST, *OUTSIDE_EDGES}, "other edges")
-    for n in range(DEEPEST + 1):
-        must({x.no for x in seen if degree_of(x.code) == n} >= {0, 5}, "at each degree", n)
-
-
-def check_table_marks(seen):
-    """Every place to degree 3 is asked with a reading, with one of 0, or none; and some at each degree below. 23 is
-    answered at every degree, with the first place, the last, the code's own, and one on either side of it."""
-    check_bad_places("mark", 23, seen)
-    answered = [x for x in seen if x.no == 0]
-    for n in range(TABLE_DEEPEST + 1):
-        for none in (True, False):
-            codes = {x.code for x in answered if x.n == n and (x.had is None) == none}
-            must(len(codes) >= (len(codes_of(n)) if n <= 3 else 12), "with a reading and without", n, none)
-        must({0, 100_000} <= {x.had for x in answered if x.n == n}, "the least reading and the greatest", n)
-
-
-def check_mark_pairs(calls, answers):
-    """Where get follows mark, on the same triangle: the same refusal, or a dot just where there is a reading."""
-    met = Counter()
-    for (line, text), (after_it, told) in itertools.pairwise(zip(calls, answers)):
-        if line.startswith("mark ") and after_it.startswith("get "):
-            asked, got = (read_code(*parts_of(x)[1:]) for x in (line, after_it))
-            if asked == got:
-                kind = "refused" if text.startswith("refused ") else told if told == "no reading" else "reading"
-                same = {"refused": text, "no reading": "nothing", "reading": "dot " + text[4:]}[kind]
-                must(text == same and (kind != "refused" or told == text), "as get", line, text, told)
-                must(kind != "reading" or re.fullmatch(f"dot {POINT}", text), "a dot", line, text)
-                met[kind] += 1
-    must(min(met[kind] for kind in ("refused", "no reading", "reading")) > 500, "compared with get", met)
-
-
-def check_mark_lines():
-    """The answers by hand. And lines that can not be read are all answered by the call's form."""
-    for line, text in EDGE_MARK_EXAMPLES.items():
-        must(answer(line) == text, "by hand", line, text, answer(line))
-    for line in unreadable_edge_marks():
-        must(answer(line) == "error: write it as edge-mark CODE EDGE", "unreadable", line)
-
-
-# ==== The files that are there at the beginning
-
-# The bytes; the refusals that were made to hold, and the least bad place; and the numbers of a table that is good, as
-# its degree, readings and owners.
-FileCase = namedtuple("FileCase", "data held place numbers", defaults=[frozenset(), None, None])
-FIRST_FOLDERS = ("folder", "taken.new")
-OTHER_READINGS = [100_001, 100_002, -2, -3, -100_000, 2**16 + 100_000, 2**31 - 1, 2**31, -(2**31), 2**32 - 1, 2**32]
-# In 32 bits or in a byte some of these would be -1, 0 or 5; and the first byte last, 1, 2 or 100.
-OTHER_READINGS += [2**32 + 5, -(2**32), 2**63 - 1, 2**63, 2**63 + 5, 1 << 56, 100 << 56]
-OTHER_OWNER_NUMBERS = [3, 4, 127, 128, 255, 256, 257, 258, 2**16 + 1, 2**31, 2**32, 2**32 + 1, 2**32 + 2, 1 << 56]
-OTHER_OWNER_NUMBERS += [2 << 56, 2**63, 2**63 + 1, -1, -2, -3]
-
-
-def number_bytes(number):
-    return number.to_bytes(8, "big", signed=number < 0)
-
-
-def table_bytes(n, readings, owners):
-    return b"".join(map(number_bytes, (n, *readings, *owners)))
-
-
-def any_table(chance, n):
-    """Readings and owners, in the first place and the last and in some between."""
-    length = 20 * 4**n
-    readings, owners = [NOTHING] * length, [NOBODY] * length
-    for place in chosen_places(chance, n, min(length, 20 + 8 * n)):
-        readings[place] = chance.choice([NOTHING, 0, 1, 99_999, 100_000, chance.randint(2, 99_998)])
-        owners[place] = chance.choice([NOBODY, *DESKS])
-    return readings, owners
-
-
-def good_file(chance, n, **numbers):
-    """A table's file, with some of its readings and owners as given."""
-    lists = dict(zip(("readings", "owners"), any_table(chance, n)))
-    for kind, some in numbers.items():
-        for place, number in some.items():
-            lists[kind][place] = number
-    return FileCase(table_bytes(n, *lists.values()), numbers=(n, *lists.values()))
-
-
-def bad_file(chance, n, readings=(), owners=()):
-    """The same with numbers that are none."""
-    case = good_file(chance, n, readings=dict(readings), owners=dict(owners))
-    return FileCase(case.data, when(23, readings) | when(25, owners), min(readings, default=None))
-
-
-def other_heads(chance):
-    """Files of degree 0 and 1 that tell another degree, also one that a shorter number would take for the right one."""
-    for n in (0, 1, 2):
-        for head in (x for x in range(TABLE_DEEPEST + 1) if x != n):
-            yield f"{n}-head-{head}", number_bytes(head) + good_file(chance, n).data[8:], {22}
-    for n in (0, 1):
-        heads = [7, 8, 23, 24, 25, 26, 31, 32, 255, 256 + n, 2**16 + n, 2**31 + n, 2**32 + n, 2**56 + n]
-        heads += [2**63, 2**63 + n, MOST - 1, MOST, *([1 << 56] if n else [])]
-        for at, head in enumerate(dict.fromkeys(heads)):
-            no = 20 if head <= DEEPEST else 1
-            yield f"{n}-head-{head}", number_bytes(head) + good_file(chance, n).data[8:], {no, 22}
-            if at % 3 == 0:
-                bad = bad_file(chance, n, {0: -2}, {0: 3})
-                yield f"{n}-head-{head}-bad", number_bytes(head) + bad.data[8:], {no, 22, 23, 25}
-    for head in (*range(TABLE_DEEPEST + 1), 7, 24, 25, 2**63, MOST):
-        held = {22} | when(1, head > DEEPEST) | when(20, TABLE_DEEPEST < head <= DEEPEST)
-        yield f"only-head-{head}", number_bytes(head), held
-
-
-def other_byte_counts(chance):
-    """Files with some bytes too few or too many, also whole numbers of them; and with hardly any."""
-    for many in range(10):
-        yield f"zeros-{many}", bytes(many), {22}
-    for many in range(8):
-        yield f"ones-{many}", b"\xff" * many, {22}
-    for n in range(6):
-        length = 8 * 20 * 4**n
-        off = [-16, -9, -8, -7, -4, -1, 1, 4, 7, 8, 9, 16, -length, length] if n <= 3 else [-1, 8] if n == 4 else [1]
-        for more in off:
-            data = good_file(chance, n).data
-            yield f"{n}-bytes{more:+}", data + bytes(more) if more > 0 else data[:more], {22}
-            if n <= 1:
-                data = bad_file(chance, n, {0: 100_001}, {0: 3}).data
-                yield f"{n}-bytes{more:+}-bad", data + bytes(more) if more > 0 else data[:more], {22, 23, 25}
-
-
-def bad_numbers_in_files(chance):
-    """Each number that is no reading or no owner, in the first place, the last and between; several, and both kinds."""
-    for kind, values in (("readings", OTHER_READINGS), ("owners", OTHER_OWNER_NUMBERS)):
-        for at, value in enumerate(values):
-            for n, place in ((0, 0), (0, 19), (0, chance.randrange(1, 19)), (1, chance.randrange(80))):
-                yield f"{n}-{kind}-{value}-at-{place}", bad_file(chance, n, **{kind: {place: value}})
-    for n in (1, 2, 3, 4):
-        last = 20 * 4**n - 1
-        pairs = [(0, last), (last, 0), (last // 2, last // 2), (last, last)]
-        for at, (one, two) in enumerate(pairs[: 4 if n <= 2 else 2]):
-            readings, owners = {one: chance.choice(OTHER_READINGS)}, {two: chance.choice(OTHER_OWNER_NUMBERS)}
-            yield f"{n}-both-{at}", bad_file(chance, n, readings, owners)
-            some = chance.sample(range(last + 1), 4)
-            yield f"{n}-several-{at}", bad_file(chance, n, {place: chance.choice(OTHER_READINGS) for place in some})
-            yield f"{n}-owner-{at}", bad_file(chance, n, owners=owners)
-    for n in (5, 6):
-        last = 20 * 4**n - 1
-        yield f"{n}-both", bad_file(chance, n, {last: 100_001}, {0: 3})
-        yield f"{n}-owner", bad_file(chance, n, owners={last: 256})
-
-
-@lru_cache(maxsize=None)
-def file_cases():
-    """Every file that is there at the beginning."""
-    chance = random.Random(196)
-    cases = {f"degree-{n}": good_file(chance, n) for n in range(TABLE_DEEPEST + 1)}
-    for n, mm in itertools.product((0, 1), (NOTHING, 0, 1, 99_999, 100_000)):
-        last = 20 * 4**n - 1
-        cases[f"{n}-good-{mm}"] = good_file(chance, n, readings={0: mm, last: mm}, owners={0: 2, last: 1})
-    for name in ("held", "held.new", "replaced", "replaced-again", "folder/inside", "taken.new/inside", "with blanks"):
-        cases[name] = good_file(chance, 0)
-    cases[as_bytes("φ")] = good_file(chance, 1)
-    for name, data, held in itertools.chain(other_heads(chance), other_byte_counts(chance)):
-        cases[name] = FileCase(data, frozenset(held))
-    cases.update(bad_numbers_in_files(chance))
-    return cases
-
-
-@lru_cache(maxsize=None)
-def first_files():
-    return {name: case.data for name, case in file_cases().items()}
-
-
-# ==== The calls: a table's file
-
-FILE_TEXT = """
-    table 1 -> degree 1, 80 places
-    take 1 1001 -> ok
-    set 1 1001 1250 -> ok
-    take 2 1002 -> ok
-    set 2 1002 0 -> ok
-    take 2 5113 -> ok
-    save morning -> ok
-    set 1 1001 1300 -> ok
-    give 2 5113 -> ok
-    open evening -> error: the file could not be read
-    open morning.new -> error: the file could not be read
-    get 1001 -> 1300 mm
-    open morning -> degree 1, 80 places
-    get 1001 -> 1250 mm
-    readings -> 2 readings: 1001 1250 mm, 1002 0 mm
-    owners -> 3 owned: 1001 desk 1, 1002 desk 2, 5113 desk 2
-    coarse -> 1 parent: 100 count 2 sum 1250
-    mark 1001 -> dot x 0 y 1 z 1.61803436279296875
-    mark 1002 -> dot x 0 y 0 z 1.61803436279296875
-    mark 1003 -> nothing
-    set 1 1002 5 -> refused 26: owned by the other desk
-    set 2 1002 5 -> ok
-    coarse -> 1 parent: 100 count 2 sum 1255
-    table 1 80 -1 3 -2 -> degree 1, 80 places
-    owners 80 0 5 3 -> 80 places
-    save morning -> refused 23: the list holds a number that is neither a reading nor -1; place 3
-    save no-such-folder/morning -> refused 23: the list holds a number that is neither a reading nor -1; place 3
-    table 1 80 4 -> degree 1, 80 places
-    owners 80 0 5 3 -> 80 places
-    save morning -> refused 25: owner list malformed (wrong length or another number)
-    owners 79 0 -> 79 places
-    save morning -> refused 25: owner list malformed (wrong length or another number)
-    table 1 79 -2 -> degree 1, 79 places
-    save morning -> refused 22: the list's length isn't 20*4^degree
-    table 7 20 -1 -> degree 7, 20 places
-    save morning -> refused 20: wrong degree
-    table 25 20 -1 -> degree 25, 20 places
-    save morning -> refused 1: a degree, as field or argument, is above 24
-    readings -> refused 1: a degree, as field or argument, is above 24
-    open morning -> degree 1, 80 places
-    readings -> 2 readings: 1001 1250 mm, 1002 0 mm
-    owners -> 3 owned: 1001 desk 1, 1002 desk 2, 5113 desk 2
-    table 0 20 -1 0 7 -> degree 0, 20 places
-    save no-such-folder/morning -> error: the file could not be written
-    open no-such-folder/morning -> error: the file could not be read
-    open . -> error: the file could not be read
-    save morning -> ok
-    readings -> 1 reading: 100 7 mm
-    save held -> error: the file could not be written
-    save -> error: write it as save FILE
-    open -> error: write it as open FILE
-    open morning -> degree 0, 20 places
-    readings -> 1 reading: 100 7 mm
-    owners -> 0 owned
-    coarse -> 0 parents
-"""
-FILES = by_hand(FILE_TEXT)
-
-
-def file_story_calls():
-    yield from (line for line, _ in FILES)
-
-
-def files_without_table():
-    """A file that is refused or cannot be read opens no table, and nothing is saved; then a file's is the first."""
-    for name in ("x", "a b", "no-such-folder/x", ".", "folder", "held.old", "7-head"):
-        yield from [f"save {name}", f"open {name}", "readings", "mark 100"]
-    for name in [name for name, case in file_cases().items() if case.held and len(case.data) < 6000][::9]:
-        yield from [f"save {name}", f"open {name}", "readings", "get 1001"]
-    yield from ["open degree-1", *SHOWN, "mark 1001", "get 5113"]
-
-
-def after_opening(chance, n):
-    """What a table holds that has just been opened: its lists, some readings and marks, and what both desks may do."""
-    yield from SHOWN
-    for place in chosen_places(chance, n, 10 if n <= 4 else 4):
-        code = codes_of(n)[place]
-        yield from marked(code, place)
-        yield from [f"coarse {any_form(chance, parent_code(code))}"] if n > 0 else []
-        for desk in chance.sample(DESKS, 2):
-            for call in chance.sample(CALLS[:4], 2):
-                yield sounding_line(call, desk, any_form(chance, code), history_reading(chance))
-        yield mark_line(code, place)
-    yield from SHOWN
-
-
-def opened_files():
-    """Each of the first files, while a table is open, good or bad, which stays as it is where the file is refused."""
-    chance = random.Random(197)
-    tables = ["table 1 80 -1 1 1250 79 0", "table 0 20 5 3 -2", "table 0 19 5", "table 7 3 500", "table 25 20 -1"]
-    for at, (name, case) in enumerate(file_cases().items()):
-        if at % 20 == 0:
-            yield from [tables[at // 20 % 5], "owners 20 2 3 1"]
-        elif at % 5 == 0 or not case.held:
-            yield from ["table 0", "take 1 100", "set 1 100 5", "take 2 511"]
-        yield f"open {name}"
-        yield from SHOWN if case.held else after_opening(chance, case.numbers[0])
-
-
-def round_trip(chance, n, name, many):
-    """A history from a fresh table, saved; more calls; and the file opened again, saved in its own place, and opened
-    once more after another table."""
-    pool = [codes_of(n)[place] for place in chosen_places(chance, n, min(20 * 4**n, 12))]
-    yield f"table {n}"
-    for at, code in enumerate(pool):
-        yield from own_lines("take set" if at % 4 else "take", code, at)
-    yield from [sounding_line("set", desk_of(place_of(pool[-1])), triangle_text(pool[-1]), 0)]
-    yield from any_calls(chance, n, pool, many)
-    yield from [f"save {name}", *SHOWN]
-    yield from any_calls(chance, n, pool, many // 2)
-    yield f"open {name}"
-    yield from after_opening(chance, n)
-    yield from [*SHOWN, f"save {name}", "table 0 20 7", f"open {name}.new", f"open {name}", *SHOWN]
-
-
-def round_trips():
-    chance = random.Random(198)
-    for n, again in enumerate((6, 6, 5, 4, 3, 2, 1)):
-        for k in range(again):
-            yield from round_trip(chance, n, f"trip-{n}-{k}", 40 if n <= 4 else 12)
-    for n in range(TABLE_DEEPEST + 1):
-        # Readings and owners in every place, the sums not worked out, or a list of counts that is too short: these are
-        # not written, and are right when the file is opened.
-        for fill, lists in ((0, []), (100_000, ["counts 3 7"]))[: 2 if n <= 4 else 1]:
-            yield from [opened(n, 20 * 4**n, fill, [(7, NOTHING)]), owned(20 * 4**n, 2, [(0, 1), (7, 0)]), *lists]
-            yield from [f"save full-{n}", "coarse", f"set 1 {triangle_text(codes_of(n)[0])} 5"]
-            yield from [f"open full-{n}", "coarse", *(["owners"] if n <= 3 else [])]
-            yield from [mark_line(codes_of(n)[place], place) for place in (0, 7, 19)]
-            for call, code in (("set", codes_of(n)[0]), ("take", codes_of(n)[7]), ("give", codes_of(n)[0])):
-                yield from [sounding_line(call, 1, triangle_text(code), 9), f"get {triangle_text(code)}"]
-            yield "coarse" if n <= 3 else f"coarse {triangle_text(parent_code(codes_of(n)[0]))}"
-
-
-def file_histories():
-    """Three names: one is saved now and then, and one is opened, which may not be there yet."""
-    chance = random.Random(199)
-    for n, many in enumerate((30, 30, 24, 16, 6, 3)):
-        pool = [codes_of(n)[place] for place in chosen_places(chance, n, min(20 * 4**n, 8))]
-        yield f"table {n}"
-        for _ in range(many):
-            yield from any_calls(chance, n, pool, 12)
-            yield from marked(chance.choice(pool), many)
-            yield f"{chance.choice(['save', 'save', 'open'])} history-{n}-{chance.randrange(3)}"
-            yield from SHOWN
-
-
-def save_refusal_calls():
-    """After each what the file holds, which is touched only where the table was saved."""
-    for line in refusal_trials(random.Random(200), SAVE_NUMBERS):
-        yield line
-        if line == SHOWN[-1]:
-            yield from ["open trial", "readings", "owners"]
-
-
-FILE_NAMES = """
-    x; a name with blanks; two  blanks; #note; # note; -; --; --help; -x; .hidden; ...; .new; new; x.new.old; *; ?; ~
-    $HOME; %s; '; "quoted"; a\\b; a|b; a&b; a:b; [1]; {}; (x); <x; >x; !; =; name, with a comma; no reading; save; open
-    table 1; save x; 0; 0x0; 1001; -1; X; x.; x..; folder/x; folder/two words; ./y; folder-x; φφ; Küste
-"""
-
-
-def named_files():
-    """Every name has its own file, whatever it is written with."""
-    chance = random.Random(201)
-    names = [*written(FILE_NAMES), "tab\tinside", "return\rinside", "\x0bx", "x\x0c", "\x01", "x" * 100, "x" * 101]
-    for at, name in enumerate(names):
-        yield from [f"table {at % 3}", opened(at % 3, 20 * 4 ** (at % 3), NOTHING, [(0, at)]), f"save {name}"]
-    for at, name in chance.sample(list(enumerate(names)), len(names)):
-        yield from [f"open {name}", "readings", f"get {triangle_text(codes_of(at % 3)[0])}", f"open {name}.new"]
-    yield from ["open y", "readings", "open ./x", "readings", "open ././x", "readings", "open folder//x", "readings"]
-    yield from [f"open {as_bytes('φ')}", *SHOWN, "open with blanks", *SHOWN, "open folder/inside", *SHOWN]
-
-
-# A folder that is missing, a folder in place of a file, a file in place of a folder, and no file at all.
-NO_FILES = """
-    no-such-folder/x; no-such-folder/; folder; folder/; folder/.; folder/no/x; ./folder; .; ./; ..; degree-0/x
-    degree-0/; folder/inside/x; no-such-folder/degree-0; taken.new
-"""
-
-
-def no_files():
-    names = [*written(NO_FILES), "x" * 300, "folder/" + "x" * 300, "x" * 900, "degree-0\x00", "degree-0\x00x", "\xff/x"]
-    for line in ("table 0 20 -1 2 9", "table 1 79 5"):
-        yield from [line, "owners 20 0 2 1"]
-        for name in names:
-            # What a save to a folder's own name may leave beside it is nowhere said, and so these come last.
-            yield from [f"open {name}", "readings"]
-            if name.strip("./") not in ("", *FIRST_FOLDERS):
-                yield from [f"save {name}", *SHOWN, f"open {name}", "owners"]
-        yield from ["open degree-00", "open DEGREE-0", "open degree-0 x", "open degree", "open \xff", "open held.new.x"]
-        yield from SHOWN
-    yield "table 0 20 -1 2 9"
-    for name in (".", "folder", "./folder", "folder/", "folder/."):
-        yield from [f"save {name}", "readings", f"open {name}"]
-    yield from ["open folder/inside", "readings"]
-
-
-def new_files():
-    """What stands in the way of a save: a file with the name that the table has while it is written. And files that are
-    replaced."""
-    yield from ["table 0 20 -1 3 33", "owners 20 0 3 2"]
-    for name in ("held", "held", "taken"):
-        yield from [f"save {name}", *SHOWN, f"open {name}", *SHOWN, f"open {name}.new", *SHOWN, "table 0 20 -1 3 33"]
-    yield from ["save held.new", "open held.new", *SHOWN, "open held", *SHOWN, "table 1 80 4", "save held", "open held"]
-    yield from ["table 0 20 -1 4 44", "save later.new", "save later", "open later", "open later.new", *SHOWN]
-    yield from ["save later.new", "save later", "save later.new.new", "save later.new", "open later.new", "readings"]
-    for name in ("replaced", "replaced-again", "degree-2", "0-readings-100001-at-0", "zeros-0", "x y"):
-        yield from [f"open {name}", "readings"]
-        for line in ("table 1 80 -1 5 55", "table 0 20 -1 6 66", "table 2 320 -1 9 0", "table 0 19 7", "table 0 20 8"):
-            yield from [line, f"save {name}", f"open {name}.new", "table 0", f"open {name}", "readings"]
-
-
-def spaced_files():
-    """Blanks before and after the name, and lines of 1000 bytes and more."""
-    lines = ["save spaced", "save\tspaced", "\tsave spaced\r", "  save   spaced   ", "\r save \t spaced\t\r"]
-    lines += ["save\rspaced", "save spaced out", " save\t\tspaced out \t", "save spaced\tout\r", "save \r\tspaced  out"]
-    for length in (999, 1000, 1001, 2000):
-        lines += [filled("save spaced", length), " " * (length - 11) + "save spaced", filled("save", length)]
-        lines += ["save" + " " * (length - 10) + "spaced", filled("save long", length, "\t")]
-        lines.append(filled("save out", length, "\r"))
-    for at, line in enumerate(lines):
-        yield from [f"table 0 20 -1 3 {at}", line]
-        for name in ("spaced", "spaced out", "spaced\tout", "spaced  out", "long", "out"):
-            yield from [f"open {name}", "get 111"] if at % 3 == 0 or name in line else []
-        yield from [line.replace("save", "open"), "get 111"]
-    yield from ["save ", "open\t", " save \r ", "\topen", "save\r", "\r\r open \t ", *SHOWN]
-
-
-# ==== Internal checks of what is answered to files
-
-
-def check_round_trips(calls, answers):
-    """All that a table shows before it is saved it shows when it is opened again."""
-    kept, met = {}, Counter()
-    for at, (line, text) in enumerate(zip(calls, answers)):
-        if line.startswith("save ") and text == "ok":
-            kept[file_name(line)] = answers[at - 3 : at] if calls[at - 3 : at] == SHOWN else None
-        if line.startswith("open ") and text.startswith("degree ") and calls[at + 1 : at + 4] == SHOWN:
-            before = kept.get(file_name(line))
-            if before:
-                must(answers[at + 1 : at + 4] == before, "as it was saved", line)
-                met[int(text[7])] += before[0] != "0 readings" and before[1] != "0 owned"
-    must(all(met[n] >= (4 if n <= 4 else 2) for n in range(TABLE_DEEPEST + 1)), "round trips at every degree", met)
-
-
-def check_files(calls, answers, seen):
-    """Each refusal is given, and no other; and each of the first files is opened."""
-    for call in ("save", "open"):
-        must({x.no for x in seen if x.call == call} == {CAN_NOT, 0, 1, 20, 22, 23, 25}, "just these refusals", call)
-        for n in range(TABLE_DEEPEST + 1):
-            must(sum(x.n == n and x.no == 0 for x in seen if x.call == call) > 1, "at every degree", call, n)
-    read = ((line, text) for line, text in zip(calls, answers) if line.startswith("open ") and text != UNOPENED)
-    names = {file_name(line) for line, text in read if not text.startswith(UNREAD)}
-    must(names >= set(file_cases()), "each of the first files", set(file_cases()) - names)
-    for some in ({1, 22}, {20, 22}, {22}, {23}, {25}, {23, 25}, {22, 23, 25}, {1, 22, 23, 25}, {20, 22, 23, 25}):
-        must(any(case.held == some for case in file_cases().values()), "made to hold", some)
-    places = {(x.bad[0]) for x in seen if x.call == "open" and x.no == 23}
-    must({0, 19, 81919} <= places, "the first place and the last", places)
-    check_round_trips(calls, answers)
-    many = Counter(x.n for x in seen if x.call == "save" and x.no == 0)
-    must(many[TABLE_DEEPEST] < 10 and sum(map(len, first_files().values())) < 8_000_000, "not too much", many)
-
-
-def check_table_files():
-    """A file by hand, and that the first files are what a save of their tables writes."""
-    lines = ["table 0 20 -1 0 1250 19 0", "owners 20 0 0 1 19 2", "save by-hand"]
-    must(answers_to(lines)[2] == "ok", "saved")
-    zeros_, ones = "0000000000000000", "FFFFFFFFFFFFFFFF"
-    numbers = [zeros_, "00000000000004E2", *[ones] * 18, zeros_, "0000000000000001", *[zeros_] * 18, "0000000000000002"]
-    must(CONSOLE.folder.files["by-hand"] == bytes.fromhex("".join(numbers)), "by hand")
-    for name, case in file_cases().items():
-        table, refusals = read_table_file(case.data)
-        must(first(refusals) == first(case.held), "refused", name)
-        if not case.held:
-            must((table.degree, table.places, table.owners) == case.numbers, "the numbers", name)
-            must(table_file(table) == case.data, "the same bytes", name)
-
-
 # ==== Document 02, 2026-01, "Plotter host in C": the answers
 
 # "It needs check, cross, file and list as calls exported to a C host, on plain numbers and byte slices." "cross writes
@@ -11925,7 +10829,7 @@ def check_cells_page():
     must(three_hold(cell_pool()) and first_offence(cell_pool()) is None, "the pool is good")
 
 
-# ==== Writing the two files, and the folder
+# ==== Writing the two files
 
 SECTIONS = {
     "examples": example_calls,
@@ -12006,15 +10910,8 @@ SECTIONS = {
     "damaged codes of poles": damaged_poles,
     "unreadable codes of the paper": unreadable_papers,
     "spaced codes of the paper": spaced_papers,
-    "marks of edges, examples": EDGE_MARK_EXAMPLES.keys,
-    "marks of the edges of every triangle to degree 4": every_edge_mark,
-    "marks of edges, degrees 5 to 24": deep_edge_marks,
-    "marks of edges of damaged words": damaged_edge_marks,
-    "unreadable marks of edges": unreadable_edge_marks,
-    "spaced marks of edges": spaced_edge_marks,
     "the last line without a table": last_without_table,
     "no table is open": before_any_table,
-    "files while no table is open": files_without_table,
     "unreadable lines on a table": unreadable_on_table,
     "readable lines on a table": readable_on_table,
     "a day at the ice desk": ice_desk_calls,
@@ -12046,21 +10943,6 @@ SECTIONS = {
     "small words while a table is open": smalls_on_table,
     "opposites while a table is open": opposites_on_table,
     "the paper's codes while a table is open": papers_on_table,
-    "marks of edges while a table is open": edge_marks_on_table,
-    "marks on a table, call by call": mark_story_calls,
-    "marks of every place of the tables of degree 0 to 3": every_mark,
-    "marks of some places of the tables of degree 3 to 6": some_marks,
-    "marks that are refused": mark_refusal_calls,
-    "spaced marks": spaced_marks,
-    "a table's file, call by call": file_story_calls,
-    "files that are opened": opened_files,
-    "tables that are saved and opened": round_trips,
-    "histories with files": file_histories,
-    "tables that are not saved": save_refusal_calls,
-    "names of files": named_files,
-    "no files": no_files,
-    "files in the way, and files that are replaced": new_files,
-    "spaced files": spaced_files,
     "full tables": full_tables,
     "the last line": last_line,
 }
@@ -12082,21 +10964,10 @@ def calls_of(sections):
     return calls
 
 
-def write_first_files(folder):
-    for name, data in first_files().items():
-        path_ = DiskFolder(folder).path(name)
-        os.makedirs(os.path.dirname(path_), exist_ok=True)
-        with open(path_, "wb") as out:
-            out.write(data)
-
-
-def write_files(calls_path, answers_path, data_path):
-    os.makedirs(data_path)
+def write_files(calls_path, answers_path):
     internal_checks()
     calls = calls_of(SECTIONS)
-    with tempfile.TemporaryDirectory() as disk:
-        write_first_files(disk)
-        answers = answers_to(calls, BothFolders(Folder(first_files()), DiskFolder(disk)))
+    answers = answers_to(calls)
     filed, listed = directions_answered(calls, answers)
     check_answers(filed, listed)
     check_soundings(calls, answers)
@@ -12107,9 +10978,6 @@ def write_files(calls_path, answers_path, data_path):
     check_smalls(calls, answers)
     check_opposite_answers(calls, answers, filed, listed)
     check_paper_answers(calls, answers)
-    check_edge_mark_answers(calls, answers)
-    check_mark_pairs(calls, answers)
-    write_first_files(data_path)
     write_bytes(calls_path, "\n".join(calls))
     write_bytes(answers_path, "\n".join([*answers, ""]))
 
@@ -12232,7 +11100,6 @@ def write_cells_cases(folder):
 if __name__ == "__main__":
     gc.disable()  # There is next to nothing to be found: all that is made here is freed by its count, or stays.
     if sys.argv[1:] == ["--answer"]:
-        CONSOLE.folder = DiskFolder(".")
         answer_input(answer)
     elif sys.argv[1:] == ["--host-answer"]:
         answer_input(host_answer)
@@ -12242,7 +11109,7 @@ if __name__ == "__main__":
         write_cases(sys.argv[2])
     elif len(sys.argv) == 3 and sys.argv[1] == "--cells":
         write_cells_cases(sys.argv[2])
-    elif len(sys.argv) == 4 and not sys.argv[1].startswith("--"):
-        write_files(*sys.argv[1:])
+    elif len(sys.argv) == 3:
+        write_files(sys.argv[1], sys.argv[2])
     else:
         sys.exit(__doc__)

@@ -77,8 +77,6 @@ fn call_answer(call: u64, line: &[u8], at: usize, out: &mut [u8]) -> usize
         35 => mends::answer(line, at, out),
         36..=40 => smallcalls::answer(call, line, at, out),
         43..=46 => papercalls::answer(call, line, at, out),
-        // edge-mark
-        47 => markcalls::edge_mark(line, at, out),
         _ => unknown(out),
     }
 }
@@ -96,8 +94,7 @@ fn plain_answer(call: u64, line: &[u8], at: usize, out: &mut [u8]) -> usize
 }
 
 // One line to its answer, without the line end: how many bytes of the buffer it takes, and what is held then. No word,
-// or a first word that begins with #: none. Where `rest` is not 0, `go_on` has the next part of the answer; what is left
-// to do on a file is the caller's (filecalls).
+// or a first word that begins with #: none. Where `rest` is not 0, `go_on` has the next part of the answer.
 pub fn answer(
     line: &[u8],
     held: Held,
@@ -121,7 +118,7 @@ pub fn answer(
     }
     let call = texts::call_named(&line[from..end]);
     match call {
-        22..=33 | 48..=50 => desks::answer(call, line, end, held, list, owners, counts, sums, out),
+        22..=33 => desks::answer(call, line, end, held, list, owners, counts, sums, out),
         _ => held::whole(plain_answer(call, line, end, out), held),
     }
 }

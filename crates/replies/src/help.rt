@@ -3,7 +3,7 @@ ghost use Rattle.std.specs.Prelude.{◌≤◌, length};
 
 use crate::arguments;
 
-const HELP: [u8; 9856] = *b"The grid of the globe: one call to a line, and one line for its answer.
+const HELP: [u8; 9026] = *b"The grid of the globe: one call to a line, and one line for its answer.
 
   WORD     0x and 1 to 16 hexadecimal digits
   CODE     a triangle code, as 10003 for side 100 and digits 0 and 3; or a WORD
@@ -15,7 +15,6 @@ const HELP: [u8; 9856] = *b"The grid of the globe: one call to a line, and one l
   DIGITS   a code of source document 000, its digits written together
   MM       millimetres, a whole number: a reading is 0 to 100000. VALUE, FILL of table and NUMBER are whole numbers too
   DESK     1 for the ice desk, 2 for the pilotage desk. OWNER and FILL of owners: 0 for nobody, or any to 255
-  FILE     a file's name: the rest of the line
 
 Any other number is decimal, or a WORD. A line that begins with # is a remark.
 Under each call stand an example and its answer. A refused call answers its number and the reason.
@@ -77,9 +76,6 @@ bits CODE CORNER                    the bits of the drawn coordinates, each an f
 
 name-bits NAME                      the same
   name-bits 0x7000000000000002      x 0xBFF9E37000000000 y 0x0000000000000000 z 0xBFF0000000000000
-
-edge-mark CODE EDGE                 the mark of an edge: a segment between its corners, the lower one first
-  edge-mark 401 2                   segment x -1.6180267333984375 y 0 z -1 to x -1 y 1.6180267333984375 z 0
 
 ring NAME [PLACES]                  the triangles round a corner, anticlockwise
   ring 0x2000000000000003           5: 100 0x2000000000000000, 101 0x2800000000000000, 111 ..
@@ -150,10 +146,6 @@ get CODE                            a triangle's reading, whosever it is
   get 1001                          1250 mm
   get 1002                          no reading
 
-mark CODE                           the mark of a triangle: nothing where it has no reading, else a dot at its corner 1
-  mark 1001                         dot x 0 y 1 z 1.61803436279296875
-  mark 1002                         nothing
-
 readings                            how many readings the table has, and each with its triangle
   readings                          1 reading: 1001 1250 mm
 
@@ -166,12 +158,6 @@ coarse [CODE]                       of a triangle one degree up: how many of its
                                     these come to in millimetres; or how many have either, and each with both
   coarse 100                        count 1 sum 1250
   coarse                            1 parent: 100 count 1 sum 1250
-
-save FILE                           writes the table to a file, eight bytes a number: its degree, readings and owners
-  save winter.table                 ok
-
-open FILE                           opens the table of such a file, checks all of it, and works its sums out afresh
-  open winter.table                 degree 1, 80 places
 
 clear DESK CODE                     leaves a triangle of the desk's with no reading
   clear 1 1001                      ok

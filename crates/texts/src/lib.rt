@@ -5,7 +5,7 @@
 ghost use Rattle.std.specs.Prelude.{◌+◌, ◌≤◌, length};
 
 // How each call is written. A call is known by the number of its row, from 0.
-const CALLS: [u8; 955] = *b"help
+const CALLS: [u8; 905] = *b"help
 check CODE
 parent CODE
 check-name NAME
@@ -51,11 +51,7 @@ opposite-name NAME
 paper CODE [PLACES]
 paper-name NAME [PLACES]
 from-paper DIGITS
-from-paper-vertex DIGITS
-edge-mark CODE EDGE
-mark CODE
-save FILE
-open FILE";
+from-paper-vertex DIGITS";
 
 // Document 01, 'Refusal numbers': when each is given, from 1.
 const REASONS: [u8; 559] = *b"a degree, as field or argument, is above 24
@@ -194,7 +190,7 @@ fn row_named(table: &[u8], rows: u64, word: &[u8]) -> u64 {
 
 // The call that a word names; 47 where it names none.
 pub fn call_named(word: &[u8]) -> u64 {
-    row_named(&CALLS, 51, word)
+    row_named(&CALLS, 47, word)
 }
 
 // The form of a call.

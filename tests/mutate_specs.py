@@ -12,24 +12,25 @@ line. Lines that begin with `#` are comments; one above an entry says what the w
 is not plain. An entry changes what is meant: one that says the same in other words has no place here. What stands in
 specs/Means/ is only a means of proof, and has no entries.
 
-How an entry is tried. The repository (crates.txt, crates/ and target/) is copied to a temporary folder; nothing is
-written to the repository itself. There the entry is applied and `rt dev CRATE` run, which builds no library. If the
-crate is still proved, `rt check` is run for each crate above it, in dependency order, until one is refused (for a
-program `rt dev`: it is not run). Then the copy is made as it was: the file and the crate's incremental folder, and
-after `rt check` the whole of target/.
+How an entry is tried. The crates of the entries, those above them and those that they rest on are copied to a temporary
+folder, with what earlier runs kept in their out/; nothing is written to the repository itself. There the entry is
+applied and `rt check` run in the crate's folder. If the crate is still proved, `rt check` is run in the folder of each
+crate above it, in dependency order, until one is refused (no program is run). Then the copy is made as it was: the
+file, and the out/ of each crate that was asked.
 
 What is printed. A line for each entry, with its number, the place of the change, and one of
     refused by CRATE at FILE:LINE    the place of the first error
     SURVIVED                         the crate and every crate above it are still proved
     BAD: ..                          no proof was asked: the changed definition does not type-check (an error in
-                                     specs/), `old:` is not in the file once, or the prover gave no verdict; the entry
-                                     has to be mended
+                                     specs/), proofs only name what is gone with it, `old:` is not in the file once,
+                                     or the prover gave no verdict; the entry has to be mended
 and a last line 'N tried, M refused, K survived', with the number of BAD ones if there are any.
 
 Exit status: 0 if every entry was refused; 1 if one survived; else 2: one is BAD, the table cannot be read, or the
-repository is not proved to begin with.
+crates are not proved to begin with.
 
-It takes from seconds to two minutes an entry, so it is run by hand and is no part of the gate:
+It takes from seconds to two minutes an entry, so it is run by hand and is no part of the gate. A copy of all crates
+takes up to 3 GB of the disk, and there is one more than --jobs says:
 
     python3 tests/mutate_specs.py                         # all
     python3 tests/mutate_specs.py golden net/Sides.antt   # the entries of a crate, of a file
@@ -56,8 +57,12 @@ from pathlib import Path
 
 ROOT = Path(__file__).resolve().parent.parent
 TABLE = Path(__file__).resolve().parent / "spec_mutations.txt"
-ERROR = re.compile(r"^(\S+?):(\d+):\d+: error", re.MULTILINE)
-REFUSED_CRATE = re.compile(r"^rt: (\w+) NOT PROVED \(exit", re.MULTILINE)
+PARTS = ("src", "specs", "proofs")
+ERROR = re.compile(r"^(?:note: )?(\S+?):(\d+):\d+: error(.*)", re.MULTILINE)
+REFUSED_CRATE = re.compile(r"^rt: the library (\w+) did not build", re.MULTILINE)
+# an error of a proof file that names what is not there, and the errors that only follow from others
+GONE = re.compile(r"is not in scope|is not a field of|is not a constructor of|has no field|has no `|is no name")
+FOLLOWS = re.compile(r": \d+ declarations? that depends? on ")
 RUNNING = set()  # the process groups that this program has started and that have not ended
 
 
@@ -124,9 +129,10 @@ def read_crates(root):
     """The crates of crates.txt: the name of each, and those that it rests on."""
     crates = {}
     for line in (root / "crates.txt").read_text(encoding="utf-8").splitlines():
-        name, colon, rest = line.partition("#")[0].partition(":")
-        if colon:
-            crates[name.strip()] = rest.split()
+        head, colon, rest = line.partition("#")[0].partition(":")
+        if head.strip():
+            # after the name may stand staticlib
+            crates[head.split()[0]] = re.split(r"[\s,]+", rest.strip()) if rest.strip() else []
     return crates
 
 
@@ -138,8 +144,16 @@ def left_out(crates, named):
     return out
 
 
-def is_program(root, crate):
-    return (root / "crates" / crate / "src" / "main.rt").is_file()
+def needed(crates, wanted):
+    """The crates that rest on a wanted one at any depth, and all that they rest on."""
+    found = left_out(crates, wanted)
+    while more := {d for c in found for d in crates[c] if d in crates and d not in found}:
+        found |= more
+    return {c: rests_on for c, rests_on in crates.items() if c in found}
+
+
+def size(folder):
+    return sum(f.stat().st_size for part in PARTS for f in (folder / part).rglob("*") if f.is_file())
 
 
 def crates_above(root, crates, crate):
@@ -147,18 +161,17 @@ def crates_above(root, crates, crate):
     above, left = [], [c for c in crates if c != crate]
     while left:
         ready = [c for c in left if not any(d in left for d in crates[c])]
-        c = min(ready, key=lambda c: sum(f.stat().st_size for f in (root / "crates" / c).rglob("*") if f.is_file()))
+        c = min(ready, key=lambda c: size(root / "crates" / c))
         left.remove(c)
         if any(d == crate or d in above for d in crates[c]):
             above.append(c)
     return above
 
 
-def run(root, limit, *words):
-    """Runs rt in the folder `root`: its exit status, None after `limit` seconds, and all that it said."""
-    env = dict(os.environ, RT_JOBS="1", RT_CUT="0")
+def run(folder, limit, *words):
+    """Runs rt in the folder: its exit status, None after `limit` seconds, and all that it said."""
     with subprocess.Popen(
-        ["rt", *words], cwd=root, env=env, stdout=subprocess.PIPE, stderr=subprocess.STDOUT, stdin=subprocess.DEVNULL,
+        ["rt", *words], cwd=folder, stdout=subprocess.PIPE, stderr=subprocess.STDOUT, stdin=subprocess.DEVNULL,
         text=True, errors="replace", start_new_session=True,
     ) as process:
         RUNNING.add(process.pid)
@@ -184,20 +197,24 @@ def verdict(root, crate, status, said):
     refused = REFUSED_CRATE.search(said)
     if refused:
         crate = refused.group(1)
-    errors = [(Path(path), line) for path, line in ERROR.findall(said)]
-    for path, line in errors:
+    errors = [(shown(root, crate, path), line, why) for path, line, why in ERROR.findall(said)]
+    for path, line, _ in errors:
         if "specs" in path.parts:
-            return f"BAD: {crate}: the definition does not type-check, at {shown(root, path)}:{line}"
+            return f"BAD: {crate}: the definition does not type-check, at {path}:{line}"
     if status != 1:
         return f"BAD: {crate}: rt ended with status {status}"
     if not errors:
         return f"refused by {crate}"
-    path, line = errors[0]
-    return f"refused by {crate} at {shown(root, path)}:{line}"
+    first = [e for e in errors if not FOLLOWS.match(e[2])]
+    if first and all("proofs" in path.parts and GONE.search(why) for path, _, why in first):
+        return f"BAD: {crate}: a proof only names what is gone, at {first[0][0]}:{first[0][1]}"
+    path, line, _ = errors[0]
+    return f"refused by {crate} at {path}:{line}"
 
 
-def shown(root, path):
-    """A file of the copy, as it is called in the repository; without crates/."""
+def shown(root, crate, path):
+    """A file that rt names in the folder of the crate, as CRATE/FILE."""
+    path = Path(os.path.normpath(root / "crates" / crate / path))
     try:
         return path.relative_to(root / "crates")
     except ValueError:
@@ -211,11 +228,15 @@ def copy_tree(source, to):
         shutil.copytree(source, to, symlinks=True)
 
 
-def copy_repository(source, to):
+def copy_crates(source, to, crates):
+    """Copies these crates, with what earlier runs kept of them, and a crates.txt of them alone."""
     to.mkdir(parents=True, exist_ok=True)
-    shutil.copy2(source / "crates.txt", to / "crates.txt")
-    for part in ("crates", "target"):
-        copy_tree(source / part, to / part)
+    lines = (source / "crates.txt").read_text(encoding="utf-8").splitlines()
+    kept = [line for line in lines if re.split(r"[\s:]", line, maxsplit=1)[0] in crates]
+    (to / "crates.txt").write_text("".join(f"{line}\n" for line in kept), encoding="utf-8")
+    for crate in crates:
+        for part in (*PARTS, "out"):
+            copy_tree(source / "crates" / crate / part, to / "crates" / crate / part)
 
 
 def try_entry(entry, clean, room, crates, limit):
@@ -225,34 +246,28 @@ def try_entry(entry, clean, room, crates, limit):
         return f"BAD: {fault}", ""
     path = entry.path(room)
     text = path.read_text(encoding="utf-8")
-    built = False
+    answer, said, asked = None, "", []
     try:
         path.write_text(text.replace(entry.old, entry.new), encoding="utf-8")
-        status, said = run(room, limit, "dev", entry.crate)
-        answer = verdict(room, entry.crate, status, said)
-        for crate in crates_above(room, crates, entry.crate):
+        for crate in (entry.crate, *crates_above(room, crates, entry.crate)):
+            asked.append(crate)
+            status, more = run(room / "crates" / crate, limit, "check", "--jobs", "1")
+            said += f"== {crate}\n{more}"
+            answer = verdict(room, crate, status, more)
             if answer:
                 break
-            built = True
-            # a program is proved and not run
-            status, more = run(room, limit, "dev" if is_program(room, crate) else "check", crate)
-            said += more
-            answer = verdict(room, crate, status, more)
         return answer or "SURVIVED", said
     finally:
         path.write_text(text, encoding="utf-8")
-        part = Path("target") if built else Path("target") / "inc" / entry.crate
-        copy_tree(clean / part, room / part)
+        for crate in asked:
+            part = Path("crates") / crate / "out"
+            copy_tree(clean / part, room / part)
 
 
-def prepare(clean, entries, crates):
-    """Copies the repository to `clean` and proves it there, so that each entry's check begins from what is proved."""
-    copy_repository(ROOT, clean)
-    status, said = run(clean, None, "check", *(c for c in crates if not is_program(clean, c)))
-    wanted = {e.crate for e in entries}
-    for crate in crates:
-        if status == 0 and crate in wanted:
-            status, said = run(clean, None, "dev", crate)
+def prepare(clean, crates, jobs):
+    """Copies the crates to `clean` and proves them there, so that each entry's check begins from what is proved."""
+    copy_crates(ROOT, clean, crates)
+    status, said = run(clean, None, "all", "check", "--jobs", str(jobs))
     if status != 0:
         print(said[-3000:], file=sys.stderr)
         fail("the repository is not proved as it stands, so nothing can be tried")
@@ -301,6 +316,7 @@ def main():
     out = left_out(crates, named)
     crates = {c: rests_on for c, rests_on in crates.items() if c not in out}
     entries = [e for e in entries if e.crate not in out]
+    crates = needed(crates, {e.crate for e in entries})
     if not entries:
         fail("no entry of the table is meant")
     if not shutil.which("rt"):
@@ -317,7 +333,7 @@ def main():
 
     def work(clean, room):
         try:
-            copy_repository(clean, room)
+            copy_crates(clean, room, crates)
             while not failures:
                 try:
                     e = waiting.get_nowait()
@@ -344,7 +360,7 @@ def main():
     signal.signal(signal.SIGTERM, stop)
     with tempfile.TemporaryDirectory(prefix="mutate_specs.") as folder:
         clean = Path(folder).resolve() / "clean"
-        prepare(clean, entries, crates)
+        prepare(clean, crates, max(1, options.jobs))
         workers = [
             threading.Thread(target=work, args=(clean, Path(folder).resolve() / f"copy{k}"))
             for k in range(max(1, min(options.jobs, len(entries))))

@@ -12,13 +12,13 @@
 ghost use Rattle.std.specs.Prelude.{◌≡◌, ◌≤◌, length};
 ghost use Rattle.std.specs.Int.Bits.{bit_xor};
 ghost use Rattle.words.specs.Family.{code_of, ParentAnswer, ChildAnswer};
-ghost use Rattle.words.specs.declared.CodeAnswer.{CodeAnswer};
+ghost use Rattle.words.specs.Family.{CodeAnswer};
 ghost use Rattle.net.specs.Corners.{name_of};
 ghost use Rattle.corners.specs.Answers.{CrossAnswer, WeightsAnswer, NameWeightsAnswer, NamingAnswer};
 ghost use Rattle.corners.specs.Answers.{BackAnswer, RingAnswer};
-ghost use Rattle.corners.specs.declared.StepAnswer.{StepAnswer};
-ghost use Rattle.corners.specs.declared.NameAnswer.{NameAnswer};
-ghost use Rattle.corners.specs.declared.CountAnswer.{CountAnswer};
+ghost use Rattle.corners.specs.Answers.{StepAnswer};
+ghost use Rattle.corners.specs.Answers.{NameAnswer};
+ghost use Rattle.corners.specs.Answers.{CountAnswer};
 ghost use Rattle.directions.specs.Answers.{FileAnswer, ListAnswer};
 ghost use Rattle.opposites.specs.Answers.{OppositeAnswer, OppositeNameAnswer};
 ghost use Rattle.paper.specs.Answers.{FromDomainAnswer, FromVertexAnswer, ToDomainAnswer, ToVertexAnswer};

@@ -4,8 +4,8 @@ use contract.Lifetimes.{Lfts}
 use Rattle.frame.specs.Promises.{Says}
 use Rattle.words.specs.declared.TriangleCode.{TriangleCode}
 use Rattle.words.specs.declared.CornerName.{CornerName}
-use Rattle.words.specs.declared.CodeAnswer.{CodeAnswer}
-use Rattle.corners.specs.declared.NameAnswer.{NameAnswer}
+use Rattle.words.specs.Family.{CodeAnswer}
+use Rattle.corners.specs.Answers.{NameAnswer}
 use Rattle.opposites.specs.Answers.{OppositeAnswer, OppositeNameAnswer}
 use Rattle.opposites.proofs.opposite.Reads as opposite_call
 use Rattle.opposites.proofs.opposite_name.Reads as opposite_name_call

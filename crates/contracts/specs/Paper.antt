@@ -4,9 +4,9 @@ use contract.Lifetimes.{Lfts}
 use Rattle.frame.specs.Promises.{Says}
 use Rattle.words.specs.declared.TriangleCode.{TriangleCode}
 use Rattle.words.specs.declared.CornerName.{CornerName}
-use Rattle.words.specs.declared.CodeAnswer.{CodeAnswer}
-use Rattle.corners.specs.declared.NameAnswer.{NameAnswer}
-use Rattle.corners.specs.declared.CountAnswer.{CountAnswer}
+use Rattle.words.specs.Family.{CodeAnswer}
+use Rattle.corners.specs.Answers.{NameAnswer}
+use Rattle.corners.specs.Answers.{CountAnswer}
 use Rattle.grid.specs.CallContracts.{Slice, Room}
 use Rattle.paper.specs.Answers.{FromDomainAnswer, FromVertexAnswer, ToDomainAnswer, ToVertexAnswer}
 use Rattle.paper.proofs.from_domain.Reads as from_domain_call

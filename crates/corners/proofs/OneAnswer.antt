@@ -21,9 +21,9 @@ use Rattle.net.specs.Means.Walks.{least_name, ring_words}
 use Rattle.net.specs.Names.{IsName}
 use Rattle.corners.specs.Turns.{Turned}
 use Rattle.net.specs.Steps.{IsRing, non_zeros, ring_size}
-use Rattle.corners.specs.declared.CountAnswer.{CountAnswer}
-use Rattle.corners.specs.declared.NameAnswer.{NameAnswer}
-use Rattle.corners.specs.declared.StepAnswer.{StepAnswer}
+use Rattle.corners.specs.Answers.{CountAnswer}
+use Rattle.corners.specs.Answers.{NameAnswer}
+use Rattle.corners.specs.Answers.{StepAnswer}
 use Rattle.net.proofs.Canonical.{name_means}
 use Rattle.net.proofs.Crossing.{across_is, across_only, code_across, edge_across}
 use Rattle.net.proofs.Demand3.{one_name_each}

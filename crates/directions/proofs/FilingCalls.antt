@@ -10,7 +10,7 @@ use Rattle.frame.proofs.Answering.{answers_or_not, refusing, answering}
 use Rattle.words.specs.Words.{word_of}
 use Rattle.golden.proofs.IntegerOrder.{le_or_lt}
 use Rattle.words.specs.Family.{code_of, code_answer, no_code}
-use Rattle.words.specs.declared.CodeAnswer.{CodeAnswer}
+use Rattle.words.specs.Family.{CodeAnswer}
 use Rattle.words.proofs.Codes.{code_fields, code_below}
 use Rattle.corners.specs.Answers.{count_answer}
 use Rattle.directions.specs.Answers.{FileAnswer, ListAnswer}

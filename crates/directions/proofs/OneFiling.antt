@@ -10,10 +10,10 @@ use Rattle.frame.specs.Promises.{together}
 use Rattle.frame.proofs.Answering.{answer_one, answer_some, listed_one}
 use Rattle.words.specs.Words.{word_of}
 use Rattle.words.specs.Family.{code_of, code_answer, no_code}
-use Rattle.words.specs.declared.CodeAnswer.{CodeAnswer}
+use Rattle.words.specs.Family.{CodeAnswer}
 use Rattle.corners.specs.Answers.{count_answer, no_count}
 use Rattle.directions.specs.Answers.{Filed, FileAnswer, ListAnswer}
-use Rattle.corners.specs.declared.CountAnswer.{CountAnswer}
+use Rattle.corners.specs.Answers.{CountAnswer}
 use Rattle.filing.specs.Filing.{AreHolders}
 use Rattle.directions.specs.Refusals.{refuse_file}
 use Rattle.filing.specs.Means.Descent.{descent}

@@ -10,7 +10,7 @@ use Rattle.frame.specs.Answers.{Listed}
 use Rattle.frame.proofs.Lengths.{ThenNine, then_nine, never_nine}
 use Rattle.octets.specs.Bytes.{bytes}
 use Rattle.words.specs.Refusals.{degree_rows, code_rows}
-use Rattle.words.specs.declared.CodeAnswer.{CodeAnswer}
+use Rattle.words.specs.Family.{CodeAnswer}
 use Rattle.words.specs.declared.TriangleCode.{TriangleCode}
 use Rattle.net.specs.Refusals.{one_to_three_rows}
 use Rattle.net.specs.Means.Walks.{edge_there, step_from}
@@ -21,8 +21,8 @@ use Rattle.filing.specs.Refusals.{direction_rows}
 use Rattle.filing.specs.declared.Direction.{Direction}
 use Rattle.corners.specs.Refusals.{refuse_numbered}
 use Rattle.corners.specs.Answers.{CrossAnswer, count_answer}
-use Rattle.corners.specs.declared.StepAnswer.{StepAnswer}
-use Rattle.corners.specs.declared.CountAnswer.{CountAnswer}
+use Rattle.corners.specs.Answers.{StepAnswer}
+use Rattle.corners.specs.Answers.{CountAnswer}
 use Rattle.corners.proofs.Refused.{numbered}
 use Rattle.directions.specs.Refusals as directions
 use Rattle.directions.specs.Answers.{FileAnswer, ListAnswer}

@@ -12,7 +12,7 @@ use Rattle.octets.specs.Bytes.{bytes}
 use Rattle.golden.specs.Numbers.{◌+φ◌, negφ, ◌*φ◌}
 use Rattle.words.specs.Words.{first_digits, path, word_in}
 use Rattle.words.specs.Refusals.{check_code}
-use Rattle.words.specs.declared.CodeAnswer.{CodeAnswer}
+use Rattle.words.specs.Family.{CodeAnswer}
 use Rattle.words.specs.declared.TriangleCode.{TriangleCode}
 use Rattle.net.specs.Sides.{corner_vertex}
 use Rattle.net.specs.Division.{unit_at, triangle_at}
@@ -23,8 +23,8 @@ use Rattle.filing.specs.Means.Sides.{least_from, side_dets}
 use Rattle.filing.specs.Means.Lists.{all_words, side_words, joined}
 use Rattle.filing.specs.declared.Direction.{Direction}
 use Rattle.corners.specs.Answers.{CrossAnswer}
-use Rattle.corners.specs.declared.CountAnswer.{CountAnswer}
-use Rattle.corners.specs.declared.StepAnswer.{StepAnswer}
+use Rattle.corners.specs.Answers.{CountAnswer}
+use Rattle.corners.specs.Answers.{StepAnswer}
 use Rattle.directions.specs.Refusals as directions
 use Rattle.directions.specs.Answers.{FileAnswer, ListAnswer}
 use Rattle.words.specs.Writing.{decimals, written, words_for}

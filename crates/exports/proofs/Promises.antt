@@ -10,7 +10,7 @@ use Rattle.octets.specs.Bytes.{bytes}
 use Rattle.octets.proofs.Laying.{bytes_of_long, each_byte, number_back}
 use Rattle.words.specs.Family.{code_of}
 use Rattle.words.specs.Refusals.{check_code}
-use Rattle.words.specs.declared.CodeAnswer.{CodeAnswer}
+use Rattle.words.specs.Family.{CodeAnswer}
 use Rattle.words.specs.declared.TriangleCode.{TriangleCode}
 use Rattle.words.proofs.Codes.{code_below}
 use Rattle.net.specs.Refusals.{check_name}
@@ -20,8 +20,8 @@ use Rattle.filing.proofs.AllHolders.{one_list}
 use Rattle.filing.proofs.LeastCode.{filed_once}
 use Rattle.corners.specs.Refusals.{refuse_numbered}
 use Rattle.corners.specs.Answers.{CrossAnswer}
-use Rattle.corners.specs.declared.CountAnswer.{CountAnswer}
-use Rattle.corners.specs.declared.StepAnswer.{StepAnswer}
+use Rattle.corners.specs.Answers.{CountAnswer}
+use Rattle.corners.specs.Answers.{StepAnswer}
 use Rattle.corners.proofs.OneAnswer.{cross_some}
 use Rattle.corners.proofs.Refused.{numbered}
 use Rattle.directions.specs.Refusals as directions

@@ -6,12 +6,12 @@ use Rattle.octets.specs.Bytes.{bytes_of, number_of, number_at}
 use Rattle.words.specs.Refusals.{check_code}
 use Rattle.words.specs.declared.TriangleCode.{TriangleCode}
 use Rattle.words.specs.declared.CornerName.{CornerName}
-use Rattle.words.specs.declared.CodeAnswer.{CodeAnswer}
+use Rattle.words.specs.Family.{CodeAnswer}
 use Rattle.net.specs.Refusals.{check_name}
 use Rattle.filing.specs.declared.Direction.{Direction}
 use Rattle.corners.specs.Answers.{CrossAnswer}
-use Rattle.corners.specs.declared.StepAnswer.{StepAnswer}
-use Rattle.corners.specs.declared.CountAnswer.{CountAnswer}
+use Rattle.corners.specs.Answers.{StepAnswer}
+use Rattle.corners.specs.Answers.{CountAnswer}
 use Rattle.directions.specs.Answers.{FileAnswer, ListAnswer}
 use Rattle.exports.specs.Refusals.{refuse_cross, refuse_file, refuse_list}
 use Rattle.exports.specs.Answers.{CrossBytes, FileBytes, ListBytes}

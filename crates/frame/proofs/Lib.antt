@@ -5,3 +5,4 @@ pub mod Answering
 pub mod Lengths
 pub mod Scanning
 pub mod Below
+pub mod Told

@@ -14,7 +14,7 @@ use Rattle.words.specs.Refusals.{IsCode}
 use Rattle.words.specs.Family.{code_answer, no_code, refuse_parent, refuse_child, parent_of, child_of, ParentAnswer}
 use Rattle.words.specs.Family.{ChildAnswer}
 use Rattle.words.specs.declared.TriangleCode.{TriangleCode}
-use Rattle.words.specs.declared.CodeAnswer.{CodeAnswer}
+use Rattle.words.specs.Family.{CodeAnswer}
 use Rattle.words.proofs.Codes.{code_degree}
 use Rattle.words.proofs.ParentChild.{child_has, child_then_parent, parent_then_child}
 use Rattle.net.specs.Sides.{OneToThree, next, prev}
@@ -35,9 +35,9 @@ use Rattle.corners.specs.Refusals.{refuse_numbered}
 use Rattle.corners.specs.Turns.{Turned}
 use Rattle.corners.specs.Answers.{Put, name_answer, Named, CrossAnswer, NamingAnswer}
 use Rattle.corners.specs.Answers.{BackAnswer}
-use Rattle.corners.specs.declared.CountAnswer.{CountAnswer}
-use Rattle.corners.specs.declared.StepAnswer.{StepAnswer}
-use Rattle.corners.specs.declared.NameAnswer.{NameAnswer}
+use Rattle.corners.specs.Answers.{CountAnswer}
+use Rattle.corners.specs.Answers.{StepAnswer}
+use Rattle.corners.specs.Answers.{NameAnswer}
 use Rattle.corners.proofs.Refused.{numbered, numbered_passes, weights_then, name_weights_then, back_passes}
 use Rattle.corners.proofs.OneAnswer as corners
 use Rattle.points.proofs.OnePlace as points

@@ -21,7 +21,7 @@ use Rattle.words.specs.Refusals.{check_code, IsCode}
 use Rattle.words.specs.Family.{code_of, code_answer}
 use Rattle.words.specs.declared.TriangleCode.{TriangleCode}
 use Rattle.words.specs.declared.CornerName.{CornerName}
-use Rattle.words.specs.declared.CodeAnswer.{CodeAnswer}
+use Rattle.words.specs.Family.{CodeAnswer}
 use Rattle.words.proofs.Codes.{path_code}
 use Rattle.words.proofs.WordLayout.{side_is}
 use Rattle.words.proofs.Digits.{large_roomy}
@@ -45,8 +45,8 @@ use Rattle.filing.proofs.LeastCode.{filed_once}
 use Rattle.filing.proofs.LeastSide.{found_code, descent_low}
 use Rattle.corners.specs.Refusals.{refuse_numbered, refuse_weights, refuse_back}
 use Rattle.corners.specs.Answers.{NamingAnswer, name_answer}
-use Rattle.corners.specs.declared.CountAnswer.{CountAnswer}
-use Rattle.corners.specs.declared.NameAnswer.{NameAnswer}
+use Rattle.corners.specs.Answers.{CountAnswer}
+use Rattle.corners.specs.Answers.{NameAnswer}
 use Rattle.corners.proofs.Refused.{numbered_passes, weights_then}
 use Rattle.directions.specs.Refusals.{refuse_file}
 use Rattle.directions.specs.Answers.{FileAnswer}

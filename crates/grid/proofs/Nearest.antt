@@ -34,8 +34,8 @@ use Rattle.filing.proofs.Weighted.{corner_twelve, exact_small}
 use Rattle.corners.proofs.Refused.{numbered}
 use Rattle.points.specs.Answers.{Pointed, Ticked, no_point, no_ticks}
 use Rattle.points.specs.Bits.{bits_of}
-use Rattle.points.specs.declared.PointAnswer.{PointAnswer}
-use Rattle.points.specs.declared.TicksAnswer.{TicksAnswer}
+use Rattle.points.specs.Answers.{PointAnswer}
+use Rattle.points.specs.Answers.{TicksAnswer}
 use Rattle.points.proofs.DrawnBits.{magnitude_small, points_bits}
 use Rattle.points.proofs.OnePlace.{ticks_one}
 use Rattle.grid.specs.Nearest.{Nearest, Opposed, OpposedPoints, negative}

@@ -60,12 +60,12 @@ use Rattle.filing.proofs.Multipliers.{holds_means}
 use Rattle.filing.proofs.ThroughVertices.{no_vertex_lem}
 use Rattle.filing.proofs.Weighted.{corner_twelve}
 use Rattle.corners.specs.Refusals.{refuse_back}
-use Rattle.corners.specs.declared.CountAnswer.{CountAnswer}
+use Rattle.corners.specs.Answers.{CountAnswer}
 use Rattle.corners.proofs.Calls.{back_nine, back_one_refused, back_side, back_sum, name_first, name_passing, name_ten}
 use Rattle.corners.proofs.Refused.{back_passes}
 use Rattle.points.specs.Answers.{Ticked, no_ticks}
 use Rattle.points.specs.Bits.{bits_of}
-use Rattle.points.specs.declared.TicksAnswer.{TicksAnswer}
+use Rattle.points.specs.Answers.{TicksAnswer}
 use Rattle.points.proofs.DrawnBits.{drawn_bits_lem, name_drawn_bits_lem}
 use Rattle.points.proofs.PlaceCalls.{name_small, numbered_small}
 use Rattle.directions.specs.Answers.{ListAnswer}

@@ -52,8 +52,8 @@ use Rattle.filing.proofs.AllHolders.{all_holders}
 use Rattle.filing.proofs.LeastSide.{found_code}
 use Rattle.points.specs.Answers.{PlaceAnswer, NamePlaceAnswer, TickAnswer, NameTickAnswer, DrawAnswer, NameDrawAnswer}
 use Rattle.points.specs.Answers.{no_coordinates, no_point}
-use Rattle.points.specs.declared.TicksAnswer.{TicksAnswer}
-use Rattle.points.specs.declared.PointAnswer.{PointAnswer}
+use Rattle.points.specs.Answers.{TicksAnswer}
+use Rattle.points.specs.Answers.{PointAnswer}
 use Rattle.points.proofs.DrawnBits as drawn
 use Rattle.points.proofs.PlaceCalls.{name_degree, name_small, numbered_degree, numbered_small}
 use Rattle.points.proofs.OnePlace.{place_one, name_place_one, tick_answer_one, name_tick_one, draw_one, name_draw_one}

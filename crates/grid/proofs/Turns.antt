@@ -13,7 +13,7 @@ use Rattle.net.proofs.Crossing.{across_just, corner_one}
 use Rattle.net.proofs.Table.{◌and◌, ◌or◌, ◌then◌, less, no, same, sound, three, threes}
 use Rattle.corners.specs.Turns.{Becomes, Turned, higher, lower}
 use Rattle.corners.specs.Answers.{CrossAnswer}
-use Rattle.corners.specs.declared.StepAnswer.{StepAnswer}
+use Rattle.corners.specs.Answers.{StepAnswer}
 use Rattle.corners.proofs.TurnedCorners.{first_there, second_there, turned_is, turned_one}
 use Rattle.grid.specs.Turns.{Pairs, Turns}
 use Rattle.grid.proofs.Demands.{crossed_is, crossed_turned, demand_3}

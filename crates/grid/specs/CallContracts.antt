@@ -10,16 +10,16 @@ use Rattle.words.specs.Refusals.{check_code}
 use Rattle.words.specs.Family.{ParentAnswer, ChildAnswer}
 use Rattle.words.specs.declared.TriangleCode.{TriangleCode}
 use Rattle.words.specs.declared.CornerName.{CornerName}
-use Rattle.words.specs.declared.CodeAnswer.{CodeAnswer}
+use Rattle.words.specs.Family.{CodeAnswer}
 use Rattle.words.proofs.TriangleCode.check.Reads as check_call
 use Rattle.words.proofs.TriangleCode.parent.Reads as parent_call
 use Rattle.words.proofs.TriangleCode.child.Reads as child_call
 use Rattle.net.specs.Refusals.{check_name}
 use Rattle.filing.specs.declared.Direction.{Direction}
 use Rattle.corners.specs.Answers.{CrossAnswer, WeightsAnswer, NameWeightsAnswer, NamingAnswer, BackAnswer, RingAnswer}
-use Rattle.corners.specs.declared.StepAnswer.{StepAnswer}
-use Rattle.corners.specs.declared.NameAnswer.{NameAnswer}
-use Rattle.corners.specs.declared.CountAnswer.{CountAnswer}
+use Rattle.corners.specs.Answers.{StepAnswer}
+use Rattle.corners.specs.Answers.{NameAnswer}
+use Rattle.corners.specs.Answers.{CountAnswer}
 use Rattle.corners.proofs.check_name.Reads as check_name_call
 use Rattle.corners.proofs.cross.Reads as cross_call
 use Rattle.twelves.proofs.weights_of.Reads as weights_of_call
@@ -28,9 +28,9 @@ use Rattle.corners.proofs.name_of.Reads as name_of_call
 use Rattle.twelves.proofs.name_back.Reads as name_back_call
 use Rattle.corners.proofs.ring.Reads as ring_call
 use Rattle.points.specs.Answers.{PlaceAnswer, NamePlaceAnswer, TickAnswer, NameTickAnswer, DrawAnswer, NameDrawAnswer}
-use Rattle.points.specs.declared.CoordinatesAnswer.{CoordinatesAnswer}
-use Rattle.points.specs.declared.TicksAnswer.{TicksAnswer}
-use Rattle.points.specs.declared.PointAnswer.{PointAnswer}
+use Rattle.points.specs.Answers.{CoordinatesAnswer}
+use Rattle.points.specs.Answers.{TicksAnswer}
+use Rattle.points.specs.Answers.{PointAnswer}
 use Rattle.points.proofs.coordinates_of.Reads as coordinates_of_call
 use Rattle.points.proofs.coordinates_of_name.Reads as coordinates_of_name_call
 use Rattle.points.proofs.ticks_of.Reads as ticks_of_call

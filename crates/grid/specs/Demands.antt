@@ -8,7 +8,7 @@ use Rattle.words.specs.Refusals.{IsCode, check_code}
 use Rattle.words.specs.Family.{code_answer, refuse_parent, refuse_child, ParentAnswer, ChildAnswer, no_code}
 use Rattle.words.specs.declared.TriangleCode.{TriangleCode}
 use Rattle.words.specs.declared.CornerName.{CornerName}
-use Rattle.words.specs.declared.CodeAnswer.{CodeAnswer}
+use Rattle.words.specs.Family.{CodeAnswer}
 use Rattle.net.specs.Sides.{OneToThree, next, prev, corner_vertex}
 use Rattle.net.specs.Division.{Weights, unit_at, triangle, divide}
 use Rattle.net.specs.Corners.{corner, triangle_of, HasCorner, named}
@@ -20,11 +20,11 @@ use Rattle.filing.specs.declared.Direction.{Direction}
 use Rattle.corners.specs.Refusals.{refuse_numbered, refuse_weights, refuse_name_weights, refuse_back, refuse_ring}
 use Rattle.corners.specs.Answers.{name_answer, no_step, no_name, no_count, CrossAnswer, WeightsAnswer}
 use Rattle.corners.specs.Answers.{NameWeightsAnswer, NamingAnswer, BackAnswer, RingAnswer}
-use Rattle.corners.specs.declared.StepAnswer.{StepAnswer}
-use Rattle.corners.specs.declared.NameAnswer.{NameAnswer}
+use Rattle.corners.specs.Answers.{StepAnswer}
+use Rattle.corners.specs.Answers.{NameAnswer}
 use Rattle.points.specs.Answers.{no_coordinates, no_ticks, no_point, PlaceAnswer, NamePlaceAnswer, TickAnswer}
 use Rattle.points.specs.Answers.{NameTickAnswer, DrawAnswer, NameDrawAnswer}
-use Rattle.points.specs.declared.CoordinatesAnswer.{CoordinatesAnswer}
+use Rattle.points.specs.Answers.{CoordinatesAnswer}
 use Rattle.directions.specs.Refusals.{refuse_file, refuse_list}
 use Rattle.directions.specs.Answers.{FileAnswer, ListAnswer}
 

@@ -17,8 +17,8 @@ use Rattle.filing.specs.Coordinates.{exact, negated}
 use Rattle.filing.specs.declared.Ticks.{Ticks}
 use Rattle.filing.specs.declared.Point.{Point}
 use Rattle.points.specs.Answers.{TickAnswer, NameTickAnswer, DrawAnswer, NameDrawAnswer}
-use Rattle.points.specs.declared.TicksAnswer.{TicksAnswer}
-use Rattle.points.specs.declared.PointAnswer.{PointAnswer}
+use Rattle.points.specs.Answers.{TicksAnswer}
+use Rattle.points.specs.Answers.{PointAnswer}
 
 -- Twice d is just 1, by the rule for the sign: at that distance from a whole number, another is as near.
 abbrev pub IsHalf : Golden → Type 0

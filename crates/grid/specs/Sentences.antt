@@ -27,11 +27,11 @@ use Rattle.filing.specs.Fractions.{IsFraction}
 use Rattle.filing.specs.declared.Direction.{Direction}
 use Rattle.filing.specs.declared.Ticks.{Ticks}
 use Rattle.corners.specs.Refusals.{refuse_back}
-use Rattle.corners.specs.declared.CountAnswer.{CountAnswer}
+use Rattle.corners.specs.Answers.{CountAnswer}
 use Rattle.points.specs.Answers.{TickAnswer, NameTickAnswer, DrawAnswer, NameDrawAnswer}
 use Rattle.points.specs.Bits.{HasBits, bits_of}
-use Rattle.points.specs.declared.TicksAnswer.{TicksAnswer}
-use Rattle.points.specs.declared.PointAnswer.{PointAnswer}
+use Rattle.points.specs.Answers.{TicksAnswer}
+use Rattle.points.specs.Answers.{PointAnswer}
 use Rattle.directions.specs.Answers.{ListAnswer}
 use Rattle.grid.specs.Counts.{Counts, Edge, IsEdge, SameEnds, IsCorner, edge}
 

@@ -8,7 +8,7 @@ use Rattle.net.specs.Corners.{corner}
 use Rattle.corners.specs.Refusals.{refuse_numbered}
 use Rattle.corners.specs.Turns.{lower, higher}
 use Rattle.corners.specs.Answers.{CrossAnswer, step_answer}
-use Rattle.corners.specs.declared.StepAnswer.{StepAnswer}
+use Rattle.corners.specs.Answers.{StepAnswer}
 
 -- An answer r to crossing edge k pairs corner i with corner j of the neighbour.
 abbrev pub Pairs : (k : ℕ) → StepAnswer → (i j : ℕ) → Type 0

@@ -8,9 +8,9 @@ use Rattle.words.specs.declared.CornerName.{CornerName}
 use Rattle.net.specs.Corners.{name_of}
 use Rattle.filing.specs.Coordinates.{coordinates}
 use Rattle.filing.specs.declared.Direction.{Direction}
-use Rattle.points.specs.declared.CoordinatesAnswer.{CoordinatesAnswer}
-use Rattle.points.specs.declared.TicksAnswer.{TicksAnswer}
-use Rattle.points.specs.declared.PointAnswer.{PointAnswer}
+use Rattle.points.specs.Answers.{CoordinatesAnswer}
+use Rattle.points.specs.Answers.{TicksAnswer}
+use Rattle.points.specs.Answers.{PointAnswer}
 
 -- ---- names
 

@@ -9,13 +9,13 @@ use Rattle.frame.specs.Refusals.{first_of, order}
 use Rattle.frame.proofs.Refusing.{none_so, none_after, refuse_rest}
 use Rattle.frame.proofs.Answering.{number_is}
 use Rattle.words.specs.Refusals.{check_code, code_rows, degree_rows}
-use Rattle.words.specs.declared.CodeAnswer.{CodeAnswer}
+use Rattle.words.specs.Family.{CodeAnswer}
 use Rattle.net.specs.Refusals.{one_to_three_rows}
 use Rattle.filing.specs.Refusals.{direction_rows}
 use Rattle.filing.specs.declared.Direction.{Direction}
 use Rattle.corners.specs.Refusals.{refuse_numbered}
 use Rattle.corners.specs.Answers.{CrossAnswer, Crossed}
-use Rattle.corners.specs.declared.StepAnswer.{StepAnswer}
+use Rattle.corners.specs.Answers.{StepAnswer}
 use Rattle.directions.specs.Refusals.{refuse_file}
 use Rattle.directions.specs.Answers.{FileAnswer, Filed}
 use Rattle.harbour.specs.Small.{large_of}

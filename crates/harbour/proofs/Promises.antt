@@ -19,11 +19,11 @@ use Rattle.words.specs.Words.{large, degree_of}
 use Rattle.words.specs.Refusals.{field_rows, code_low_rows}
 use Rattle.words.specs.Family.{code_of, code_answer}
 use Rattle.words.specs.declared.TriangleCode.{TriangleCode}
-use Rattle.words.specs.declared.CodeAnswer.{CodeAnswer}
+use Rattle.words.specs.Family.{CodeAnswer}
 use Rattle.filing.specs.Refusals.{direction_rows}
 use Rattle.filing.specs.declared.Direction.{Direction}
 use Rattle.corners.specs.Answers.{Crossed, CrossAnswer}
-use Rattle.corners.specs.declared.StepAnswer.{StepAnswer}
+use Rattle.corners.specs.Answers.{StepAnswer}
 use Rattle.corners.proofs.OneAnswer.{cross_one, cross_some}
 use Rattle.directions.specs.Answers.{Filed, FileAnswer}
 use Rattle.directions.proofs.OneFiling.{file_one, file_some}

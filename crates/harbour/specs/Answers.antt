@@ -4,10 +4,10 @@ use Rattle.std.specs.Prelude.{◌≡◌, ℕ}
 use Rattle.frame.specs.Answers.{Answer, Known}
 use Rattle.words.specs.Family.{code_answer, no_code}
 use Rattle.words.specs.declared.TriangleCode.{TriangleCode}
-use Rattle.words.specs.declared.CodeAnswer.{CodeAnswer}
+use Rattle.words.specs.Family.{CodeAnswer}
 use Rattle.filing.specs.declared.Direction.{Direction}
 use Rattle.corners.specs.Answers.{Crossed}
-use Rattle.corners.specs.declared.StepAnswer.{StepAnswer}
+use Rattle.corners.specs.Answers.{StepAnswer}
 use Rattle.directions.specs.Answers.{Filed}
 use Rattle.harbour.specs.Small.{small_code, large_of, small_of}
 use Rattle.harbour.specs.Refusals.{check_small, refuse_write, refuse_small_cross, refuse_small_file}

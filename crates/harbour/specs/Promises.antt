@@ -6,10 +6,10 @@ use Rattle.words.specs.Words.{degree_of, digits, side_of}
 use Rattle.words.specs.Refusals.{IsCode, check_code}
 use Rattle.words.specs.Family.{code_answer, no_code}
 use Rattle.words.specs.declared.TriangleCode.{TriangleCode}
-use Rattle.words.specs.declared.CodeAnswer.{CodeAnswer}
+use Rattle.words.specs.Family.{CodeAnswer}
 use Rattle.filing.specs.declared.Direction.{Direction}
 use Rattle.corners.specs.Answers.{CrossAnswer}
-use Rattle.corners.specs.declared.StepAnswer.{StepAnswer}
+use Rattle.corners.specs.Answers.{StepAnswer}
 use Rattle.directions.specs.Answers.{FileAnswer}
 use Rattle.harbour.specs.Small.{small, small_code, large_of, small_of}
 use Rattle.harbour.specs.Refusals.{check_small, refuse_write, refuse_small_cross, refuse_small_file}

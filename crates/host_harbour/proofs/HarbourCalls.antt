@@ -5,7 +5,7 @@ use Prim.Native.Nat.{ℕ}
 use lib.ListN.{length}
 use Rattle.frame.proofs.Lengths.{ThenNine, then_nine}
 use Rattle.octets.specs.Bytes.{bytes}
-use Rattle.words.specs.declared.CodeAnswer.{CodeAnswer}
+use Rattle.words.specs.Family.{CodeAnswer}
 use Rattle.words.specs.declared.TriangleCode.{TriangleCode}
 use Rattle.net.specs.Refusals.{one_to_three_rows}
 use Rattle.filing.specs.Refusals.{direction_rows}

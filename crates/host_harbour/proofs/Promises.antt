@@ -7,7 +7,7 @@ use lib.ListN.{drop, take}
 use Rattle.frame.proofs.Answering.{keeps_is}
 use Rattle.octets.specs.Bytes.{bytes, number_of}
 use Rattle.octets.proofs.Laying.{number_at_lem, number_back}
-use Rattle.words.specs.declared.CodeAnswer.{CodeAnswer}
+use Rattle.words.specs.Family.{CodeAnswer}
 use Rattle.words.specs.declared.TriangleCode.{TriangleCode}
 use Rattle.filing.specs.declared.Direction.{Direction}
 use Rattle.exports.proofs.Exporting.{exported_keeps, delivered, delivered_passed}

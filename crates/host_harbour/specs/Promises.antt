@@ -3,7 +3,7 @@ use Rattle.std.specs.Prelude.{◌≡◌, List, [], ◌∷◌, ℕ, take, drop}
 use Rattle.frame.specs.Promises.{Keeps, KeepsLent}
 use Rattle.octets.specs.Bytes.{bytes, number_of}
 use Rattle.words.specs.declared.TriangleCode.{TriangleCode}
-use Rattle.words.specs.declared.CodeAnswer.{CodeAnswer}
+use Rattle.words.specs.Family.{CodeAnswer}
 use Rattle.filing.specs.declared.Direction.{Direction}
 use Rattle.exports.specs.Promises.{Delivered}
 use Rattle.harbour.specs.Refusals.{check_small}

@@ -9,12 +9,12 @@ use Rattle.octets.specs.Bytes.{bytes}
 use Rattle.words.specs.Words.{degree_of}
 use Rattle.words.specs.Refusals.{check_code, code_rows}
 use Rattle.words.specs.Family.{code_of}
-use Rattle.words.specs.declared.CodeAnswer.{CodeAnswer}
+use Rattle.words.specs.Family.{CodeAnswer}
 use Rattle.words.specs.declared.CornerName.{CornerName}
 use Rattle.words.specs.declared.TriangleCode.{TriangleCode}
 use Rattle.net.specs.Corners.{name_of}
 use Rattle.net.specs.Refusals.{canonical_rows, check_name}
-use Rattle.corners.specs.declared.NameAnswer.{NameAnswer}
+use Rattle.corners.specs.Answers.{NameAnswer}
 use Rattle.exports.specs.Promises.{Delivered}
 use Rattle.exports.proofs.Exporting.{from_delivered}
 use Rattle.opposites.specs.Opposites.{IsOpposite, IsOppositeName}

@@ -3,8 +3,8 @@ use Rattle.std.specs.Prelude.{List, [], ◌∷◌, ℕ}
 use Rattle.frame.specs.Promises.{KeepsLent}
 use Rattle.words.specs.declared.TriangleCode.{TriangleCode}
 use Rattle.words.specs.declared.CornerName.{CornerName}
-use Rattle.words.specs.declared.CodeAnswer.{CodeAnswer}
-use Rattle.corners.specs.declared.NameAnswer.{NameAnswer}
+use Rattle.words.specs.Family.{CodeAnswer}
+use Rattle.corners.specs.Answers.{NameAnswer}
 use Rattle.exports.specs.Promises.{Hosted}
 use Rattle.opposites.specs.Answers.{OppositeAnswer, OppositeNameAnswer}
 use Rattle.host_opposites.specs.Refusals.{refuse_opposite, refuse_opposite_name}

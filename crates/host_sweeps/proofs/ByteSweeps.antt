@@ -18,7 +18,7 @@ use Rattle.octets.specs.Bytes.{bytes_of, bytes, number_at, read_each, signed, si
 use Rattle.octets.proofs.Laying.{read_long, read_next, bytes_long, as_long}
 use Rattle.octets.proofs.WordLists.{bytes_more}
 use Rattle.words.specs.Refusals.{degree_rows}
-use Rattle.words.specs.declared.CodeAnswer.{CodeAnswer}
+use Rattle.words.specs.Family.{CodeAnswer}
 use Rattle.net.specs.Steps.{non_zeros}
 use Rattle.directions.specs.Answers.{FileAnswer}
 use Rattle.sweeps.specs.Means.Counted.{Counted}

@@ -13,7 +13,7 @@ use Rattle.frame.specs.Lists.{first_place}
 use Rattle.frame.proofs.Answering.{answers_or_not}
 use Rattle.octets.specs.Bytes.{bytes, number_at, signed}
 use Rattle.octets.proofs.Laying.{read_at}
-use Rattle.words.specs.declared.CodeAnswer.{CodeAnswer}
+use Rattle.words.specs.Family.{CodeAnswer}
 use Rattle.words.proofs.Codes.{code_fields}
 use Rattle.filing.specs.declared.Direction.{Direction}
 use Rattle.directions.specs.Answers.{FileAnswer}

@@ -14,7 +14,7 @@ use Rattle.corners.specs.Refusals.{refuse_numbered}
 use Rattle.corners.proofs.Refused.{numbered_passes}
 use Rattle.filing.specs.declared.Point.{Point}
 use Rattle.points.specs.Answers.{DrawAnswer}
-use Rattle.points.specs.declared.PointAnswer.{PointAnswer}
+use Rattle.points.specs.Answers.{PointAnswer}
 use Rattle.points.proofs.OnePlace.{draw_some, point_one}
 use Rattle.grid.proofs.Turns.{ends_three}
 use Rattle.tables.specs.Tables.{said, number_at}

@@ -16,14 +16,14 @@ use Rattle.net.proofs.Table.{◌and◌, ◌or◌, same, sound, threes}
 use Rattle.corners.specs.Turns.{lower, higher}
 use Rattle.corners.specs.Refusals.{refuse_numbered}
 use Rattle.corners.specs.Answers.{CrossAnswer}
-use Rattle.corners.specs.declared.StepAnswer.{StepAnswer}
+use Rattle.corners.specs.Answers.{StepAnswer}
 use Rattle.corners.proofs.Refused.{numbered, numbered_passes}
 use Rattle.corners.proofs.TurnedCorners.{first_there, second_there, turned_is}
 use Rattle.filing.specs.Coordinates.{exact}
 use Rattle.filing.specs.Drawing.{IsPoint}
 use Rattle.filing.specs.declared.Point.{Point}
 use Rattle.points.specs.Answers.{DrawAnswer}
-use Rattle.points.specs.declared.PointAnswer.{PointAnswer}
+use Rattle.points.specs.Answers.{PointAnswer}
 use Rattle.points.proofs.OnePlace.{point_one}
 use Rattle.grid.proofs.Turns.{ends_three}
 use Rattle.tables.specs.Tables.{said, number_at}

@@ -5,9 +5,9 @@ use Rattle.words.specs.declared.TriangleCode.{TriangleCode}
 use Rattle.corners.specs.Refusals.{refuse_numbered}
 use Rattle.corners.specs.Turns.{lower, higher}
 use Rattle.corners.specs.Answers.{CrossAnswer}
-use Rattle.corners.specs.declared.StepAnswer.{StepAnswer}
+use Rattle.corners.specs.Answers.{StepAnswer}
 use Rattle.points.specs.Answers.{DrawAnswer}
-use Rattle.points.specs.declared.PointAnswer.{PointAnswer}
+use Rattle.points.specs.Answers.{PointAnswer}
 use Rattle.filing.specs.declared.Point.{Point}
 use Rattle.tables.specs.Refusals.{refuse_get}
 use Rattle.tables.specs.Answers.{GetAnswer}

@@ -11,7 +11,7 @@ use Rattle.words.specs.Words.{corner_number}
 use Rattle.words.specs.Refusals.{check_code, check_name_fields}
 use Rattle.words.specs.Family.{code_answer, no_code}
 use Rattle.words.specs.Writing.{decimals, written}
-use Rattle.words.specs.declared.CodeAnswer.{CodeAnswer}
+use Rattle.words.specs.Family.{CodeAnswer}
 use Rattle.words.specs.declared.CornerName.{CornerName}
 use Rattle.words.specs.declared.TriangleCode.{TriangleCode}
 use Rattle.net.specs.Corners.{code_inside, name_of}

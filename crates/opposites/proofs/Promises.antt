@@ -10,7 +10,7 @@ use Rattle.words.specs.Refusals.{IsCode, check_code}
 use Rattle.words.specs.Family.{code_answer, no_code}
 use Rattle.words.specs.declared.TriangleCode.{TriangleCode}
 use Rattle.words.specs.declared.CornerName.{CornerName}
-use Rattle.words.specs.declared.CodeAnswer.{CodeAnswer}
+use Rattle.words.specs.Family.{CodeAnswer}
 use Rattle.words.proofs.Codes.{is_code}
 use Rattle.net.specs.Corners.{named}
 use Rattle.net.specs.Division.{each}
@@ -28,8 +28,8 @@ use Rattle.filing.specs.Means.Opposites.{opposite_of}
 use Rattle.filing.proofs.OppositeCorners.{opposite_code, opposite_digits}
 use Rattle.corners.specs.Answers.{CrossAnswer, name_answer, no_name}
 use Rattle.corners.specs.Turns.{Turned}
-use Rattle.corners.specs.declared.StepAnswer.{StepAnswer}
-use Rattle.corners.specs.declared.NameAnswer.{NameAnswer}
+use Rattle.corners.specs.Answers.{StepAnswer}
+use Rattle.corners.specs.Answers.{NameAnswer}
 use Rattle.corners.proofs.Refused.{numbered, numbered_passes}
 use Rattle.corners.proofs.TurnedCorners.{turned_one}
 use Rattle.opposites.specs.Opposites.{exchanged, IsOpposite, IsOppositeName}

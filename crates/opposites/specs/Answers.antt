@@ -7,10 +7,10 @@ use Rattle.words.specs.Refusals.{check_code}
 use Rattle.words.specs.Family.{no_code}
 use Rattle.words.specs.declared.TriangleCode.{TriangleCode}
 use Rattle.words.specs.declared.CornerName.{CornerName}
-use Rattle.words.specs.declared.CodeAnswer.{CodeAnswer}
+use Rattle.words.specs.Family.{CodeAnswer}
 use Rattle.net.specs.Refusals.{check_name}
 use Rattle.corners.specs.Answers.{no_name}
-use Rattle.corners.specs.declared.NameAnswer.{NameAnswer}
+use Rattle.corners.specs.Answers.{NameAnswer}
 use Rattle.opposites.specs.Opposites.{IsOpposite, IsOppositeName}
 
 pub record Opposing (t : TriangleCode) (r : CodeAnswer) : Type 0 where

@@ -3,7 +3,7 @@ use Rattle.std.specs.Prelude.{◌≡◌, ℕ, suc}
 use Rattle.frame.specs.Promises.{◌gives◌}
 use Rattle.words.specs.Family.{code_of, code_answer, no_code}
 use Rattle.words.specs.Writing.{written, zero_digits}
-use Rattle.words.specs.declared.CodeAnswer.{CodeAnswer}
+use Rattle.words.specs.Family.{CodeAnswer}
 use Rattle.net.specs.Corners.{name_of}
 use Rattle.corners.specs.Answers.{name_answer, no_name}
 use Rattle.directions.specs.Answers.{FileAnswer}

@@ -7,7 +7,7 @@ use Rattle.words.specs.Refusals.{IsCode, check_code}
 use Rattle.words.specs.Family.{code_answer, no_code}
 use Rattle.words.specs.declared.TriangleCode.{TriangleCode}
 use Rattle.words.specs.declared.CornerName.{CornerName}
-use Rattle.words.specs.declared.CodeAnswer.{CodeAnswer}
+use Rattle.words.specs.Family.{CodeAnswer}
 use Rattle.net.specs.Sides.{OneToThree, nth}
 use Rattle.net.specs.Corners.{corner, named}
 use Rattle.net.specs.Names.{IsName}
@@ -18,8 +18,8 @@ use Rattle.filing.specs.Filing.{IsFiled}
 use Rattle.filing.specs.Holding.{Holds}
 use Rattle.filing.specs.declared.Direction.{Direction}
 use Rattle.corners.specs.Answers.{CrossAnswer, name_answer, no_name}
-use Rattle.corners.specs.declared.StepAnswer.{StepAnswer}
-use Rattle.corners.specs.declared.NameAnswer.{NameAnswer}
+use Rattle.corners.specs.Answers.{StepAnswer}
+use Rattle.corners.specs.Answers.{NameAnswer}
 use Rattle.directions.specs.Refusals.{refuse_file}
 use Rattle.opposites.specs.Opposites.{exchanged, negated_direction, IsOpposite}
 use Rattle.opposites.specs.Answers.{OppositeAnswer, OppositeNameAnswer}

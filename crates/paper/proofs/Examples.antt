@@ -26,7 +26,7 @@ use Rattle.net.specs.Means.Seams.{seam_kept, seam_side}
 use Rattle.net.specs.Means.States.{cross}
 use Rattle.net.specs.Means.Walks.{around, least_name, name_at, place_at, step_of, word_at}
 use Rattle.corners.specs.Answers.{count_answer, name_answer, no_count, no_name}
-use Rattle.corners.specs.declared.CountAnswer.{CountAnswer}
+use Rattle.corners.specs.Answers.{CountAnswer}
 use Rattle.corners.proofs.Calls.{made_named}
 use Rattle.notation.specs.Means.Directions.{base_side, parts, side_turn, turned_parts}
 use Rattle.notation.specs.Means.Reading.{taken}

@@ -13,7 +13,7 @@ use Rattle.words.specs.Refusals.{IsCode}
 use Rattle.words.specs.Family.{code_answer, no_code}
 use Rattle.words.specs.declared.TriangleCode.{TriangleCode}
 use Rattle.words.specs.declared.CornerName.{CornerName}
-use Rattle.words.specs.declared.CodeAnswer.{CodeAnswer}
+use Rattle.words.specs.Family.{CodeAnswer}
 use Rattle.words.proofs.Codes.{code_degree, is_code}
 use Rattle.net.specs.Sides.{OneToThree, after}
 use Rattle.net.specs.Division.{Triangle, pick_corner}
@@ -23,8 +23,8 @@ use Rattle.net.proofs.Canonical.{name_means, name_passes_all}
 use Rattle.net.proofs.Spread.{middle_turned}
 use Rattle.net.proofs.Table.{three}
 use Rattle.corners.specs.Answers.{count_answer, name_answer, no_count, no_name}
-use Rattle.corners.specs.declared.CountAnswer.{CountAnswer}
-use Rattle.corners.specs.declared.NameAnswer.{NameAnswer}
+use Rattle.corners.specs.Answers.{CountAnswer}
+use Rattle.corners.specs.Answers.{NameAnswer}
 use Rattle.notation.specs.Domains.{at, domain}
 use Rattle.notation.specs.Vertices.{Pair, base_pair, next_pair, pair_by, point}
 use Rattle.notation.specs.Same.{SameDomain, SameVertex}

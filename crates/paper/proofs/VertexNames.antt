@@ -16,7 +16,7 @@ use Rattle.net.specs.Means.Paths.{digits_of}
 use Rattle.net.proofs.Canonical.{and_true, name_passes_all, not_so}
 use Rattle.net.proofs.Paths.{digits_of_lem, four, of_length, of_path, path_of}
 use Rattle.corners.specs.Answers.{Named, no_name}
-use Rattle.corners.specs.declared.NameAnswer.{NameAnswer}
+use Rattle.corners.specs.Answers.{NameAnswer}
 use Rattle.notation.specs.Domains.{are_digits, is_a, is_bit}
 use Rattle.notation.specs.Vertices.{are_zeros, is_vertex}
 use Rattle.notation.specs.Same.{SameVertex}

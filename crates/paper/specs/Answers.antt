@@ -6,10 +6,10 @@ use Rattle.words.specs.Words.{degree_of}
 use Rattle.words.specs.Family.{no_code}
 use Rattle.words.specs.declared.TriangleCode.{TriangleCode}
 use Rattle.words.specs.declared.CornerName.{CornerName}
-use Rattle.words.specs.declared.CodeAnswer.{CodeAnswer}
+use Rattle.words.specs.Family.{CodeAnswer}
 use Rattle.corners.specs.Answers.{count_answer, no_name, no_count}
-use Rattle.corners.specs.declared.NameAnswer.{NameAnswer}
-use Rattle.corners.specs.declared.CountAnswer.{CountAnswer}
+use Rattle.corners.specs.Answers.{NameAnswer}
+use Rattle.corners.specs.Answers.{CountAnswer}
 use Rattle.notation.specs.Same.{SameDomain, SameVertex}
 use Rattle.paper.specs.Refusals.{refuse_from_domain, refuse_from_vertex, refuse_to_domain, refuse_to_vertex}
 

@@ -6,13 +6,13 @@ use Rattle.words.specs.Words.{side, path, word_of}
 use Rattle.words.specs.Family.{code_of, code_answer, no_code}
 use Rattle.words.specs.declared.TriangleCode.{TriangleCode}
 use Rattle.words.specs.declared.CornerName.{CornerName}
-use Rattle.words.specs.declared.CodeAnswer.{CodeAnswer}
+use Rattle.words.specs.Family.{CodeAnswer}
 use Rattle.net.specs.Sides.{OneToThree, after}
 use Rattle.net.specs.Division.{pick_corner, kept, middle}
 use Rattle.net.specs.Corners.{corner, named}
 use Rattle.corners.specs.Answers.{count_answer, name_answer, no_name, no_count}
-use Rattle.corners.specs.declared.NameAnswer.{NameAnswer}
-use Rattle.corners.specs.declared.CountAnswer.{CountAnswer}
+use Rattle.corners.specs.Answers.{NameAnswer}
+use Rattle.corners.specs.Answers.{CountAnswer}
 use Rattle.notation.specs.Domains.{at, domain, c1, c2, c3}
 use Rattle.notation.specs.Vertices.{base_pair, pair_by, point}
 use Rattle.paper.specs.Refusals.{refuse_from_domain, refuse_from_vertex, refuse_to_domain, refuse_to_vertex}

@@ -30,9 +30,9 @@ use Rattle.points.specs.Answers.{NameDrawAnswer}
 use Rattle.filing.specs.Means.Places.{Small}
 use Rattle.filing.specs.declared.Coordinates.{Coordinates}
 use Rattle.filing.specs.declared.Ticks.{Ticks}
-use Rattle.points.specs.declared.TicksAnswer.{TicksAnswer}
+use Rattle.points.specs.Answers.{TicksAnswer}
 use Rattle.filing.specs.declared.Point.{Point}
-use Rattle.points.specs.declared.PointAnswer.{PointAnswer}
+use Rattle.points.specs.Answers.{PointAnswer}
 use Rattle.points.specs.Bits.{exponent, fraction, magnitude, bits_of, HasBits}
 
 -- ---- how many binary digits

@@ -24,11 +24,11 @@ use Rattle.points.specs.Answers.{PlaceAnswer, NamePlaceAnswer, TickAnswer, NameT
 use Rattle.points.specs.Answers.{NameDrawAnswer}
 use Rattle.filing.specs.Means.Places.{Twelve, Small}
 use Rattle.filing.specs.declared.Coordinates.{Coordinates}
-use Rattle.points.specs.declared.CoordinatesAnswer.{CoordinatesAnswer}
+use Rattle.points.specs.Answers.{CoordinatesAnswer}
 use Rattle.filing.specs.declared.Ticks.{Ticks}
-use Rattle.points.specs.declared.TicksAnswer.{TicksAnswer}
+use Rattle.points.specs.Answers.{TicksAnswer}
 use Rattle.filing.specs.declared.Point.{Point}
-use Rattle.points.specs.declared.PointAnswer.{PointAnswer}
+use Rattle.points.specs.Answers.{PointAnswer}
 use Rattle.filing.proofs.Weighted.{exact_small}
 use Rattle.filing.proofs.ExactFractions.{one_fraction, divisor_pos, divided}
 use Rattle.points.proofs.DrawnBits.{pointed}

@@ -24,9 +24,9 @@ use Rattle.corners.proofs.Refused.{numbered_passes, weights_then, name_weights_t
 use Rattle.filing.specs.Coordinates.{exact}
 use Rattle.filing.specs.Means.Places.{Twelve, Small}
 use Rattle.filing.specs.declared.Coordinates.{Coordinates}
-use Rattle.points.specs.declared.CoordinatesAnswer.{CoordinatesAnswer}
-use Rattle.points.specs.declared.TicksAnswer.{TicksAnswer}
-use Rattle.points.specs.declared.PointAnswer.{PointAnswer}
+use Rattle.points.specs.Answers.{CoordinatesAnswer}
+use Rattle.points.specs.Answers.{TicksAnswer}
+use Rattle.points.specs.Answers.{PointAnswer}
 use Rattle.filing.proofs.Weighted.{corner_twelve, exact_small, origin_small}
 
 -- ---- where nothing is refused

@@ -13,9 +13,9 @@ use Rattle.filing.specs.declared.Coordinates.{Coordinates}
 use Rattle.filing.specs.declared.Ticks.{Ticks}
 use Rattle.corners.specs.Refusals.{refuse_numbered}
 use Rattle.points.specs.Bits.{HasBits}
-use Rattle.points.specs.declared.CoordinatesAnswer.{CoordinatesAnswer}
-use Rattle.points.specs.declared.TicksAnswer.{TicksAnswer}
-use Rattle.points.specs.declared.PointAnswer.{PointAnswer}
+use Rattle.points.specs.Answers.{CoordinatesAnswer}
+use Rattle.points.specs.Answers.{TicksAnswer}
+use Rattle.points.specs.Answers.{PointAnswer}
 
 -- "Every refusal returns only its number and zeros"; "A zero, also in a refusal, is the positive zero."
 abbrev pub no_coordinates : (refusal : ℕ) → CoordinatesAnswer

@@ -10,7 +10,7 @@ use lib.Seq.{take_all, take-suc, length-take-le}
 use borrow.Rule.Slice.PartMut.{put_mid}
 use Rattle.frame.specs.Lists.{first_place}
 use Rattle.frame.proofs.Lengths.{two_parts, over_next, over_long}
-use Rattle.words.specs.declared.CodeAnswer.{CodeAnswer}
+use Rattle.words.specs.Family.{CodeAnswer}
 use Rattle.net.specs.Steps.{non_zeros}
 use Rattle.directions.specs.Answers.{FileAnswer}
 use Rattle.directions.specs.Means.Numbers.{answer_for}

@@ -12,7 +12,7 @@ use Rattle.frame.specs.Promises.{◌leaves◌}
 use Rattle.frame.proofs.Answering.{refusing, answering, gives_one, no_other}
 use Rattle.words.specs.Words.{path, word_in}
 use Rattle.words.specs.Family.{code_answer, no_code}
-use Rattle.words.specs.declared.CodeAnswer.{CodeAnswer}
+use Rattle.words.specs.Family.{CodeAnswer}
 use Rattle.filing.specs.declared.Direction.{Direction}
 use Rattle.directions.specs.Refusals.{refuse_file}
 use Rattle.directions.specs.Answers.{FileAnswer}

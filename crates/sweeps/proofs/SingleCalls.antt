@@ -6,7 +6,7 @@ use native.Mathlib.Omega.{arith}
 use lib.IntN.{ℤ, pos}
 use lib.ListN.{length, get_or, get_or-map}
 use Rattle.words.specs.Family.{no_code}
-use Rattle.words.specs.declared.CodeAnswer.{CodeAnswer}
+use Rattle.words.specs.Family.{CodeAnswer}
 use Rattle.directions.specs.Answers.{FileAnswer}
 use Rattle.directions.proofs.FilingCalls.{answer_small}
 use Rattle.directions.proofs.OneFiling.{file_one, file_some}

@@ -7,7 +7,7 @@ use lib.IntN.{ℤ}
 use lib.ListN.{length, get_or, take, drop, get_or-append, length-append, take-append-drop}
 use lib.Seq.{take_at, drop_at, drop-drop, length-take-le}
 use Rattle.frame.specs.Answers.{over}
-use Rattle.words.specs.declared.CodeAnswer.{CodeAnswer}
+use Rattle.words.specs.Family.{CodeAnswer}
 use Rattle.directions.specs.Answers.{FileAnswer}
 use Rattle.net.specs.Steps.{non_zeros}
 use Rattle.grid.specs.Writing.{towards}

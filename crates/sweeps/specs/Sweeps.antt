@@ -1,7 +1,7 @@
 -- Document 02, 2026-04: what a sweep comes to. Assumes nothing.
 use Rattle.std.specs.Prelude.{◌≡◌, Bool, true, false, List, [], ◌∷◌, map, ℕ, zero, suc, ℤ, get_or}
 use Rattle.frame.specs.Lists.{first_place}
-use Rattle.words.specs.declared.CodeAnswer.{CodeAnswer}
+use Rattle.words.specs.Family.{CodeAnswer}
 use Rattle.net.specs.Steps.{non_zeros}
 use Rattle.directions.specs.Answers.{FileAnswer}
 use Rattle.grid.specs.Writing.{towards}

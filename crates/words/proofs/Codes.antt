@@ -59,6 +59,10 @@ code_passes t =
       λ p. (none_after order order (word_rows w) _ tt tt).1 ((word_passes w).1 p.0, ((low_zero w).1 p.1, tt)),
     )
 
+-- so its degree is one
+pub passes_degree : (t : TriangleCode) → check_code t ≡ 0 → degree_of t.0 ≤ 24
+passes_degree t e = ((code_passes t).0 e).0.degree
+
 pub name_passes :
     (r : CornerName)
     → (check_name_fields r ≡ 0) ↔ (Fields large r.0 × (zero_bits r.0 ≡ 0) × (1 ≤ corner_number r.0)

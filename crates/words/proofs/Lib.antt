@@ -1,5 +1,4 @@
 -- The laws that the proofs of `words` cite, and the crates above.
-pub mod Answers
 pub mod WordLayout
 pub mod Digits
 pub mod FormCodes

@@ -1,21 +1,28 @@
 -- Document 01, "Parent, child and crossing take a triangle code": parent and child. Assumes nothing.
-use Rattle.std.specs.Prelude.{ℕ, suc, ◌-◌, ◌∷◌, ◌++◌}
-use Rattle.frame.specs.Refusals.{refusal}
+use Rattle.std.specs.Prelude.{ℕ, suc, ◌-◌, ◌∷◌, ◌++◌, Result}
+use Rattle.frame.specs.declared.Refusal.{Refusal}
+use Rattle.frame.specs.Refusals.{refusal, told}
 use Rattle.frame.specs.Answers.{Known}
 use Rattle.words.specs.Words.{degree_of, digits, side_of, path, word_of}
 use Rattle.words.specs.Refusals.{code_rows, digit_rows, parent_rows, child_rows}
 use Rattle.words.specs.declared.TriangleCode.{TriangleCode}
-use Rattle.words.specs.declared.CodeAnswer.{CodeAnswer}
 
 abbrev pub code_of : ℕ → TriangleCode
 code_of w = record { 0 = w }
 
 -- an answer that is a code, and a refusal's zeros
+pub record CodeAnswer : Type 0 where
+  pub refusal : ℕ
+  pub code : TriangleCode
+
 abbrev pub code_answer : (refusal : ℕ) → TriangleCode → CodeAnswer
 code_answer f t = record { refusal = f; code = t }
 
 abbrev pub no_code : (refusal : ℕ) → CodeAnswer
 no_code f = code_answer f (code_of 0)
+
+abbrev pub code_told : Result TriangleCode Refusal → CodeAnswer
+code_told r = told (code_answer 0) no_code r
 
 unfoldable pub refuse_parent : TriangleCode → ℕ
 refuse_parent t = refusal (code_rows t ++ parent_rows t)

@@ -2,25 +2,20 @@
 #![tactic(auto)]
 
 ghost use Rattle.std.specs.Prelude.{◌≡◌, ◌+◌, ◌-◌, ◌*◌, ◌^◌, ◌<◌, ◌≤◌, take};
-ghost use Rattle.frame.specs.Refusals.{refusal};
+ghost use Rattle.frame.specs.Refusals.{refusal, told_number};
 ghost use Rattle.words.specs.Words.{bits, a_of, degree_of, digits, beyond, side_of, path, word_of};
 ghost use Rattle.words.specs.Refusals.{word_rows, check_code, check_name_fields};
-ghost use Rattle.words.specs.Family.{code_of, code_answer, no_code, ParentAnswer, ChildAnswer};
+ghost use Rattle.words.specs.Family.{code_told, ParentAnswer, ChildAnswer};
+
+use frame::Refusal;
 
 // A triangle code, or any word handed in as one.
-#[derive(Clone, Copy)]
+#[derive(Clone, Copy, Debug, PartialEq, Eq, PartialOrd, Ord, Hash)]
 pub struct TriangleCode(pub u64);
 
 // A corner name, or any word handed in as one.
-#[derive(Clone, Copy)]
+#[derive(Clone, Copy, Debug, PartialEq, Eq, PartialOrd, Ord, Hash)]
 pub struct CornerName(pub u64);
-
-// A code, or a refusal's number with the code 0.
-#[derive(Clone, Copy)]
-pub struct CodeAnswer {
-    pub refusal: u64,
-    pub code: TriangleCode,
-}
 
 // ---- the fields of a word of either kind
 
@@ -94,125 +89,92 @@ fn beyond_of(w: u64) -> u64
 // ---- checking
 
 // Refusals 1 and 2, by what stands above the digits.
-fn check_above(w: u64) -> u64
-    ensures { result ≡ refusal (take 2 (word_rows w)) }
+fn check_above(w: u64) -> Result<(), Refusal>
+    ensures { told_number result ≡ refusal (take 2 (word_rows w)) }
 {
     let n = degree_of(w);
     let a = a_of(w);
     if 24 < n {
-        return 1;
+        return Err(Refusal::Degree);
     }
     if a == 0 {
-        return 2;
+        return Err(Refusal::Side);
     }
     if 5 < a {
-        return 2;
+        return Err(Refusal::Side);
     }
-    0
+    Ok(())
 }
 
 // Refusals 1 to 3, which both kinds of word share.
-fn check_word(w: u64) -> u64
-    ensures { result ≡ refusal (word_rows w) }
+fn check_word(w: u64) -> Result<(), Refusal>
+    ensures { told_number result ≡ refusal (word_rows w) }
 {
-    let f = check_above(w);
-    if f != 0 {
-        return f;
-    }
+    check_above(w)?;
     if beyond_of(w) != 0 {
-        return 3;
+        return Err(Refusal::BeyondDegree);
     }
-    0
+    Ok(())
 }
 
-// 0, or the refusal 1 to 4 of a word whose fields are no corner name's. Whether it is canonical is not looked at: no
-// call of document 01, but the first part of checking a name.
-pub fn check_name_fields(r: CornerName) -> u64
-    ensures { result ≡ check_name_fields r }
+// Refuses by 1 to 4 a word whose fields are no corner name's. Whether it is canonical is not looked at: no call of
+// document 01, but the first part of checking a name.
+pub fn check_name_fields(r: CornerName) -> Result<(), Refusal>
+    ensures { told_number result ≡ check_name_fields r }
 {
     let w = r.0;
-    let f = check_word(w);
-    if f != 0 {
-        return f;
-    }
+    check_word(w)?;
     if w / 4 % 16 != 0 {
-        return 4;
+        return Err(Refusal::LowBits);
     }
     if w % 4 == 0 {
-        return 4;
+        return Err(Refusal::LowBits);
     }
-    0
-}
-
-fn refused(f: u64) -> CodeAnswer
-    ensures { result ≡ no_code f }
-{
-    CodeAnswer {
-        refusal: f,
-        code: TriangleCode(0),
-    }
-}
-
-fn answered(w: u64) -> CodeAnswer
-    ensures { result ≡ code_answer 0 (code_of w) }
-{
-    CodeAnswer {
-        refusal: 0,
-        code: TriangleCode(w),
-    }
+    Ok(())
 }
 
 impl TriangleCode {
-    // 0, or the refusal 1 to 4 of a word that is no triangle code. Of a code all is 0 below its digits.
-    pub fn check(self) -> u64
-        ensures { result ≡ check_code self }
+    // Refuses by 1 to 4 a word that is no triangle code. Of a code all is 0 below its digits.
+    pub fn check(self) -> Result<(), Refusal>
+        ensures { told_number result ≡ check_code self }
     {
         let w = self.0;
-        let f = check_above(w);
-        if f != 0 {
-            return f;
-        }
+        check_above(w)?;
         if w % unit_of(w) == 0 {
-            return 0;
+            return Ok(());
         }
         if beyond_of(w) != 0 {
-            return 3;
+            return Err(Refusal::BeyondDegree);
         }
-        4
+        Err(Refusal::LowBits)
     }
 
     // The triangle of which this is a child.
-    pub fn parent(self) -> CodeAnswer
-        ensures { ParentAnswer self result }
+    pub fn parent(self) -> Result<TriangleCode, Refusal>
+        ensures { ParentAnswer self (code_told result) }
     {
+        self.check()?;
         let w = self.0;
-        let f = self.check();
-        if f != 0 {
-            return refused(f);
-        }
         let n = degree_of(w);
         if n == 0 {
-            return refused(6);
+            return Err(Refusal::NoSuchKin);
         }
-        answered(word_of(side_of(w), n - 1, path_of(w, n - 1)))
+        Ok(TriangleCode(word_of(side_of(w), n - 1, path_of(w, n - 1))))
     }
 
     // The child with this digit.
-    pub fn child(self, digit: u64) -> CodeAnswer
-        ensures { ChildAnswer self digit result }
+    pub fn child(self, digit: u64) -> Result<TriangleCode, Refusal>
+        ensures { ChildAnswer self digit (code_told result) }
     {
+        self.check()?;
         let w = self.0;
-        let f = self.check();
-        if f != 0 {
-            return refused(f);
-        }
         if 3 < digit {
-            return refused(5);
+            return Err(Refusal::Argument);
         }
         let n = degree_of(w);
         if n == 24 {
-            return refused(6);
+            return Err(Refusal::NoSuchKin);
         }
-        answered(word_of(side_of(w), n + 1, 4 * path_of(w, n) + digit))
+        Ok(TriangleCode(word_of(side_of(w), n + 1, 4 * path_of(w, n) + digit)))
     }
 }

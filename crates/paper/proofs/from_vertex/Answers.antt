@@ -6,7 +6,7 @@ use Prim.Native.Nat.{ℕ, ◌≤◌}
 use native.Mathlib.Omega.{arith}
 use lib.ListN.{get_or, length}
 use Rattle.corners.specs.Answers.{no_name}
-use Rattle.corners.specs.declared.NameAnswer.{NameAnswer}
+use Rattle.corners.specs.Answers.{NameAnswer}
 use Rattle.notation.specs.Domains.{are_digits}
 use Rattle.paper.specs.Answers.{FromVertexAnswer}
 use Rattle.paper.proofs.FromPaper.{digits_wrong, path_small, read_room, refused_deep, refused_wrong}

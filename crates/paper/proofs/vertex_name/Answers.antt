@@ -3,7 +3,7 @@ use mathlib.Core.Path.{◌≡◌, sym, subst}
 use mathlib.Core.List.{List, ◌∷◌}
 use Prim.Native.Nat.{ℕ, ◌*◌, ◌^◌, ◌≤◌, ◌<◌}
 use native.Mathlib.Omega.{arith}
-use Rattle.corners.specs.declared.NameAnswer.{NameAnswer}
+use Rattle.corners.specs.Answers.{NameAnswer}
 use Rattle.paper.specs.Answers.{FromVertexAnswer}
 use Rattle.paper.proofs.VertexNames.{a_pole, a_ring, low, not_pole, small}
 use Rattle.paper.proofs.vertex_name.Goals as goal

@@ -1,7 +1,7 @@
 -- `sweeps::code_in` meets its contract. Assumes nothing.
 use mathlib.Core.Path.{sym, ap}
 use native.Mathlib.Omega.{arith}
-use Rattle.words.specs.declared.CodeAnswer.{CodeAnswer}
+use Rattle.words.specs.Family.{CodeAnswer}
 use Rattle.directions.proofs.FilingCalls.{small_number, large_number}
 use Rattle.sweeps.proofs.code_in.Goals as goal
 

@@ -1,53 +1,46 @@
--- The check first, then the degree; a code's degree is at most 24 (Refusing, Answers, Codes). Assumes nothing.
-use Prim.Native.Nat.{◌≤◌}
+-- The check first, then the degree; a code's degree is at most 24 (Refusing, Told, Codes). Assumes nothing.
+use mathlib.Core.Path.{ap, sym}
 use native.Mathlib.Omega.{arith}
 use borrow.Author.Tests.{eq-eqb, ne_eqb}
 use Rattle.words.specs.Words.{degree_of}
 use Rattle.words.specs.Refusals.{code_rows, check_code}
-use Rattle.words.specs.Family.{refuse_parent, parent_of}
+use Rattle.words.specs.Family.{code_of, code_answer, refuse_parent, parent_of}
 use Rattle.frame.proofs.Refusing.{here, next, nothing, refuse_before, refuse_after}
+use Rattle.frame.proofs.Answering.{answering, refusing}
+use Rattle.frame.proofs.Told.{number_some, handed_on}
 use Rattle.frame.specs.Refusals.{order}
-use Rattle.words.proofs.Answers.{refuse, accept}
 use Rattle.words.proofs.Digits.{digits_are, path_lt}
-use Rattle.words.proofs.Codes.{code_passes}
+use Rattle.words.proofs.Codes.{passes_degree}
 use Rattle.words.proofs.TriangleCode.parent.Goals as goal
-use Rattle.words.proofs.TriangleCode.parent.Lts as lts
-use Rattle.words.proofs.TriangleCode.parent.Reads as reads
-use Rattle.words.proofs.TriangleCode.parent.Tie as tie
 
-abbrev Else-n-eq0 : Type 0
-Else-n-eq0 = lts.Else2 tie.the-claims reads.Pre reads.Post
-
-pub returns-then-f-ne0 : goal.returns-then-f-ne0
+pub returns-in_err-check : goal.returns-in_err-check
 unfolding refuse_parent check_code
-returns-then-f-ne0 c =
-    let some = c.before.if-f-ne0.true in
-    refuse _ _ c.refused.ensures (refuse_before order order (code_rows c.before.before.before.args.self) _ tt
-    tt c.before.before.check-f.ensures some) some
+returns-in_err-check c =
+    handed_on _ _ _ c.from_residual.ensures
+    (refuse_before order order (code_rows c.args.self) _ tt tt c.in_err-check.ensures (number_some _))
 
 pub returns-then-n-eq0 : goal.returns-then-n-eq0
 unfolding refuse_parent check_code
 returns-then-n-eq0 c =
-    let t = c.before.before.before.before.before.args.self in
-    refuse _ _ c.refused-then-n-eq0.ensures (refuse_after order order (code_rows t) _ tt tt (omega arith)
-    (here (eq-eqb (degree_of t.0) 0 (omega arith)))) (omega arith)
-
-small : (c : Else-n-eq0) → c.before.degree_of-n.result ≤ 24
-small c = omega (arith, ((code_passes c.before.before.before.before.args.self).0 (omega arith)).0.degree)
+    let t = c.args.self in
+    refusing (refuse_after order order (code_rows t) _ tt tt (sym c.in_ok-check.ensures)
+    (here (eq-eqb (degree_of t.0) 0 (omega arith))))
+    (omega arith)
 
 pub path_of-requires : goal.path_of-requires
-path_of-requires c = omega (arith, small c.before)
+path_of-requires c = omega (arith, passes_degree c.args.self (sym c.in_ok-check.ensures))
 
 pub word_of-requires : goal.word_of-requires
 word_of-requires c = (
   omega arith,
-  omega (arith, small c.before.before),
+  omega (arith, passes_degree c.args.self (sym c.in_ok-check.ensures)),
   rw c.path_of.ensures (path_lt (digits_are _ _)),
 )
 
 pub returns : goal.returns
 unfolding refuse_parent check_code parent_of
 returns c =
-    let t = c.before.before.before.before.before.before.before.before.args.self in
-    accept _ _ c.answered.ensures (refuse_after order order (code_rows t) _ tt tt (omega arith)
-    (next (ne_eqb (degree_of t.0) 0 (omega arith)) nothing)) (cc)
+    let t = c.args.self in
+    answering (sym (refuse_after order order (code_rows t) _ tt tt (sym c.in_ok-check.ensures)
+    (next (ne_eqb (degree_of t.0) 0 (omega arith)) nothing)))
+    (ap (λ w. code_answer 0 (code_of w)) (cc))

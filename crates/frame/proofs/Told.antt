@@ -119,3 +119,9 @@ pub handed_on : {A R : Type 0} {f : ℕ} {Good : R → Type 0} {zeros : ℕ → 
     (r : Result A Refusal) → IsErr r × IsErrAnd r (λ x. x ≡ e) → number e ≡ f
     → Answer f Good zeros (told answer zeros r)
 handed_on answer e r h g = rw (handed r h) (refusing g (number_some e))
+
+-- the same with lent memory, which is left as it came
+pub handed_lent : {A R M : Type 0} {f : ℕ} {Good : R × M → Type 0} {zeros : ℕ → R} {old : M} (answer : A → R)
+    (e : Refusal) (r : Result A Refusal) → IsErr r × IsErrAnd r (λ x. x ≡ e) → number e ≡ f
+    → Answer {A = R × M} f Good (λ k. (zeros k, old)) (told answer zeros r, old)
+handed_lent answer e r h g = rw (handed r h) (refusing g (number_some e))

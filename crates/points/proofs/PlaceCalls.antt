@@ -1,6 +1,5 @@
 -- What the calls for coordinates answer, from the calls below them. Assumes nothing.
 use mathlib.Core.Path.{◌≡◌, ◌∙◌, refl, sym, ap, subst}
-use mathlib.Core.Logic.{⊎_elim}
 use mathlib.Core.List.{List, ◌++◌, append-nil}
 use Prim.Native.Nat.{ℕ, ◌≤◌}
 use native.Mathlib.Omega.{arith}
@@ -8,12 +7,11 @@ use lib.ListN.{length, drop}
 use lib.Seq.{drop-length}
 use Rattle.frame.specs.Answers.{over, Answer, Lent}
 use Rattle.frame.proofs.Lengths.{never_nine}
-use Rattle.frame.proofs.Answering.{answers_or_not, number_is}
+use Rattle.frame.proofs.Answering.{answering, number_is}
 use Rattle.words.specs.Words.{degree_of}
 use Rattle.words.specs.declared.TriangleCode.{TriangleCode}
 use Rattle.words.specs.declared.CornerName.{CornerName}
 use Rattle.words.proofs.Codes.{code_degree, is_code, name_code}
-use Rattle.net.specs.Division.{Weights}
 use Rattle.net.specs.Corners.{corner, named}
 use Rattle.net.specs.Refusals.{check_name}
 use Rattle.corners.specs.Refusals.{refuse_numbered, refuse_weights, refuse_name_weights}
@@ -25,9 +23,11 @@ use Rattle.filing.specs.Coordinates.{exact}
 use Rattle.filing.specs.Means.Places.{Twelve, Small}
 use Rattle.filing.specs.declared.Coordinates.{Coordinates}
 use Rattle.points.specs.Answers.{CoordinatesAnswer}
-use Rattle.points.specs.Answers.{TicksAnswer}
-use Rattle.points.specs.Answers.{PointAnswer}
-use Rattle.filing.proofs.Weighted.{corner_twelve, exact_small, origin_small}
+use Rattle.filing.specs.declared.Ticks.{Ticks}
+use Rattle.filing.specs.declared.Point.{Point}
+use Rattle.filing.specs.Drawing.{AreTicks, IsPoint}
+use Rattle.points.proofs.DrawnBits.{pointed}
+use Rattle.filing.proofs.Weighted.{corner_twelve, exact_small}
 
 -- ---- where nothing is refused
 
@@ -81,7 +81,7 @@ over_all xs out e =
 
 module _ {f g : ℕ} {p out : List ℕ} (s : Serves f g p out) {k : ℕ} {new : List ℕ}
     (w : Lent g (Put p out) (λ m. m) out k new) where
-  number_found : k ≡ f
+  pub number_found : k ≡ f
   number_found = number_is (λ (x : ℕ × List ℕ). x.0) refl (λ x put. put.0) w ∙ s.same
 
   written : f ≡ 0 → new ≡ p
@@ -90,41 +90,32 @@ module _ {f g : ℕ} {p out : List ℕ} (s : Serves f g p out) {k : ℕ} {new : 
   pub weights_twelve : k ≡ 0 → Twelve new
   weights_twelve e = let z : f ≡ 0 = sym number_found ∙ e in subst Twelve (sym (written z)) (s.twelve z)
 
-  pub place_answers : {r : CoordinatesAnswer} → Answer k (Placed (exact new)) no_coordinates r
-      → Answer f (Placed (exact p)) no_coordinates r
-  place_answers {r} a =
-      let b : Answer f (Placed (exact new)) no_coordinates r =
-      subst (λ (m : ℕ). Answer m (Placed (exact new)) no_coordinates r) number_found a in
-      record {
-        answered = λ z. subst (λ (q : Weights). Placed (exact q) r) (written z) (b.answered z);
-        refused = b.refused;
-      }
+  pub place_answers : {c : Coordinates} → k ≡ 0 → c ≡ exact new
+      → Answer f (Placed (exact p)) no_coordinates (record { refusal = 0; at = c })
+  place_answers e g = let z : f ≡ 0 = sym number_found ∙ e in
+      answering z (record { number = refl; is = g ∙ ap exact (written z) })
 
 -- ---- t and drawn points, from the coordinates
 
-module _ {f : ℕ} {e : Coordinates} {c : CoordinatesAnswer} (a : Answer f (Placed e) no_coordinates c) where
-  pub refusal_is : c.refusal ≡ f
-  refusal_is = number_is (λ r. r.refusal) refl (λ r g. g.number) a
+pub refusal_is : {f : ℕ} {e : Coordinates} {c : CoordinatesAnswer} → Answer f (Placed e) no_coordinates c
+    → c.refusal ≡ f
+refusal_is a = number_is (λ r. r.refusal) refl (λ r g. g.number) a
 
-  pub place_small : (f ≡ 0 → Small e) → Small c.at
-  place_small t =
-      ⊎_elim (λ z. subst Small (sym (a.answered z).is) (t z))
-      (λ n. subst (λ (r : CoordinatesAnswer). Small r.at) (sym (a.refused n)) origin_small) (answers_or_not f)
+module _ {f : ℕ} {e c : Coordinates} (a : Answer f (Placed e) no_coordinates (record { refusal = 0; at = c })) where
+  pub none : f ≡ 0
+  none = sym (refusal_is a)
 
-  -- what is answered of the coordinates that were found is answered of the corner's
-  of_place : {A : Type 0} (Good : Coordinates → A → Type 0) {zeros : ℕ → A} {r : A}
-      → Answer c.refusal (Good c.at) zeros r → Answer f (Good e) zeros r
-  of_place {A} Good {zeros} {r} x =
-      let y : Answer f (Good c.at) zeros r = subst (λ (m : ℕ). Answer m (Good c.at) zeros r) refusal_is x in
-      record {
-        answered = λ z. subst (λ (k : Coordinates). Good k r) (a.answered z).is (y.answered z);
-        refused = y.refused;
-      }
+  pub place_is : c ≡ e
+  place_is = (a.answered none).is
 
-  pub ticks_answers : {r : TicksAnswer} → Answer c.refusal (Ticked c.at) no_ticks r
-      → Answer f (Ticked e) no_ticks r
-  ticks_answers = of_place Ticked
+  pub place_small : (f ≡ 0 → Small e) → Small c
+  place_small t = subst Small (sym place_is) (t none)
 
-  pub point_answers : {n : ℕ} {r : PointAnswer} → Answer c.refusal (Pointed n c.at) no_point r
-      → Answer f (Pointed n e) no_point r
-  point_answers {n} = of_place (Pointed n)
+  pub ticks_answers : {t : Ticks} → AreTicks c t → Answer f (Ticked e) no_ticks (record { refusal = 0; at = t })
+  ticks_answers {t} g = answering none (record { number = refl; are = subst (λ (k : Coordinates). AreTicks k t) place_is g })
+
+  pub point_answers : {m n : ℕ} {p : Point} → m ≡ n → n ≤ 24 → Small c → IsPoint m c p
+      → Answer f (Pointed n e) no_point (record { refusal = 0; at = p })
+  point_answers {m} {n} {p} d low small g =
+      answering none (subst (λ (k : Coordinates). Pointed n k (record { refusal = 0; at = p })) place_is
+      (pointed _ low small refl (subst (λ (k : ℕ). IsPoint k c p) d g)))

@@ -1,5 +1,7 @@
 -- The complete answer of each call for a corner's place, for every input: what the contracts cite. Assumes nothing.
-use Rattle.std.specs.Prelude.{◌≡◌, ℕ, pos}
+use Rattle.std.specs.Prelude.{◌≡◌, ℕ, pos, Result}
+use Rattle.frame.specs.declared.Refusal.{Refusal}
+use Rattle.frame.specs.Refusals.{told}
 use Rattle.frame.specs.Answers.{Answer}
 use Rattle.words.specs.Words.{degree_of}
 use Rattle.words.specs.declared.TriangleCode.{TriangleCode}
@@ -11,11 +13,22 @@ use Rattle.filing.specs.Fractions.{plus_zero}
 use Rattle.filing.specs.Drawing.{AreTicks, IsPoint}
 use Rattle.filing.specs.declared.Coordinates.{Coordinates}
 use Rattle.filing.specs.declared.Ticks.{Ticks}
+use Rattle.filing.specs.declared.Point.{Point}
 use Rattle.corners.specs.Refusals.{refuse_numbered}
 use Rattle.points.specs.Bits.{HasBits}
-use Rattle.points.specs.Answers.{CoordinatesAnswer}
-use Rattle.points.specs.Answers.{TicksAnswer}
-use Rattle.points.specs.Answers.{PointAnswer}
+
+-- Exact coordinates, t on each axis, a drawn point; or a refusal's number with zeros.
+pub record CoordinatesAnswer : Type 0 where
+  pub refusal : ℕ
+  pub at : Coordinates
+
+pub record TicksAnswer : Type 0 where
+  pub refusal : ℕ
+  pub at : Ticks
+
+pub record PointAnswer : Type 0 where
+  pub refusal : ℕ
+  pub at : Point
 
 -- "Every refusal returns only its number and zeros"; "A zero, also in a refusal, is the positive zero."
 abbrev pub no_coordinates : (refusal : ℕ) → CoordinatesAnswer
@@ -26,6 +39,16 @@ no_ticks f = record { refusal = f; at = record { x = pos 0; y = pos 0; z = pos 0
 
 abbrev pub no_point : (refusal : ℕ) → PointAnswer
 no_point f = record { refusal = f; at = record { x = plus_zero; y = plus_zero; z = plus_zero } }
+
+-- the same of a call's result
+abbrev pub place_told : Result Coordinates Refusal → CoordinatesAnswer
+place_told r = told (λ c. record { refusal = 0; at = c }) no_coordinates r
+
+abbrev pub ticks_told : Result Ticks Refusal → TicksAnswer
+ticks_told r = told (λ t. record { refusal = 0; at = t }) no_ticks r
+
+abbrev pub point_told : Result Point Refusal → PointAnswer
+point_told r = told (λ p. record { refusal = 0; at = p }) no_point r
 
 -- ---- exact coordinates c, t on each axis, the drawn point at degree n
 

@@ -1,78 +1,61 @@
 // The calls of document 01 for a corner's place: exact coordinates, t, drawn coordinates.
 #![tactic(auto)]
 
-mod answers;
-
+ghost use Rattle.points.specs.Answers.{place_told, ticks_told, point_told};
 ghost use Rattle.points.specs.Answers.{PlaceAnswer, NamePlaceAnswer, TickAnswer, NameTickAnswer, DrawAnswer, NameDrawAnswer};
 
-use filing::{Coordinates, Point, Ticks};
+use filing::{Coordinates, Point, Ticks, drawn, weighing};
+use frame::Refusal;
 use words::{CornerName, TriangleCode};
 
-// Exact coordinates, or a refusal's number with zeros.
-#[derive(Clone, Copy)]
-pub struct CoordinatesAnswer {
-    pub refusal: u64,
-    pub at: Coordinates,
-}
-
-// t on each axis, or a refusal's number with zeros.
-#[derive(Clone, Copy)]
-pub struct TicksAnswer {
-    pub refusal: u64,
-    pub at: Ticks,
-}
-
-// A drawn point, or a refusal's number with zeros.
-#[derive(Clone, Copy)]
-pub struct PointAnswer {
-    pub refusal: u64,
-    pub at: Point,
-}
-
-// ---- coordinates
+// ---- exact coordinates
 
 // The exact coordinates of a corner of a triangle.
-pub fn coordinates_of(t: TriangleCode, corner: u64) -> CoordinatesAnswer
-    ensures { PlaceAnswer t corner result }
+pub fn coordinates_of(t: TriangleCode, corner: u64) -> Result<Coordinates, Refusal>
+    ensures { PlaceAnswer t corner (place_told result) }
 {
     let mut ws = [0u64; 12];
-    let f = twelves::weights_of(t, corner, &mut ws);
-    answers::place_answer(f, &ws)
+    twelves::weights_of(t, corner, &mut ws)?;
+    Ok(weighing::exact_of(&ws))
 }
 
 // The same for the corner that a name names.
-pub fn coordinates_of_name(q: CornerName) -> CoordinatesAnswer
-    ensures { NamePlaceAnswer q result }
+pub fn coordinates_of_name(q: CornerName) -> Result<Coordinates, Refusal>
+    ensures { NamePlaceAnswer q (place_told result) }
 {
     let mut ws = [0u64; 12];
-    let f = twelves::weights_of_name(q, &mut ws);
-    answers::place_answer(f, &ws)
+    twelves::weights_of_name(q, &mut ws)?;
+    Ok(weighing::exact_of(&ws))
 }
 
-// t on each axis, of a corner of a triangle.
-pub fn ticks_of(t: TriangleCode, corner: u64) -> TicksAnswer
-    ensures { TickAnswer t corner result }
+// ---- t on each axis
+
+// Of a corner of a triangle.
+pub fn ticks_of(t: TriangleCode, corner: u64) -> Result<Ticks, Refusal>
+    ensures { TickAnswer t corner (ticks_told result) }
 {
-    answers::ticks_answer(coordinates_of(t, corner))
+    Ok(drawn::ticks_at(coordinates_of(t, corner)?))
 }
 
-// The same for the corner that a name names.
-pub fn ticks_of_name(q: CornerName) -> TicksAnswer
-    ensures { NameTickAnswer q result }
+// Of the corner that a name names.
+pub fn ticks_of_name(q: CornerName) -> Result<Ticks, Refusal>
+    ensures { NameTickAnswer q (ticks_told result) }
 {
-    answers::ticks_answer(coordinates_of_name(q))
+    Ok(drawn::ticks_at(coordinates_of_name(q)?))
 }
 
-// The drawn coordinates of a corner of a triangle.
-pub fn drawn_of(t: TriangleCode, corner: u64) -> PointAnswer
-    ensures { DrawAnswer t corner result }
+// ---- drawn coordinates
+
+// Of a corner of a triangle.
+pub fn drawn_of(t: TriangleCode, corner: u64) -> Result<Point, Refusal>
+    ensures { DrawAnswer t corner (point_told result) }
 {
-    answers::point_answer(words::degree_of(t.0), coordinates_of(t, corner))
+    Ok(drawn::point_at(words::degree_of(t.0), coordinates_of(t, corner)?))
 }
 
-// The same for the corner that a name names.
-pub fn drawn_of_name(q: CornerName) -> PointAnswer
-    ensures { NameDrawAnswer q result }
+// Of the corner that a name names.
+pub fn drawn_of_name(q: CornerName) -> Result<Point, Refusal>
+    ensures { NameDrawAnswer q (point_told result) }
 {
-    answers::point_answer(words::degree_of(q.0), coordinates_of_name(q))
+    Ok(drawn::point_at(words::degree_of(q.0), coordinates_of_name(q)?))
 }

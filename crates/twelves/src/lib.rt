@@ -2,9 +2,10 @@
 // the way back from them. What they refuse and answer is defined in the crate corners, below.
 #![tactic(auto)]
 
-ghost use Rattle.corners.specs.Answers.{WeightsAnswer, NameWeightsAnswer, BackAnswer};
+ghost use Rattle.frame.specs.Refusals.{told_number};
+ghost use Rattle.corners.specs.Answers.{name_told, WeightsAnswer, NameWeightsAnswer, BackAnswer};
 
-use corners::NameAnswer;
+use frame::Refusal;
 use knots::rings;
 use words::{CornerName, TriangleCode};
 
@@ -14,73 +15,50 @@ const WEIGHTS: usize = 12;
 // ---- weights
 
 // The twelve weights of a corner of a triangle, into a list of at least twelve places.
-pub fn weights_of(t: TriangleCode, corner: u64, out: &mut [u64]) -> u64
-    ensures { WeightsAnswer t corner out.old result out.new }
+pub fn weights_of(t: TriangleCode, corner: u64, out: &mut [u64]) -> Result<(), Refusal>
+    ensures { WeightsAnswer t corner out.old (told_number result) out.new }
 {
-    let f = corners::refuse_numbered(t, corner);
-    if f != 0 {
-        return f;
-    }
+    corners::refuse_numbered(t, corner)?;
     if out.len() < WEIGHTS {
-        return 9;
+        return Err(Refusal::ShortList);
     }
     knots::write_corner(t, corner, out);
-    0
+    Ok(())
 }
 
 // The same for the corner that a name names.
-pub fn weights_of_name(r: CornerName, out: &mut [u64]) -> u64
-    ensures { NameWeightsAnswer r out.old result out.new }
+pub fn weights_of_name(r: CornerName, out: &mut [u64]) -> Result<(), Refusal>
+    ensures { NameWeightsAnswer r out.old (told_number result) out.new }
 {
-    let w = r.0;
-    let f = corners::check_name(r);
-    if f != 0 {
-        return f;
-    }
+    corners::check_name(r)?;
     if out.len() < WEIGHTS {
-        return 9;
+        return Err(Refusal::ShortList);
     }
-    knots::write_corner(knots::code_inside(r), w % 4, out);
-    0
+    knots::write_corner(knots::code_inside(r), r.0 % 4, out);
+    Ok(())
 }
 
 // ---- the way back
 
 // The way back: the name of the corner of this degree that has the twelve weights.
-pub fn name_back(degree: u64, weights: &[u64]) -> NameAnswer
-    ensures { BackAnswer degree weights.now result }
+pub fn name_back(degree: u64, weights: &[u64]) -> Result<CornerName, Refusal>
+    ensures { BackAnswer degree weights.now (name_told result) }
 {
-    let none = CornerName(0);
     if 24 < degree {
-        return NameAnswer {
-            refusal: 1,
-            name: none,
-        };
+        return Err(Refusal::Degree);
     }
     if weights.len() < WEIGHTS {
-        return NameAnswer {
-            refusal: 9,
-            name: none,
-        };
+        return Err(Refusal::ShortList);
     }
     let total = words::power(degree);
     if !knots::back::adds_to(weights, total) {
-        return NameAnswer {
-            refusal: 11,
-            name: none,
-        };
+        return Err(Refusal::NoCorner);
     }
     let s = knots::back::side_of(weights, total);
     if s == 24 {
-        return NameAnswer {
-            refusal: 11,
-            name: none,
-        };
+        return Err(Refusal::NoCorner);
     }
     let c = knots::back::corner_at(s, degree, knots::back::point_on(weights, s));
     let here = CornerName(words::word_of(s, degree, c.path) + c.number);
-    NameAnswer {
-        refusal: 0,
-        name: rings::least_name(here),
-    }
+    Ok(rings::least_name(here))
 }

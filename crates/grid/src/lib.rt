@@ -5,11 +5,11 @@
 // document 01 are the methods of `Golden`, which ask that their numbers are small.)
 #![tactic(auto)]
 
-pub use corners::{CountAnswer, NameAnswer, StepAnswer};
+pub use corners::Step;
 pub use filing::{Coordinates, Direction, Point, Ticks};
+pub use frame::Refusal;
 pub use golden::Golden;
-pub use points::{CoordinatesAnswer, PointAnswer, TicksAnswer};
-pub use words::{CodeAnswer, CornerName, TriangleCode};
+pub use words::{CornerName, TriangleCode};
 
 // Checking a word as a corner name.
 pub use corners::check_name;

@@ -1,38 +1,23 @@
--- The number of `file_word` as a refusal or a code (FilingCalls). Assumes nothing.
-use mathlib.Core.Path.{subst}
-use native.Mathlib.Omega.{arith}
-use mir.Syntax.{w32}
-use mir.ValLaws.{to_z-of_z}
-use Rattle.words.specs.Family.{CodeAnswer}
-use Rattle.filing.specs.declared.Direction.{Direction}
-use Rattle.directions.specs.Answers.{FileAnswer}
-use Rattle.directions.specs.Means.Numbers.{answer_for}
-use Rattle.directions.proofs.FilingCalls.{small_number, large_number}
+-- The refusals, the one word where the quick way is clear, and otherwise the least word of the exact way
+-- (FilingCalls). Assumes nothing.
+use mathlib.Core.Path.{sym}
+use Rattle.frame.proofs.Told.{handed_on}
+use Rattle.directions.proofs.Refused.{allowed}
+use Rattle.directions.proofs.FilingCalls.{filed_answer}
 use Rattle.directions.proofs.file.Goals as goal
-use Rattle.directions.proofs.file.Lts as lts
-use Rattle.directions.proofs.file.Reads as reads
-use Rattle.directions.proofs.file.Tie as tie
 
-abbrev After-file_word-w : Type 0
-After-file_word-w = lts.After-file_word tie.the-claims reads.Pre reads.Post
+pub returns-in_err-refuse_direction : goal.returns-in_err-refuse_direction
+returns-in_err-refuse_direction c = handed_on _ _ _ c.from_residual.ensures c.in_err-refuse_direction.ensures
 
--- the three numbers that were handed on are the direction's
-filed : (c : After-file_word-w) → (let a = c.args in
-    FileAnswer a.degree a.d (answer_for c.file_word-w.result))
-filed c =
-    let a = c.args in
-    let x = to_z-of_z w32 a.d.x (record { sfits = c.struct_told-1.given.0.1 }) in
-    let y = to_z-of_z w32 a.d.y (record { sfits = c.struct_told-2-1.given.1.0.1 }) in
-    let z = to_z-of_z w32 a.d.z (record { sfits = c.struct_told-3-1.given.1.1.0.1 }) in
-    subst (λ (d : Direction). FileAnswer a.degree d (answer_for c.file_word-w.result))
-    (λ i. record { x = x i; y = y i; z = z i }) c.file_word-w.ensures
+pub quick_word-w-requires : goal.quick_word-w-requires
+quick_word-w-requires c = let m = allowed _ _ (sym c.in_ok-refuse_direction.ensures) in (m.low, m.level, m.some)
 
-pub returns-then-w-lt12 : goal.returns-then-w-lt12
-returns-then-w-lt12 c =
-    let a = c.args in
-    subst (λ (r : CodeAnswer). FileAnswer a.degree a.d r) (small_number _ (omega arith)) (filed c.before)
+pub exact_word-requires : goal.exact_word-requires
+exact_word-requires c = let m = allowed _ _ (sym c.in_ok-refuse_direction.ensures) in (m.low, m.level, m.some)
+
+pub returns-then-w-eq0 : goal.returns-then-w-eq0
+returns-then-w-eq0 c = filed_answer _ _ _ (sym c.in_ok-refuse_direction.ensures) c.exact_word.ensures
 
 pub returns : goal.returns
 returns c =
-    let a = c.args in
-    subst (λ (r : CodeAnswer). FileAnswer a.degree a.d r) (large_number _ (omega arith)) (filed c.before)
+    filed_answer _ _ _ (sym c.in_ok-refuse_direction.ensures) (c.quick_word-w.ensures c.if-w-eq0.false).filed

@@ -47,7 +47,7 @@ in_order [] (k ∷ ks) = false
 in_order (zero ∷ os) ks = false
 in_order (suc o ∷ os) ks = absent (suc o) (past (suc o) ks) && in_order os (past (suc o) ks)
 
-both : (a b : Bool) → T (a && b) → T a × T b
+pub both : (a b : Bool) → T (a && b) → T a × T b
 both true b t = (tt, t)
 both false b t = absurd t
 

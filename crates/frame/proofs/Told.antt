@@ -1,13 +1,17 @@
 -- Laws of refusals as an enum: their numbers are not 0 and differ, what `?` hands on, and a call's result told as the
 -- documents' answer. Assumes nothing.
-use mathlib.Core.Path.{◌≡◌, ◌∙◌, refl, sym, ap}
+use mathlib.Core.Path.{◌≡◌, ◌∙◌, refl, sym, ap, subst}
+use mathlib.Core.Logic.{◌⊎◌, inl, inr, ⊎_elim}
+use mathlib.Core.List.{List, [], ◌∷◌}
 use Prim.Native.Nat.{ℕ}
-use mathlib.Core.Bool.{cond}
-use lib.Dec.{eqb}
+use mathlib.Core.Bool.{Bool, true, false, cond, ◌&&◌}
+use lib.Dec.{T, eqb, eqb→eq}
 use native.Mathlib.Omega.{arith}
 use Rattle.std.specs.Prelude.{Result, Ok, Err, IsErr}
 use Rattle.std.specs.Result.{IsErrAnd}
-use Rattle.frame.specs.Refusals.{number, told, told_number}
+use Rattle.frame.specs.Refusals.{Row, given, first_of, number, told, told_number}
+use Rattle.frame.specs.Promises.{Keeps}
+use Rattle.frame.proofs.Refusing.{both}
 use Rattle.frame.specs.Answers.{Answer}
 use Rattle.frame.proofs.Answering.{refusing}
 use Rattle.frame.specs.declared.Refusal.{Refusal}
@@ -46,7 +50,7 @@ number_some LongList e = omega (arith, e)
 number_some PaperCode e = omega (arith, e)
 
 -- the refusal that has a number
-refusal_of : ℕ → Refusal
+abbrev pub refusal_of : ℕ → Refusal
 refusal_of n =
     cond (eqb n 1) Degree (
     cond (eqb n 2) Side (
@@ -74,7 +78,6 @@ refusal_of n =
     PaperCode)))))))))))))))))))))))
 
 back : (f : Refusal) → refusal_of (number f) ≡ f
-unfolding refusal_of
 back Degree = refl
 back Side = refl
 back BeyondDegree = refl
@@ -125,3 +128,57 @@ pub handed_lent : {A R M : Type 0} {f : ℕ} {Good : R × M → Type 0} {zeros :
     (e : Refusal) (r : Result A Refusal) → IsErr r × IsErrAnd r (λ x. x ≡ e) → number e ≡ f
     → Answer {A = R × M} f Good (λ k. (zeros k, old)) (told answer zeros r, old)
 handed_lent answer e r h g = rw (handed r h) (refusing g (number_some e))
+
+-- ---- demand 1 of the result itself
+
+-- an order whose numbers are all numbers of refusals; `tt` at closed numbers
+abbrev pub known : List ℕ → Bool
+known [] = true
+known (k ∷ ks) = eqb (number (refusal_of k)) k && known ks
+
+abbrev pub IsNumber : ℕ → Type 0
+IsNumber f = (f ≡ 0) ⊎ (e : Refusal) × (number e ≡ f)
+
+pub first_number : (os : List ℕ) (rs : List Row) → T (known os) → IsNumber (first_of os rs)
+unfolding first_of
+first_number [] rs t = inl refl
+first_number (o ∷ os) rs t = go (given o rs) (first_number os rs (both _ _ t).1)
+  where
+    go : (b : Bool) → IsNumber (first_of os rs) → IsNumber (cond b o (first_of os rs))
+    go true ih = inr (refusal_of o, eqb→eq _ _ (both _ _ t).0)
+    go false ih = ih
+
+module _ {A X : Type 0} (answer : X → A) (zeros : ℕ → A) (num : A → ℕ) (zero_is : (x : X) → num (answer x) ≡ 0)
+    (number_is : (k : ℕ) → num (zeros k) ≡ k) (same : (x y : X) → answer x ≡ answer y → x ≡ y) where
+  told_num : (r : Result X Refusal) → num (told answer zeros r) ≡ told_number r
+  told_num (Ok x) = zero_is x
+  told_num (Err e) = number_is (number e)
+
+  -- two results that are told alike are one
+  pub told_one : (r s : Result X Refusal) → told answer zeros r ≡ told answer zeros s → r ≡ s
+  told_one (Ok x) (Ok y) e = ap Ok (same x y e)
+  told_one (Ok x) (Err g) e = absurd (number_some g (sym (number_is (number g)) ∙ sym (ap num e) ∙ zero_is x))
+  told_one (Err f) (Ok y) e = absurd (number_some f (sym (number_is (number f)) ∙ ap num e ∙ zero_is y))
+  told_one (Err f) (Err g) e =
+      ap Err (number_one f g (sym (number_is (number f)) ∙ ap num e ∙ number_is (number g)))
+
+  pub keeps_told : {f : ℕ} {P : A → Type 0} → ((a : A) → P a → f ≡ 0 → (x : X) × (answer x ≡ a)) → IsNumber f
+      → Keeps f P num zeros → Keeps f (λ r. P (told answer zeros r)) told_number (λ k. Err (refusal_of k))
+  keeps_told {f} {P} made is k = record {
+    one = (some.0, record { meets = some.1; only = λ r p. told_one r some.0 (unique p some.1) });
+    exactly = λ r p. sym (told_num r) ∙ k.exactly _ p;
+    refused = λ r p n. told_one r (Err (refusal_of f))
+        (k.refused _ p n ∙ ap zeros (sym (⊎_elim (λ z. absurd (n z)) (λ e. numbered e) is)));
+  }
+    where
+      unique : {a b : A} → P a → P b → a ≡ b
+      unique p q = k.one.1.only _ p ∙ sym (k.one.1.only _ q)
+
+      numbered : (e : Refusal) × (number e ≡ f) → number (refusal_of f) ≡ f
+      numbered e = ap (λ (m : ℕ). number (refusal_of m)) (sym e.1) ∙ ap number (back e.0) ∙ e.1
+
+      some : (r : Result X Refusal) × P (told answer zeros r)
+      some = ⊎_elim
+          (λ z. let x = made k.one.0 k.one.1.meets z in (Ok x.0, subst P (sym x.1) k.one.1.meets))
+          (λ e. (Err e.0, subst P (k.refused _ k.one.1.meets (λ z. number_some e.0 (e.1 ∙ z)) ∙ ap zeros (sym e.1))
+              k.one.1.meets)) is

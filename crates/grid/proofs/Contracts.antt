@@ -5,8 +5,13 @@ use contract.Lifetimes.{Lfts}
 use Rattle.frame.specs.Promises.{Keeps, Says}
 use Rattle.frame.proofs.Answering.{says_itself}
 use Rattle.words.specs.declared.TriangleCode.{TriangleCode}
+use mathlib.Core.Path.{refl, sym}
+use Rattle.std.specs.Prelude.{Err}
+use Rattle.frame.specs.Refusals.{order, told_number}
+use Rattle.frame.proofs.Told.{refusal_of, first_number, keeps_told}
 use Rattle.corners.specs.Refusals.{refuse_numbered}
-use Rattle.corners.specs.Answers.{no_step}
+use Rattle.corners.specs.Answers.{no_step, step_answer}
+use Rattle.corners.specs.declared.Step.{Step}
 use Rattle.corners.proofs.cross.Reads as cross
 use Rattle.grid.specs.CallContracts.{Contracts}
 use Rattle.grid.proofs.Demands.{demand_1}
@@ -45,7 +50,17 @@ as_promised s k = record {
   refused = λ r q n. k.refused r ((s r).just.0 q) n;
 }
 
--- So demand 1 can be said of a function without a word of its promise, as of crossing.
+-- So demand 1 can be said of a function without a word of its promise, as of crossing: its result is one, has the number
+-- that document 01 gives, and where that is not 0 is the refusal of that number.
 pub cross_keeps : (κs : Lfts 0) (t : TriangleCode) (k : ℕ)
-    → Keeps (refuse_numbered t k) (λ r. cross.Learnt κs (t, (k, tt)) r (t, (k, tt))) (λ r. r.refusal) no_step
-cross_keeps κs t k = as_promised (λ r. contracts.cross κs t k r) (demand_1.cross t k)
+    → Keeps (refuse_numbered t k) (λ r. cross.Learnt κs (t, (k, tt)) r (t, (k, tt))) told_number
+    (λ f. Err (refusal_of f))
+unfolding refuse_numbered
+cross_keeps κs t k = as_promised (λ r. contracts.cross κs t k r)
+    (keeps_told (λ (s : Step). step_answer 0 s.code s.edge s.first s.second) no_step (λ a. a.refusal) (λ s. refl)
+    (λ f. refl)
+    (λ x y e i. record { code = (e i).code; edge = (e i).edge; first = (e i).first; second = (e i).second })
+    (λ a p z. let n = (p.answered z).number in
+        (record { code = a.code; edge = a.edge; first = a.first; second = a.second },
+        λ i. record { refusal = sym n i; code = a.code; edge = a.edge; first = a.first; second = a.second }))
+    (first_number order _ tt) (demand_1.cross t k))

@@ -9,8 +9,8 @@ use Rattle.filing.specs.declared.Direction.{Direction}
 use Rattle.harbour.specs.Refusals.{check_small}
 use Rattle.harbour.specs.Answers.{ReadAnswer, WriteAnswer, SmallCrossAnswer, SmallFileAnswer}
 use Rattle.harbour.specs.declared.SmallCode.{SmallCode}
-use Rattle.harbour.specs.declared.SmallAnswer.{SmallAnswer}
-use Rattle.harbour.specs.declared.SmallStepAnswer.{SmallStepAnswer}
+use Rattle.harbour.specs.Answers.{SmallAnswer}
+use Rattle.harbour.specs.Answers.{SmallStepAnswer}
 use Rattle.harbour.proofs.SmallCode.check.Reads as check_call
 use Rattle.harbour.proofs.SmallCode.read.Reads as read_call
 use Rattle.harbour.proofs.write.Reads as write_call

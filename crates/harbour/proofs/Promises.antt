@@ -36,8 +36,8 @@ use Rattle.harbour.specs.Answers.{SmallFormOf, ReadAnswer, SmallCrossAnswer}
 use Rattle.harbour.specs.Answers.{SmallFileAnswer}
 use Rattle.harbour.specs.Promises.{OneAnswer, BetweenForms, Refusing, SmallCalls}
 use Rattle.harbour.specs.declared.SmallCode.{SmallCode}
-use Rattle.harbour.specs.declared.SmallAnswer.{SmallAnswer}
-use Rattle.harbour.specs.declared.SmallStepAnswer.{SmallStepAnswer}
+use Rattle.harbour.specs.Answers.{SmallAnswer}
+use Rattle.harbour.specs.Answers.{SmallStepAnswer}
 use Rattle.harbour.proofs.SmallWords.{deep, write_passes, low_degree, large_code, same_side_lem, same_digits_lem}
 use Rattle.harbour.proofs.SmallWords.{there_back}
 use Rattle.harbour.proofs.SmallWords.{write_again, small_code_lem, back_there, small_fits, same_order_lem}

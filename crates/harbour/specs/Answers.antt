@@ -1,6 +1,8 @@
 -- Document 02, 2026-11: the complete answer of each call on the small form, for every input: what the contracts cite.
 -- (Checking answers an equation: `check_small`.) Assumes nothing.
-use Rattle.std.specs.Prelude.{◌≡◌, ℕ}
+use Rattle.std.specs.Prelude.{◌≡◌, ℕ, Result}
+use Rattle.frame.specs.declared.Refusal.{Refusal}
+use Rattle.frame.specs.Refusals.{told}
 use Rattle.frame.specs.Answers.{Answer, Known}
 use Rattle.words.specs.Family.{code_answer, no_code}
 use Rattle.words.specs.declared.TriangleCode.{TriangleCode}
@@ -12,10 +14,20 @@ use Rattle.directions.specs.Answers.{Filed}
 use Rattle.harbour.specs.Small.{small_code, large_of, small_of}
 use Rattle.harbour.specs.Refusals.{check_small, refuse_write, refuse_small_cross, refuse_small_file}
 use Rattle.harbour.specs.declared.SmallCode.{SmallCode}
-use Rattle.harbour.specs.declared.SmallAnswer.{SmallAnswer}
-use Rattle.harbour.specs.declared.SmallStepAnswer.{SmallStepAnswer}
+use Rattle.harbour.specs.declared.SmallStep.{SmallStep}
 
 -- ---- answers, and a refusal's zeros
+
+pub record SmallAnswer : Type 0 where
+  pub refusal : ℕ
+  pub code : SmallCode
+
+pub record SmallStepAnswer : Type 0 where
+  pub refusal : ℕ
+  pub code : SmallCode
+  pub edge : ℕ
+  pub first : ℕ
+  pub second : ℕ
 
 abbrev pub small_answer : (refusal : ℕ) → SmallCode → SmallAnswer
 small_answer f s = record { refusal = f; code = s }
@@ -28,6 +40,13 @@ no_small f = small_answer f (small_code 0)
 
 abbrev pub no_small_step : (refusal : ℕ) → SmallStepAnswer
 no_small_step f = small_step f (small_code 0) 0 0 0
+
+-- the same of a call's result
+abbrev pub small_told : Result SmallCode Refusal → SmallAnswer
+small_told r = told (small_answer 0) no_small r
+
+abbrev pub small_step_told : Result SmallStep Refusal → SmallStepAnswer
+small_step_told r = told (λ s. small_step 0 s.code s.edge s.first s.second) no_small_step r
 
 -- ---- "reader and writer between the forms"
 

@@ -16,8 +16,8 @@ use Rattle.harbour.specs.Refusals.{check_small, refuse_write, refuse_small_cross
 use Rattle.harbour.specs.Answers.{small_answer, no_small, no_small_step, small_of_step, small_of_code}
 use Rattle.harbour.specs.Answers.{ReadAnswer, WriteAnswer, SmallCrossAnswer, SmallFileAnswer}
 use Rattle.harbour.specs.declared.SmallCode.{SmallCode}
-use Rattle.harbour.specs.declared.SmallAnswer.{SmallAnswer}
-use Rattle.harbour.specs.declared.SmallStepAnswer.{SmallStepAnswer}
+use Rattle.harbour.specs.Answers.{SmallAnswer}
+use Rattle.harbour.specs.Answers.{SmallStepAnswer}
 
 -- Demand 1, of these calls: exactly one answer for every input, a refusal by its number, with zeros.
 pub record OneAnswer : Type 0 where

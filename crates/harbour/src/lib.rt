@@ -3,33 +3,26 @@
 #![tactic(auto)]
 
 ghost use Rattle.std.specs.Prelude.{◌≡◌};
-ghost use Rattle.frame.specs.Refusals.{first_of};
+ghost use Rattle.frame.specs.Refusals.{first_of, told_number};
 ghost use Rattle.words.specs.Forms.{degree_in};
-ghost use Rattle.words.specs.Family.{code_of};
+ghost use Rattle.words.specs.Family.{code_of, code_told};
 ghost use Rattle.harbour.specs.Small.{small, small_code, large_of, small_of};
 ghost use Rattle.harbour.specs.Refusals.{harbour_order, depth_rows, check_small, refuse_write};
-ghost use Rattle.harbour.specs.Answers.{no_small, no_small_step};
+ghost use Rattle.harbour.specs.Answers.{small_told, small_step_told};
 ghost use Rattle.harbour.specs.Answers.{ReadAnswer, WriteAnswer, SmallCrossAnswer, SmallFileAnswer};
 
 use filing::Direction;
-use words::{CodeAnswer, TriangleCode};
+use frame::Refusal;
+use words::TriangleCode;
 
 // A small code, or any 32-bit word handed in as one.
-#[derive(Clone, Copy)]
+#[derive(Clone, Copy, Debug, PartialEq, Eq, PartialOrd, Ord, Hash)]
 pub struct SmallCode(pub u32);
 
-// A small code, or a refusal's number with the code 0.
-#[derive(Clone, Copy)]
-pub struct SmallAnswer {
-    pub refusal: u64,
-    pub code: SmallCode,
-}
-
 // A neighbour's small code, the number of the shared edge there, and the numbers there of the edge's two corners, as
-// crossing answers them. Or a refusal's number with zeros.
-#[derive(Clone, Copy)]
-pub struct SmallStepAnswer {
-    pub refusal: u64,
+// crossing answers them.
+#[derive(Clone, Copy, Debug, PartialEq, Eq, Hash)]
+pub struct SmallStep {
     pub code: SmallCode,
     pub edge: u64,
     pub first: u64,
@@ -38,17 +31,17 @@ pub struct SmallStepAnswer {
 
 // ---- the words
 
-// 1 and 30, of a degree as field or argument; else 0.
-fn refuse_depth(n: u64) -> u64
-    ensures { result ≡ first_of harbour_order (depth_rows n) }
+// Refuses a degree, as field or argument, by 1 or 30.
+fn refuse_depth(n: u64) -> Result<(), Refusal>
+    ensures { told_number result ≡ first_of harbour_order (depth_rows n) }
 {
     if 24 < n {
-        return 1;
+        return Err(Refusal::Degree);
     }
     if 11 < n {
-        return 30;
+        return Err(Refusal::SmallDegree);
     }
-    0
+    Ok(())
 }
 
 fn degree_in(w: u64) -> u64
@@ -57,29 +50,26 @@ fn degree_in(w: u64) -> u64
     w / 8388608 % 16
 }
 
-// 0, or the refusal of a word that is no small code. Of a code all is 0 below its digits.
-fn check_word(w: u64) -> u64
-    ensures { result ≡ check_small (small_code w) }
+// Refuses a word that is no small code. Of a code all is 0 below its digits.
+fn check_word(w: u64) -> Result<(), Refusal>
+    ensures { told_number result ≡ check_small (small_code w) }
 {
     let n = degree_in(w);
-    let f = refuse_depth(n);
-    if f != 0 {
-        return f;
-    }
+    refuse_depth(n)?;
     let a = w / 536870912;
     if a == 0 {
-        return 2;
+        return Err(Refusal::Side);
     }
     if 5 < a {
-        return 2;
+        return Err(Refusal::Side);
     }
     if w % words::power(23 - 2 * n) == 0 {
-        return 0;
+        return Ok(());
     }
     if words::bits_of(w, 1, 22 - 2 * n) == 0 {
-        return 31;
+        return Err(Refusal::LastBit);
     }
-    3
+    Err(Refusal::BeyondDegree)
 }
 
 // The large word of a small code: the digits begin 31 bits higher.
@@ -100,117 +90,62 @@ fn small_word(w: u64) -> u32
     (side * 134217728 + n * 8388608 + w % 18014398509481984 / 2147483648) as u32
 }
 
-// 0, or the refusal of a word that has no small form.
-fn refuse_write(t: TriangleCode) -> u64
-    ensures { result ≡ refuse_write t }
+// Refuses a word that has no small form.
+fn refuse_write(t: TriangleCode) -> Result<(), Refusal>
+    ensures { told_number result ≡ refuse_write t }
 {
-    let f = refuse_depth(words::degree_of(t.0));
-    if f != 0 {
-        return f;
-    }
+    refuse_depth(words::degree_of(t.0))?;
     t.check()
-}
-
-fn refused(f: u64) -> SmallAnswer
-    ensures { result ≡ no_small f }
-{
-    SmallAnswer {
-        refusal: f,
-        code: SmallCode(0),
-    }
-}
-
-fn refused_step(f: u64) -> SmallStepAnswer
-    ensures { result ≡ no_small_step f }
-{
-    SmallStepAnswer {
-        refusal: f,
-        code: SmallCode(0),
-        edge: 0,
-        first: 0,
-        second: 0,
-    }
 }
 
 // ---- the calls
 
 impl SmallCode {
-    // Checking: 0, or the refusal 30, 2, 3 or 31 of a word that is no small code.
-    pub fn check(self) -> u64
-        ensures { result ≡ check_small self }
+    // Checking: refusal 30, 2, 3 or 31 of a word that is no small code.
+    pub fn check(self) -> Result<(), Refusal>
+        ensures { told_number result ≡ check_small self }
     {
         check_word(self.0 as u64)
     }
 
     // Reading: the code, in its large form.
-    pub fn read(self) -> CodeAnswer
-        ensures { ReadAnswer self result }
+    pub fn read(self) -> Result<TriangleCode, Refusal>
+        ensures { ReadAnswer self (code_told result) }
     {
         let w = self.0 as u64;
-        let f = check_word(w);
-        if f != 0 {
-            return CodeAnswer {
-                refusal: f,
-                code: TriangleCode(0),
-            };
-        }
-        CodeAnswer {
-            refusal: 0,
-            code: TriangleCode(large_word(w)),
-        }
+        check_word(w)?;
+        Ok(TriangleCode(large_word(w)))
     }
 
     // Crossing an edge, by the large call.
-    pub fn cross(self, edge: u64) -> SmallStepAnswer
-        ensures { SmallCrossAnswer self edge result }
+    pub fn cross(self, edge: u64) -> Result<SmallStep, Refusal>
+        ensures { SmallCrossAnswer self edge (small_step_told result) }
     {
         let w = self.0 as u64;
-        let f = check_word(w);
-        if f != 0 {
-            return refused_step(f);
-        }
-        let step = corners::cross(TriangleCode(large_word(w)), edge);
-        if step.refusal != 0 {
-            return refused_step(step.refusal);
-        }
-        SmallStepAnswer {
-            refusal: 0,
+        check_word(w)?;
+        let step = corners::cross(TriangleCode(large_word(w)), edge)?;
+        Ok(SmallStep {
             code: SmallCode(small_word(step.code.0)),
             edge: step.edge,
             first: step.first,
             second: step.second,
-        }
+        })
     }
 }
 
 // Writing: the small form of a code of degree 11 or less.
-pub fn write(t: TriangleCode) -> SmallAnswer
-    ensures { WriteAnswer t result }
+pub fn write(t: TriangleCode) -> Result<SmallCode, Refusal>
+    ensures { WriteAnswer t (small_told result) }
 {
-    let f = refuse_write(t);
-    if f != 0 {
-        return refused(f);
-    }
-    SmallAnswer {
-        refusal: 0,
-        code: SmallCode(small_word(t.0)),
-    }
+    refuse_write(t)?;
+    Ok(SmallCode(small_word(t.0)))
 }
 
 // Filing a direction at a degree of 11 or less, by the large call.
-pub fn file(degree: u64, d: Direction) -> SmallAnswer
-    ensures { SmallFileAnswer degree d result }
+pub fn file(degree: u64, d: Direction) -> Result<SmallCode, Refusal>
+    ensures { SmallFileAnswer degree d (small_told result) }
 {
-    let f = refuse_depth(degree);
-    if f != 0 {
-        return refused(f);
-    }
-    let filed = directions::file(degree, d);
-    if filed.refusal != 0 {
-        return refused(filed.refusal);
-    }
-    SmallAnswer {
-        refusal: 0,
-        code: SmallCode(small_word(filed.code.0)),
-    }
+    refuse_depth(degree)?;
+    let filed = directions::file(degree, d)?;
+    Ok(SmallCode(small_word(filed.0)))
 }

@@ -15,9 +15,9 @@ use Rattle.harbour.specs.Small.{large_of, small_of}
 use Rattle.harbour.specs.Refusals.{harbour_order, depth_rows, small_rows, write_rows, check_small, refuse_write}
 use Rattle.harbour.specs.Refusals.{refuse_small_cross, refuse_small_file}
 use Rattle.harbour.specs.Answers.{ReadAnswer, WriteAnswer, SmallCrossAnswer, SmallFileAnswer}
-use Rattle.harbour.specs.declared.SmallAnswer.{SmallAnswer}
+use Rattle.harbour.specs.Answers.{SmallAnswer}
 use Rattle.harbour.specs.declared.SmallCode.{SmallCode}
-use Rattle.harbour.specs.declared.SmallStepAnswer.{SmallStepAnswer}
+use Rattle.harbour.specs.Answers.{SmallStepAnswer}
 use Rattle.harbour.proofs.Promises.{one_answer}
 use Rattle.host_harbour.specs.Refusals.{refuse_large, refuse_small, refuse_cross, refuse_file}
 use Rattle.host_harbour.specs.Answers.{four_and_eight, SmallAndEdge, FiledSmall}

@@ -14,9 +14,9 @@ use Rattle.exports.proofs.Exporting.{exported_keeps, delivered, delivered_passed
 use Rattle.harbour.specs.Small.{large_of, small_of}
 use Rattle.harbour.specs.Refusals.{check_small, refuse_small_cross, refuse_small_file}
 use Rattle.harbour.specs.Answers.{ReadAnswer, WriteAnswer, SmallCrossAnswer, SmallFileAnswer}
-use Rattle.harbour.specs.declared.SmallAnswer.{SmallAnswer}
+use Rattle.harbour.specs.Answers.{SmallAnswer}
 use Rattle.harbour.specs.declared.SmallCode.{SmallCode}
-use Rattle.harbour.specs.declared.SmallStepAnswer.{SmallStepAnswer}
+use Rattle.harbour.specs.Answers.{SmallStepAnswer}
 use Rattle.words.proofs.Codes.{code_below}
 use Rattle.harbour.proofs.SmallWords.{large_code, small_fits}
 use Rattle.harbour.proofs.LargeCalls.{cross_code, neighbour_small, file_degree, filed_small}

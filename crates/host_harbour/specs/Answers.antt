@@ -9,8 +9,8 @@ use Rattle.exports.specs.Answers.{ExportedAs, Exported}
 use Rattle.harbour.specs.Small.{large_of, small_of}
 use Rattle.harbour.specs.Answers.{SmallCrossed, SmallFiled}
 use Rattle.harbour.specs.declared.SmallCode.{SmallCode}
-use Rattle.harbour.specs.declared.SmallAnswer.{SmallAnswer}
-use Rattle.harbour.specs.declared.SmallStepAnswer.{SmallStepAnswer}
+use Rattle.harbour.specs.Answers.{SmallAnswer}
+use Rattle.harbour.specs.Answers.{SmallStepAnswer}
 use Rattle.host_harbour.specs.Refusals.{refuse_large, refuse_small, refuse_cross, refuse_file}
 
 -- the reader writes the code, "eight for each number"

@@ -9,8 +9,8 @@ use Rattle.exports.specs.Promises.{Delivered}
 use Rattle.harbour.specs.Refusals.{check_small}
 use Rattle.harbour.specs.Answers.{ReadAnswer, WriteAnswer, SmallCrossAnswer, SmallFileAnswer}
 use Rattle.harbour.specs.declared.SmallCode.{SmallCode}
-use Rattle.harbour.specs.declared.SmallAnswer.{SmallAnswer}
-use Rattle.harbour.specs.declared.SmallStepAnswer.{SmallStepAnswer}
+use Rattle.harbour.specs.Answers.{SmallAnswer}
+use Rattle.harbour.specs.Answers.{SmallStepAnswer}
 use Rattle.host_harbour.specs.Refusals.{refuse_large, refuse_small, refuse_cross, refuse_file}
 use Rattle.host_harbour.specs.Answers.{four_and_eight}
 use Rattle.host_harbour.specs.Answers.{LargeBytes, SmallBytes, CrossSmallBytes, FileSmallBytes}

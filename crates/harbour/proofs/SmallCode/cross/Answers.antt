@@ -1,73 +1,63 @@
 -- What the word refuses, then what the large call does; or the small form of what it answers. Assumes nothing.
-use mathlib.Core.Path.{◌≡◌, ◌∙◌, sym, subst}
+use mathlib.Core.Path.{◌≡◌, ◌∙◌, sym}
+use Prim.Native.Nat.{ℕ}
+use Rattle.std.specs.Prelude.{Ok}
 use Rattle.frame.proofs.Refusing.{refuse_before}
-use Rattle.frame.proofs.Answering.{answering, refusing}
+use Rattle.frame.proofs.Answering.{answering}
+use Rattle.frame.proofs.Told.{number_some, handed_on}
 use Rattle.net.specs.Refusals.{one_to_three_rows}
-use Rattle.corners.specs.Answers.{CrossAnswer, Crossed}
+use Rattle.words.specs.Family.{code_of}
+use Rattle.corners.specs.declared.Step.{Step}
+use Rattle.harbour.specs.declared.SmallCode.{SmallCode}
+use Rattle.corners.specs.Answers.{CrossAnswer, Crossed, step_told}
 use Rattle.harbour.specs.Small.{small_code, large_of}
 use Rattle.harbour.specs.Refusals.{harbour_order, small_rows, check_small, refuse_small_cross}
-use Rattle.harbour.specs.Answers.{small_step, SmallCrossAnswer}
+use Rattle.harbour.specs.Answers.{small_step}
 use Rattle.harbour.proofs.LargeCalls.{cross_number, cross_same, neighbour_small}
 use Rattle.harbour.proofs.SmallCode.cross.Goals as goal
-use Rattle.harbour.proofs.SmallCode.cross.Lts as lts
-use Rattle.harbour.proofs.SmallCode.cross.Reads as reads
-use Rattle.harbour.proofs.SmallCode.cross.Tie as tie
 
-abbrev After-cross-step : Type 0
-After-cross-step = lts.After-cross tie.the-claims reads.Pre reads.Post
-
-abbrev Else-f-ne0 : Type 0
-Else-f-ne0 = lts.Else1 tie.the-claims reads.Pre reads.Post
-
-abbrev Else-step-ne0 : Type 0
-Else-step-ne0 = lts.Else2 tie.the-claims reads.Pre reads.Post
-
-pub returns-then-f-ne0 : goal.returns-then-f-ne0
+pub returns-in_err-check_word : goal.returns-in_err-check_word
 unfolding refuse_small_cross check_small
-returns-then-f-ne0 c =
+returns-in_err-check_word c =
     let a = c.args in
-    subst (SmallCrossAnswer a.self a.edge) (sym c.refused_step.ensures)
-    (refusing (refuse_before harbour_order harbour_order (small_rows a.self) (one_to_three_rows a.edge) tt tt
-    c.check_word-f.ensures c.if-f-ne0.true) c.if-f-ne0.true)
+    handed_on _ _ _ c.from_residual.ensures
+    (refuse_before harbour_order harbour_order (small_rows a.self) (one_to_three_rows a.edge) tt tt
+    c.in_err-check_word.ensures (number_some _))
 
--- the word is a small code
-is_code : (c : Else-f-ne0) → check_small c.args.self ≡ 0
-is_code c = sym c.check_word-f.ensures ∙ c.if-f-ne0.false
+pub large_word-requires : goal.large_word-requires
+large_word-requires c = sym c.in_ok-check_word.ensures
+
+pub returns-in_err-step : goal.returns-in_err-step
+returns-in_err-step c =
+    let a = c.args in
+    handed_on _ _ _ c.from_residual-in_err-step.ensures
+    (cross_number a.self a.edge (sym c.in_ok-check_word.ensures) _
+    (rw c.large_word.ensures at c.in_err-step.ensures))
 
 -- what the large call answers
-large-answer : (c : After-cross-step) → let a = c.args in
-    CrossAnswer (large_of a.self) a.edge c.cross-step.result
-large-answer c = rw c.large_word.ensures at c.cross-step.ensures
+module _ (s : SmallCode) (k : ℕ) (z : 0 ≡ check_small s) {w : ℕ} {step : Step} (e : w ≡ (large_of s).0)
+    (a : CrossAnswer (code_of w) k (step_told (Ok step))) where
+  large : CrossAnswer (large_of s) k (step_told (Ok step))
+  large = rw e at a
 
--- its number
-number : (c : After-cross-step) → let a = c.args in
-    c.cross-step.result.refusal ≡ refuse_small_cross a.self a.edge
-number c =
-    let a = c.args in
-    cross_number a.self a.edge (is_code c.before.before) c.cross-step.result (large-answer c)
+  number : 0 ≡ refuse_small_cross s k
+  number = cross_number s k (sym z) _ large
 
-pub returns-then-step-ne0 : goal.returns-then-step-ne0
-returns-then-step-ne0 c =
-    let a = c.args in
-    subst (SmallCrossAnswer a.self a.edge) (sym c.refused_step-then-step-ne0.ensures) (refusing (number c.before.before.before) c.if-step-ne0.true)
-
-is-crossed : (c : Else-step-ne0) → let a = c.args in
-    Crossed (large_of a.self) a.edge c.cross-step.result
-is-crossed c =
-    let a = c.args in
-    (large-answer c.before.before).answered (cross_same a.self a.edge (is_code c.before.before.before.before) ∙ sym (number c.before.before) ∙ c.if-step-ne0.false)
+  crossed : Crossed (large_of s) k (step_told (Ok step))
+  crossed = large.answered (cross_same s k (sym z) ∙ sym number)
 
 pub small_word-requires : goal.small_word-requires
 small_word-requires c =
     let a = c.args in
-    neighbour_small a.self a.edge (is_code c.before.before.before.before) c.cross-step.result (is-crossed c)
+    neighbour_small a.self a.edge (sym c.in_ok-check_word.ensures) _
+    (crossed a.self a.edge c.in_ok-check_word.ensures c.large_word.ensures c.in_ok-step.ensures)
 
 pub returns : goal.returns
 returns c =
-    let s = c.cross-step.result in
-    let g = is-crossed c.before in
-    answering (sym (number c.before.before.before) ∙ c.if-step-ne0.false) (record {
-      answer = s;
-      large = g;
-      is = λ i. small_step (sym g.number i) (small_code (c.small_word.ensures i)) s.edge s.first s.second;
+    let a = c.args in
+    let s = c.in_ok-step.step in
+    answering (sym (number a.self a.edge c.in_ok-check_word.ensures c.large_word.ensures c.in_ok-step.ensures)) (record {
+      answer = step_told (Ok s);
+      large = crossed a.self a.edge c.in_ok-check_word.ensures c.large_word.ensures c.in_ok-step.ensures;
+      is = λ i. small_step 0 (small_code (c.small_word.ensures i)) s.edge s.first s.second;
     })

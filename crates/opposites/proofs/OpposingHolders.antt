@@ -1,18 +1,17 @@
 -- A triangle holds a direction exactly when its opposite holds the negated one. Assumes nothing.
 use mathlib.Core.Path.{◌≡◌, ◌∙◌, refl, sym, subst}
 use mathlib.Core.Logic.{◌↔◌}
-use mathlib.Core.List.{[], ◌∷◌, ◌++◌}
-use mathlib.Core.Bool.{Bool, ◌&&◌}
-use Prim.Native.Nat.{ℕ, zero, suc, ◌≤◌}
+use mathlib.Core.List.{[], ◌∷◌}
+use mathlib.Core.Bool.{◌&&◌}
+use Prim.Native.Nat.{ℕ, ◌≤◌}
 use native.Mathlib.Omega.{arith}
 use lib.Dec.{eqb, ltb}
-use lib.IntN.{ℤ, pos, negsuc, neg_ℤ, nat_abs}
-use Rattle.frame.specs.Refusals.{◌either◌, ◌when◌, refusal}
+use Rattle.frame.specs.Refusals.{◌either◌}
 use Rattle.golden.specs.Numbers.{negφ}
 use Rattle.golden.proofs.Magnitudes.{abs_neg}
 use Rattle.golden.proofs.RingSolver.{reify, done}
 use Rattle.golden.proofs.GoldenRing.{φ_ring, reφ}
-use Rattle.words.specs.Refusals.{IsCode, degree_rows}
+use Rattle.words.specs.Refusals.{IsCode}
 use Rattle.words.specs.declared.TriangleCode.{TriangleCode}
 use Rattle.net.specs.Corners.{corner}
 use Rattle.filing.specs.Coordinates.{exact, negated}

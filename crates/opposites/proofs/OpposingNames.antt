@@ -17,7 +17,7 @@ use Rattle.net.specs.Refusals.{check_name}
 use Rattle.filing.proofs.OnePoint.{same_place}
 use Rattle.grid.proofs.Nearest.{nearest}
 use Rattle.opposites.specs.Opposites.{exchanged, IsOpposite, IsOppositeName}
-use Rattle.opposites.proofs.Opposing.{exchanged_three, negated_twice, opposite_is}
+use Rattle.opposites.proofs.Opposing.{negated_twice}
 
 -- a name of the exchanged corner of the opposite triangle
 pub opposing_by : {n : ℕ} {q r : CornerName} {u : TriangleCode} → IsName n (named q) q → IsOpposite n (code_inside q) u

@@ -3,19 +3,21 @@
 
 ghost use Rattle.std.specs.Prelude.{◌≡◌};
 ghost use Rattle.words.specs.Refusals.{check_code};
+ghost use Rattle.words.specs.Family.{code_told};
+ghost use Rattle.corners.specs.Answers.{name_told};
 ghost use Rattle.net.specs.Sides.{IsSide, OneToThree};
 ghost use Rattle.filing.specs.Means.Opposites.{opposite_side, opposite_of};
 ghost use Rattle.opposites.specs.Opposites.{exchanged};
 ghost use Rattle.opposites.specs.Answers.{OppositeAnswer, OppositeNameAnswer};
 
-use corners::NameAnswer;
+use frame::Refusal;
 use knots::rings;
 use net::steps;
-use words::{CodeAnswer, CornerName, TriangleCode};
+use words::{CornerName, TriangleCode};
 
 // A triangle, and the number of a corner or an edge there. (`TriangleCode` is another crate's, and so can have no
 // method here.)
-#[derive(Clone, Copy)]
+#[derive(Clone, Copy, Debug, PartialEq, Eq, Hash)]
 struct Numbered {
     code: TriangleCode,
     number: u64,
@@ -49,46 +51,28 @@ impl Numbered {
 }
 
 // The triangle opposite to a triangle.
-pub fn opposite(t: TriangleCode) -> CodeAnswer
-    ensures { OppositeAnswer t result }
+pub fn opposite(t: TriangleCode) -> Result<TriangleCode, Refusal>
+    ensures { OppositeAnswer t (code_told result) }
 {
-    let f = t.check();
-    if f != 0 {
-        return CodeAnswer {
-            refusal: f,
-            code: TriangleCode(0),
-        };
-    }
+    t.check()?;
     // The code alone is asked for; any number would do.
     let here = Numbered { code: t, number: 1 };
     let there = here.opposite();
-    let code = there.code;
-    CodeAnswer { refusal: 0, code }
+    Ok(there.code)
 }
 
 // The name of the corner opposite to a corner. The opposite triangle need not be the least that has it, so it is named
 // anew.
-pub fn opposite_name(q: CornerName) -> NameAnswer
-    ensures { OppositeNameAnswer q result }
+pub fn opposite_name(q: CornerName) -> Result<CornerName, Refusal>
+    ensures { OppositeNameAnswer q (name_told result) }
 {
-    let w = q.0;
-    let f = corners::check_name(q);
-    if f != 0 {
-        return NameAnswer {
-            refusal: f,
-            name: CornerName(0),
-        };
-    }
+    corners::check_name(q)?;
     let here = Numbered {
         code: knots::code_inside(q),
-        number: w % 4,
+        number: q.0 % 4,
     };
     let there = here.opposite();
-    let code = there.code;
-    let name = CornerName(code.0 + there.number);
+    let name = CornerName(there.code.0 + there.number);
     let least = rings::least_name(name);
-    NameAnswer {
-        refusal: 0,
-        name: least,
-    }
+    Ok(least)
 }

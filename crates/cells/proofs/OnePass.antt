@@ -14,7 +14,6 @@ use lib.Seq.{get_or-take, length-take-le}
 use borrow.Author.Tests.{eqb-false, le-ltb, ne_eqb}
 use Rattle.frame.specs.Refusals.{◌when◌, first_of}
 use Rattle.frame.specs.Lists.{some}
-use Rattle.frame.proofs.Refusing.{First, refuse_first}
 use Rattle.frame.proofs.Scanning.{none_each, none_there}
 use Rattle.words.specs.Words.{large, degree_of, digits, side_of, path}
 use Rattle.words.proofs.WordLayout.{side_top, tail_is}
@@ -154,13 +153,6 @@ module _ (ws : List ℕ) {i : ℕ} {last : Reach} (p : Passed ws i last) where
   -- past the last
   pub all_passed : length ws ≤ i → accepted ≡ checked ws
   all_passed h = sym (all_clear ws (λ j k. p.clear j (omega (arith, h, k))))
-
--- the reasons by tests in turn
-pub reason_by_lem : (last : Reach) (r : ℕ) {k : ℕ}
-    → First (2 when ltb r last.rank ∷ 3 when eqb r last.rank ∷ 4 when ltb r last.end ∷ []) k
-    → k ≡ reason_by last r
-unfolding reason_by
-reason_by_lem last r f = refuse_first (2 ∷ 3 ∷ 4 ∷ []) _ tt f
 
 -- ---- the reach as it is computed
 

@@ -1,6 +1,6 @@
 -- Document 02, 2026-09: what a stranger would try, and wrong answers. Codes are written apq then digits. Assumes
 -- nothing.
-use Rattle.std.specs.Prelude.{◌≡◌, true, false, List, [], ◌∷◌, ◌++◌, ℕ, ◌<◌}
+use Rattle.std.specs.Prelude.{◌≡◌, true, false, [], ◌∷◌, ◌++◌, ◌<◌}
 use Rattle.words.specs.Writing.{written, words_for}
 use Rattle.cells.specs.Order.{less_than, inside_of}
 use Rattle.cells.specs.Checking.{verdict, accepted, checked}

@@ -99,14 +99,12 @@ pub fn check(words: &[u64]) -> Verdict
     ensures { result ≡ checked words.now }
 {
     let mut last = Reach { rank: 0, end: 0 };
-    let mut i = 0;
-    while i < words.len() {
-        let found = look_at(words[i], last);
+    for (i, &w) in words.iter().enumerate() {
+        let found = look_at(w, last);
         if found.reason != 0 {
             return offence(found.reason, i);
         }
         last = found.own;
-        i += 1;
     }
     offence(0, 0)
 }

@@ -3,7 +3,7 @@ use mathlib.Core.Path.{◌≡◌, ◌∙◌, refl, sym, ap, subst}
 use mathlib.Core.Bool.{Bool, true, false, not, ◌&&◌}
 use mathlib.Core.Logic.{◌⊎◌, inl, inr, ⊎_elim}
 use mathlib.Core.List.{List, [], ◌∷◌, ◌++◌}
-use Prim.Native.Nat.{ℕ, zero, suc, ◌+◌, ◌≤◌, ◌<◌}
+use Prim.Native.Nat.{ℕ, zero, suc, ◌≤◌, ◌<◌}
 use native.Mathlib.Nat.{eq-or-lt_of_le}
 use native.Mathlib.Decide.{dec_le}
 use native.Mathlib.Omega.{arith}
@@ -11,9 +11,8 @@ use borrow.Author.Tests.{eqb-true, eqb-false, eq-eqb, ne_eqb, lt-ltb, ltb-true, 
 use lib.Dec.{eqb, ltb}
 use lib.ListN.{length, get_or, take, set, length-append, get_or-append}
 use lib.Seq.{get_or-set_same, get_or-set_other, get_or-take, get_or_at, length-take-le}
-use Rattle.frame.specs.Refusals.{◌when◌, first_of}
+use Rattle.frame.specs.Refusals.{first_of}
 use Rattle.frame.specs.Lists.{some}
-use Rattle.frame.proofs.Refusing.{First, refuse_first}
 use Rattle.frame.proofs.Scanning.{none_each, none_there}
 use Rattle.cells.proofs.Dictionary.{known, clash}
 use Rattle.judging.specs.Means.Keys.{end_of}
@@ -52,10 +51,6 @@ module _ (last end k : ℕ) where
   pub why_four : eqb k last ≡ false → ltb k end ≡ true → why_next last end k ≡ 0 → ⊥
   unfolding why_next first_of
   why_four a b z = let e : ◌≡◌ {A = ℕ} 4 0 = rw (a, b) at z in omega (arith, e)
-
-  pub why_by : {f : ℕ} → First (3 when eqb k last ∷ 4 when ltb k end ∷ []) f → f ≡ why_next last end k
-  unfolding why_next
-  why_by x = refuse_first (3 ∷ 4 ∷ []) _ tt x
 
   pub why_zero : eqb k last ≡ false → ltb k end ≡ false → why_next last end k ≡ 0
   unfolding why_next first_of

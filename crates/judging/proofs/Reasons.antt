@@ -8,6 +8,7 @@ use native.Mathlib.Omega.{arith}
 use lib.Dec.{eqb}
 use lib.ListN.{length, get_or, take, length-map}
 use lib.Seq.{ext_get_or, get_or-take, length-take-le}
+use Rattle.std.proofs.lemmas.List.{get_or-map}
 use Rattle.frame.specs.Refusals.{◌either◌, first_of}
 use Rattle.frame.specs.Lists.{some}
 use Rattle.cells.specs.Order.{valid}
@@ -20,7 +21,7 @@ use Rattle.mending.proofs.Members.{mem_at, at_mem, Rises, Valid}
 use Rattle.mending.proofs.Dropping.{holder, sound_mem, mem_sound, sound_good}
 use Rattle.judging.specs.Means.Keys.{key, Numbered}
 use Rattle.judging.specs.Means.Turns.{at, holds, Outer, why_at, Judged, Kept}
-use Rattle.judging.proofs.WordKeys.{key_at, key_code, key_invalid, key_some, holds_inside, same_key}
+use Rattle.judging.proofs.WordKeys.{key_code, key_invalid, key_some, holds_inside, same_key}
 
 -- ---- the words before a place
 
@@ -91,7 +92,7 @@ module _ (ws : List ℕ) where
   unfolding why_at drop_reason first_of
   why_code p l v =
       let w = at ws p in
-      let k : at ks p ≡ rank w = key_at ws p l ∙ key_code w v in
+      let k : at ks p ≡ rank w = get_or-map key ws p 0 0 l ∙ key_code w v in
       rw (k, earlier_same w p v, outer_same w v, v)
 
   why_other : (p : ℕ) → valid (at ws p) ≡ false → drop_reason ws (up_to p ws []) (at ws p) ≡ 1
@@ -114,10 +115,10 @@ module _ (ws : List ℕ) where
           → at why p ≡ drop_reason ws (up_to p ws []) (at ws p)
       own p h (inl v) =
           j.codes p (there p h) (λ z.
-          omega (arith, rank_some (at ws p) v, sym (key_at ws p h ∙ key_code (at ws p) v) ∙ z))
+          omega (arith, rank_some (at ws p) v, sym (get_or-map key ws p 0 0 h ∙ key_code (at ws p) v) ∙ z))
           ∙ why_code p h v
       own p h (inr v) =
-          j.others p (there p h) (key_at ws p h ∙ key_invalid (at ws p) v)
+          j.others p (there p h) (get_or-map key ws p 0 0 h ∙ key_invalid (at ws p) v)
           ∙ n.invalid p h (key_invalid (at ws p) v) ∙ sym (why_other p v)
 
       each : (p : ℕ) → p < length ws
@@ -195,7 +196,7 @@ module _ (ws kept : List ℕ) (k : Kept (map key ws) kept) where
           let p = x.0 in
           let h : p < length ws = omega (arith, x.1.0, length-map ws key) in
           let w = at ws p in
-          let e = key_at ws p h in
+          let e = get_or-map key ws p 0 0 h in
           let v = key_some w (λ z. x.1.1.0 (e ∙ z)) in
           let r : at (map key ws) p ≡ rank w = e ∙ key_code w v in
           let o : some (holder w) ws ≡ false =
@@ -216,7 +217,7 @@ module _ (ws kept : List ℕ) (k : Kept (map key ws) kept) where
           let v = x.1.code in
           let m = mem_at w ws x.0 in
           let p = m.0 in
-          let r : at (map key ws) p ≡ rank w = key_at ws p m.1 ∙ ap key m.2 ∙ key_code w v in
+          let r : at (map key ws) p ≡ rank w = get_or-map key ws p 0 0 m.1 ∙ ap key m.2 ∙ key_code w v in
           let o : Outer (map key ws) (at (map key ws) p) =
           ap (λ (n : ℕ). some (λ r. holds r n) (map key ws)) r ∙ outer_same ws w v ∙ x.1.outer in
           let y = k.all p (omega (arith, m.1, length-map ws key))

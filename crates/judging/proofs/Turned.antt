@@ -1,11 +1,12 @@
 -- The codes of a list, sorted by their keys, are gone through as it is asked for. Assumes nothing.
 use mathlib.Core.Path.{◌≡◌, ◌∙◌, sym, ap}
 use mathlib.Core.Bool.{true, false, ◌&&◌}
-use mathlib.Core.Logic.{◌⊎◌, ⊎_elim}
+use mathlib.Core.Logic.{⊎_elim}
 use mathlib.Core.List.{List, map}
 use Prim.Native.Nat.{ℕ, ◌-◌, ◌%◌, ◌^◌, ◌≤◌, ◌<◌}
 use native.Mathlib.Omega.{arith}
 use lib.ListN.{length, length-map}
+use Rattle.std.proofs.lemmas.List.{get_or-map}
 use Rattle.sorting.specs.Sorting.{sorted, PlacesOf}
 use Rattle.sorting.proofs.Sorted.{sorted_long, sorted_all, sorted_has, sorted_rises}
 use Rattle.cells.specs.Order.{valid, inside_of}
@@ -17,7 +18,7 @@ use Rattle.mending.proofs.Members.{both_true}
 use Rattle.judging.specs.Means.Keys.{key, end_of, code_places}
 use Rattle.judging.specs.Means.Turns.{at, holds, InTurn, Nested, SmallKeys}
 use Rattle.judging.proofs.InOrder.{held}
-use Rattle.judging.proofs.WordKeys.{key_at, key_code, key_invalid, key_some, rank_degree, rank_small}
+use Rattle.judging.proofs.WordKeys.{key_code, key_invalid, key_some, rank_degree, rank_small}
 use Rattle.judging.proofs.WordKeys.{holds_inside}
 use Rattle.judging.proofs.CodePlaces.{places_there, places_rise, places_all}
 
@@ -61,8 +62,8 @@ module _ (ws : List ℕ) where
   inside : (p q : ℕ) → p < length (map key ws) → q < length (map key ws) → holds (K p) (K q) ≡ true
       → (valid (W p) ≡ true) × ((valid (W q) ≡ true) × (inside_of (W q) (W p) ≡ true))
   inside p q l m h =
-      let kp = key_at ws p (in_words p l) in
-      let kq = key_at ws q (in_words q m) in
+      let kp = get_or-map key ws p 0 0 (in_words p l) in
+      let kq = get_or-map key ws q 0 0 (in_words q m) in
       let x = held (K p) (K q) h in
       let v : valid (W q) ≡ true = key_some (W q) (λ z. let s = x.below in let k = kq ∙ z in omega (arith, s, k)) in
       let g : holds (key (W p)) (rank (W q)) ≡ true =
@@ -78,15 +79,15 @@ module _ (ws : List ℕ) where
       let v = b.1.0 in
       let g : holds (key (W p)) (rank (W s)) ≡ true = holds_inside (W s) v (W p) ∙ (λ i. a.0 i && t i) in
       let x = held (key (W p)) (rank (W s)) g in
-      let kp = key_at ws p (in_words p lp) in
-      let kss = key_at ws s (in_words s ls) ∙ key_code (W s) v in
+      let kp = get_or-map key ws p 0 0 (in_words p lp) in
+      let kss = get_or-map key ws s 0 0 (in_words s ls) ∙ key_code (W s) v in
       omega (arith, x.above, kss, ap end_of kp)
 
   pub small_keys : SmallKeys (map key ws)
   small_keys p l = ⊎_elim code other (known (valid (W p)))
     where
       k : K p ≡ key (W p)
-      k = key_at ws p (in_words p l)
+      k = get_or-map key ws p 0 0 (in_words p l)
 
       code : valid (W p) ≡ true → (K p < 2 ^ 59) × (K p % 64 ≤ 24)
       code v =

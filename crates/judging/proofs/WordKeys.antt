@@ -3,13 +3,14 @@ use mathlib.Core.Path.{◌≡◌, ◌∙◌, refl, sym, ap}
 use mathlib.Core.Bool.{true, false, not, ◌&&◌}
 use mathlib.Core.Logic.{◌⊎◌, inl, inr, ⊎_elim}
 use mathlib.Core.List.{List, [], ◌∷◌, ◌++◌, map, append_assoc, append-nil}
-use Prim.Native.Nat.{ℕ, zero, suc, ◌+◌, ◌-◌, ◌*◌, ◌%◌, ◌^◌, ◌≤◌, ◌<◌}
+use Prim.Native.Nat.{ℕ, suc, ◌+◌, ◌-◌, ◌*◌, ◌%◌, ◌^◌, ◌≤◌, ◌<◌}
 use native.Mathlib.Nat.{eq-or-lt_of_le}
 use native.Mathlib.Omega.{arith}
 use borrow.Author.Tests.{eq-eqb, ne_eqb}
 use lib.Dec.{eqb, ltb}
 use lib.ListN.{length, get_or, take, drop, set, length-map, drop_of_length-le}
 use lib.Seq.{take-suc, take-suc-set, take_all, drop-cons, get_or-set_same, get_or-set_other}
+use Rattle.std.proofs.lemmas.List.{get_or-map}
 use Rattle.words.specs.Words.{degree_of}
 use Rattle.words.proofs.Codes.{code_side}
 use Rattle.cells.specs.Order.{valid, less_than, inside_of}
@@ -37,11 +38,6 @@ unfolding end_of
 end_is k e = ap (λ (x : ℕ). k - k % 64 + x) e
 
 -- ---- the keys of a list
-
-pub key_at : (ws : List ℕ) (i : ℕ) → i < length ws → get_or (map key ws) i 0 ≡ key (get_or ws i 0)
-key_at [] i l = absurd (omega (arith, l))
-key_at (w ∷ ws) zero l = refl
-key_at (w ∷ ws) (suc i) l = key_at ws i (omega (arith, l))
 
 pub numbered_none : (ks keys places why : List ℕ) → NumberedTo ks 0 keys places why 0
 numbered_none ks keys places why = record {
@@ -100,7 +96,7 @@ numbered_all ws keys places why i codes e g =
       few = omega (arith, g.few, e);
       keys_are = ap (λ (j : ℕ). take j keys) (sym e) ∙ g.keys_are ∙ take_all i ks (omega (arith, n, e));
       places_are = sym (append-nil (take codes places)) ∙ (rw d at g.places_are);
-      invalid = λ p l z. g.invalid p (omega (arith, l, e)) (key_at ws p l ∙ z);
+      invalid = λ p l z. g.invalid p (omega (arith, l, e)) (get_or-map key ws p 0 0 l ∙ z);
     }
 
 -- ---- keys and words

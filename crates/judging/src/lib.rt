@@ -31,17 +31,14 @@ fn number_words(words: &[u64], keys: &mut [u64], places: &mut [u64], why: &mut [
     ensures { Numbered words.now keys.new places.new why.new result }
 {
     let mut codes = 0;
-    let mut i = 0;
-    while i < words.len() {
-        let k = key_of(words[i]);
+    for (i, &w) in words.iter().enumerate() {
+        let k = key_of(w);
         keys[i] = k;
         if k == 0 {
             why[i] = 1;
-            i += 1;
         } else {
             places[codes] = i as u64;
             codes += 1;
-            i += 1;
         }
     }
     codes
@@ -80,9 +77,8 @@ fn judge_each(keys: &[u64], places: &[u64], why: &mut [u64], kept: &mut [u64]) -
     let mut last = 0;
     let mut end = 0;
     let mut count = 0;
-    let mut i = 0;
-    while i < places.len() {
-        let p = places[i] as usize;
+    for &place in places {
+        let p = place as usize;
         let k = keys[p];
         let f = why_next(last, end, k);
         why[p] = f;
@@ -91,9 +87,6 @@ fn judge_each(keys: &[u64], places: &[u64], why: &mut [u64], kept: &mut [u64]) -
             kept[count] = k;
             count += 1;
             end = end_of(k);
-            i += 1;
-        } else {
-            i += 1;
         }
     }
     count

@@ -35,8 +35,7 @@ pub fn finish(
 {
     let dropped = merging::put_dropped(words, why, changed, reasons);
     let z = merging::merge_all(kept, count, changed, reasons, dropped);
-    let n = z.count;
-    merging::put_words(kept, n, out);
+    merging::put_words(&kept[..z.count], out);
     z
 }
 

@@ -23,15 +23,13 @@ fn word_at(rank: u64) -> u64
     side * 576460752303423488 + degree * 18014398509481984 + (rank % 18014398509481984 - degree)
 }
 
-// The codes of the first ranks of a list, over the front of another.
-pub fn put_words(ranks: &[u64], count: usize, out: &mut [u64])
-    requires { (count ≤ length ranks.now) × (count ≤ length out.old) × Small (take count ranks.now) }
-    ensures { out.new ≡ over (map word_at (take count ranks.now)) out.old }
+// The codes of a list of ranks, over the front of another.
+pub fn put_words(ranks: &[u64], out: &mut [u64])
+    requires { (length ranks.now ≤ length out.old) × Small ranks.now }
+    ensures { out.new ≡ over (map word_at ranks.now) out.old }
 {
-    let mut k = 0;
-    while k < count {
-        out[k] = word_at(ranks[k]);
-        k += 1;
+    for (k, &rank) in ranks.iter().enumerate() {
+        out[k] = word_at(rank);
     }
 }
 
@@ -47,15 +45,12 @@ pub fn put_dropped(words: &[u64], why: &[u64], changed: &mut [u64], reasons: &mu
         (dropped_reasons words.now why.now) }
 {
     let mut c = 0;
-    let mut i = 0;
-    while i < words.len() {
-        if why[i] == 0 {
-            i += 1;
-        } else {
-            changed[c] = words[i];
-            reasons[c] = why[i];
+    for (i, &w) in words.iter().enumerate() {
+        let reason = why[i];
+        if reason != 0 {
+            changed[c] = w;
+            reasons[c] = reason;
             c += 1;
-            i += 1;
         }
     }
     c
@@ -123,20 +118,20 @@ fn merge_at(
     let mut i = 0;
     let mut j = 0;
     let mut c = changes;
+    // A pass takes one place or four, so no for counts them.
     while i < count {
-        let a = ranks[i];
+        let mut rank = ranks[i];
         if four(d, ranks, count, i) {
-            ranks[j] = a - 1;
-            changed[c] = word_at(a - 1);
+            rank -= 1;
+            changed[c] = word_at(rank);
             reasons[c] = 5;
             c += 1;
-            j += 1;
             i += 4;
         } else {
-            ranks[j] = a;
-            j += 1;
             i += 1;
         }
+        ranks[j] = rank;
+        j += 1;
     }
     Counts {
         count: j,
@@ -161,14 +156,12 @@ pub fn merge_all(
         × Added reasons.old reasons.new changes result.changes
         (fives (joins_below 24 (take count ranks.old))) }
 {
-    let mut d = 24;
     let mut n = count;
     let mut c = changes;
-    while 0 < d {
-        let z = merge_at(d - 1, ranks, n, changed, reasons, c);
+    for d in (0..24).rev() {
+        let z = merge_at(d, ranks, n, changed, reasons, c);
         n = z.count;
         c = z.changes;
-        d -= 1;
     }
     Counts {
         count: n,

@@ -6,12 +6,12 @@ use Prim.Native.Nat.{ℕ, zero, suc, ◌+◌, ◌-◌, ◌*◌, ◌/◌, ◌%◌
 use native.Mathlib.Omega.{arith}
 use native.Mathlib.Nat.{mod-eq_of_lt, one-le-pow, pow-succ', add-mul, mul_assoc, mul_comm, mul-suc}
 use lib.Arith.{mod-mul}
-use lib.IntN.{ℤ, pos, negsuc, neg_ℤ, ◌-ℤ◌}
 use lib.ListN.{length, get_or, take, drop, length-append, length-drop}
 use lib.Seq.{take_at, drop_at, drop-drop, take-append-le, drop-append-le}
 use mir.Syntax.{w32}
-use mir.Val.{SFits, to_z, of_z}
-use mir.ValLaws.{to_z-of_z}
+use mir.Val.{to_z}
+use Rattle.std.proofs.Common.{inl, inr}
+use Rattle.std.proofs.lemmas.Bool.{cases_lt}
 use borrow.Author.Tests.{lt-ltb, le-ltb}
 use borrow.Rule.Slice.PartMut.{put_mid}
 use Rattle.frame.specs.Answers.{over}
@@ -28,10 +28,6 @@ pub each_byte : (k w i : ℕ) → get_or (bytes_of k w) i 0 < 256
 each_byte zero w i = omega arith
 each_byte (suc k) w zero = omega arith
 each_byte (suc k) w (suc i) = each_byte k w i
-
--- the last byte as it is written
-pub last_byte : (w : ℕ) → w % 256 ≡ w / 256 ^ 0 % 256
-last_byte w = omega arith
 
 more : (k : ℕ) → 256 ^ suc k ≡ 256 * 256 ^ k
 more k = pow-succ' 256 k
@@ -119,53 +115,15 @@ laid_next k w ws out mid late e f = two_parts out mid late (bytes_of k w) (bytes
 
 -- ---- bytes read
 
--- four bytes as the code takes them
-pub four_bytes : (bs : List ℕ) → 4 ≤ length bs
-    → get_or bs 0 0 * 16777216 + get_or bs 1 0 * 65536 + get_or bs 2 0 * 256 + get_or bs 3 0 ≡ number_of (take 4 bs)
-four_bytes [] l = absurd (omega (arith, l))
-four_bytes (a ∷ []) l = absurd (omega (arith, l))
-four_bytes (a ∷ b ∷ []) l = absurd (omega (arith, l))
-four_bytes (a ∷ b ∷ c ∷ []) l = absurd (omega (arith, l))
-four_bytes (a ∷ b ∷ c ∷ d ∷ bs) l = omega arith
-
--- a signed number of four bytes, by the code's test: its bits w, or -1 and what is left to all bits set
-pub not_negative : (w : ℕ) → w < 2147483648 → to_z w32 w ≡ signed 4 w
+-- a signed number of four bytes
+pub as_signed : (w : ℕ) → w < 4294967296 → to_z w32 w ≡ signed 4 w
 unfolding signed
-not_negative w l = rw (lt-ltb w 2147483648 l, lt-ltb (2 * w) (256 ^ 4) (omega (arith, l)))
-
-minus_one : (v : ℕ) → negsuc 0 -ℤ pos v ≡ negsuc v
-minus_one zero = refl
-minus_one (suc v) = let e : 0 + v ≡ v = omega arith in ap (λ (m : ℕ). negsuc (suc m)) e
-
-module _ (w : ℕ) (l : 2147483648 ≤ w) (h : w < 4294967296) where
-  low : to_z w32 (4294967295 - w) ≡ pos (4294967295 - w)
-  low = rw (lt-ltb (4294967295 - w) 2147483648 (omega (arith, l)))
-
-  is_less : negsuc 0 -ℤ to_z w32 (4294967295 - w) ≡ negsuc (4294967295 - w)
-  is_less = ap (λ (x : ℤ). negsuc 0 -ℤ x) low ∙ minus_one (4294967295 - w)
-
-  pub negative_fits : SFits w32 (negsuc 0 -ℤ to_z w32 (4294967295 - w))
-  negative_fits = rw is_less (record { sfits = omega (arith, l) })
-
-  pub negative : to_z w32 (of_z w32 (negsuc 0 -ℤ to_z w32 (4294967295 - w))) ≡ signed 4 w
-  unfolding signed
-  negative =
-      let e : 4294967296 - w ≡ suc (4294967295 - w) = omega (arith, h) in
-      to_z-of_z w32 _ negative_fits ∙ is_less
-      ∙ rw (le-ltb (2 * w) (256 ^ 4) (omega (arith, l))) (ap (λ (m : ℕ). neg_ℤ (pos m)) (sym e))
-
--- eight bytes as two times four
-pub eight_bytes : (bs : List ℕ) → 8 ≤ length bs
-    → number_of (take 4 bs) * 4294967296 + number_of (take 4 (drop 4 bs)) ≡ number_of (take 8 bs)
-eight_bytes [] l = absurd (omega (arith, l))
-eight_bytes (a ∷ []) l = absurd (omega (arith, l))
-eight_bytes (a ∷ b ∷ []) l = absurd (omega (arith, l))
-eight_bytes (a ∷ b ∷ c ∷ []) l = absurd (omega (arith, l))
-eight_bytes (a ∷ b ∷ c ∷ d ∷ []) l = absurd (omega (arith, l))
-eight_bytes (a ∷ b ∷ c ∷ d ∷ e ∷ []) l = absurd (omega (arith, l))
-eight_bytes (a ∷ b ∷ c ∷ d ∷ e ∷ f ∷ []) l = absurd (omega (arith, l))
-eight_bytes (a ∷ b ∷ c ∷ d ∷ e ∷ f ∷ g ∷ []) l = absurd (omega (arith, l))
-eight_bytes (a ∷ b ∷ c ∷ d ∷ e ∷ f ∷ g ∷ h ∷ bs) l = omega arith
+as_signed w h =
+    elim (cases_lt w 2147483648) [
+      | inl l ↦ rw (lt-ltb w 2147483648 l, lt-ltb (2 * w) (256 ^ 4) (omega arith))
+      | inr l ↦ let e : 4294967296 - w ≡ suc (4294967296 - suc w) = omega arith in
+          rw (le-ltb w 2147483648 l, le-ltb (2 * w) (256 ^ 4) (omega arith), e)
+    ]
 
 -- ---- many numbers, as f reads them
 

@@ -1,5 +1,7 @@
 // Numbers as bytes, most significant first. (The toolchain has a library of the name `bytes`, for bytes that are no
 // numbers.)
+//
+// put8 and put4 stay two: what they share is one call of the library, and a trait over both would be longer.
 #![tactic(auto)]
 
 ghost use Rattle.std.specs.Prelude.{◌≡◌, ◌*◌, ◌≤◌, length, take};
@@ -11,14 +13,7 @@ pub fn put8(w: u64, out: &mut [u8])
     requires { 8 ≤ length out.old }
     ensures { out.new ≡ over (bytes_of 8 w) out.old }
 {
-    out[0] = (w / 0x100_0000_0000_0000 % 256) as u8;
-    out[1] = (w / 0x1_0000_0000_0000 % 256) as u8;
-    out[2] = (w / 0x100_0000_0000 % 256) as u8;
-    out[3] = (w / 0x1_0000_0000 % 256) as u8;
-    out[4] = (w / 0x100_0000 % 256) as u8;
-    out[5] = (w / 0x1_0000 % 256) as u8;
-    out[6] = (w / 0x100 % 256) as u8;
-    out[7] = (w % 256) as u8;
+    out[..8].copy_from_slice(&w.to_be_bytes());
 }
 
 // The four bytes of w over the front of out.
@@ -26,21 +21,7 @@ pub fn put4(w: u32, out: &mut [u8])
     requires { 4 ≤ length out.old }
     ensures { out.new ≡ over (bytes_of 4 w) out.old }
 {
-    out[0] = (w / 0x100_0000 % 256) as u8;
-    out[1] = (w / 0x1_0000 % 256) as u8;
-    out[2] = (w / 0x100 % 256) as u8;
-    out[3] = (w % 256) as u8;
-}
-
-// The number of the first four bytes.
-fn get4(bytes: &[u8]) -> u32
-    requires { 4 ≤ length bytes.now }
-    ensures { result ≡ number_of (take 4 bytes.now) }
-{
-    bytes[0] as u32 * 0x100_0000
-        + bytes[1] as u32 * 0x1_0000
-        + bytes[2] as u32 * 0x100
-        + bytes[3] as u32
+    out[..4].copy_from_slice(&w.to_be_bytes());
 }
 
 // The number of the first eight bytes.
@@ -48,7 +29,9 @@ pub fn get8(bytes: &[u8]) -> u64
     requires { 8 ≤ length bytes.now }
     ensures { result ≡ number_of (take 8 bytes.now) }
 {
-    get4(bytes) as u64 * 0x1_0000_0000 + get4(&bytes[4..]) as u64
+    u64::from_be_bytes([
+        bytes[0], bytes[1], bytes[2], bytes[3], bytes[4], bytes[5], bytes[6], bytes[7],
+    ])
 }
 
 // The number of the first four bytes as a signed number.
@@ -56,11 +39,7 @@ pub fn get_signed4(bytes: &[u8]) -> i32
     requires { 4 ≤ length bytes.now }
     ensures { result ≡ signed 4 (number_of (take 4 bytes.now)) }
 {
-    let w = get4(bytes);
-    if w < 0x8000_0000 {
-        return w as i32;
-    }
-    -1 - (0xFFFF_FFFF - w) as i32
+    i32::from_be_bytes([bytes[0], bytes[1], bytes[2], bytes[3]])
 }
 
 // The first words of the bytes, eight for each, over the front of a list.
@@ -68,10 +47,8 @@ pub fn read_words(bytes: &[u8], count: usize, words: &mut [u64])
     requires { (8 * count ≤ length bytes.now) × (count ≤ length words.old) }
     ensures { take count words.new ≡ numbers 8 count bytes.now }
 {
-    let mut i = 0;
-    while i < count {
+    for i in 0..count {
         words[i] = get8(&bytes[8 * i..]);
-        i += 1;
     }
 }
 
@@ -80,9 +57,7 @@ pub fn write_words(words: &[u64], count: usize, out: &mut [u8])
     requires { (count ≤ length words.now) × (8 * count ≤ length out.old) }
     ensures { out.new ≡ over (bytes 8 (take count words.now)) out.old }
 {
-    let mut i = 0;
-    while i < count {
+    for i in 0..count {
         put8(words[i], &mut out[8 * i..]);
-        i += 1;
     }
 }

@@ -1,27 +1,16 @@
--- `cells::check` meets its contract. The loop's invariant: the places passed offend in nothing, and the reach is that
--- of the last of them (OnePass). The measure is what is left. Assumes nothing.
+-- The places passed offend in nothing, and the reach is that of the last of them (OnePass). Assumes nothing.
 use mathlib.Core.Path.{◌∙◌, refl}
-use native.Mathlib.Omega.{arith}
 use Rattle.cells.proofs.OnePass.{none_passed, stopped, passed_more, all_passed}
 use Rattle.cells.proofs.check.Goals as goal
 
 pub loop-i-init : goal.loop-i-init
 loop-i-init c = none_passed c.args.words.now
 
-pub bounds-words-i : goal.bounds-words-i
-bounds-words-i c = c.loop-i-test.true
-
 pub returns-then-found-ne0 : goal.returns-then-found-ne0
 returns-then-found-ne0 c =
     c.offence.ensures
     ∙ stopped c.args.words.now c.loop-i.invariant c.loop-i-test.true refl c.look_at-found.ensures.0
     c.if-found-ne0.true
-
-pub overflow_add-i : goal.overflow_add-i
-overflow_add-i c = omega (arith, c.loop-i-test.true)
-
-pub loop-i-smaller : goal.loop-i-smaller
-loop-i-smaller c = omega (arith, c.loop-i-test.true)
 
 pub loop-i-preserved : goal.loop-i-preserved
 loop-i-preserved c =
@@ -30,5 +19,4 @@ loop-i-preserved c =
     (f.1 c.if-found-ne0.false) c.if-found-ne0.false
 
 pub returns : goal.returns
-returns c =
-    c.offence-2.ensures ∙ all_passed c.args.words.now c.loop-i.invariant c.loop-i-test.false
+returns c = c.offence-2.ensures ∙ all_passed c.args.words.now c.loop-i.invariant c.loop-i-test.false

@@ -1,38 +1,22 @@
--- `cells::look_at` meets its contract: whether it is a code, and then the reach of the word before (OnePass). Assumes
--- nothing.
-use mathlib.Core.Path.{◌≡◌, ◌∙◌, sym, ap}
-use mathlib.Core.Bool.{true}
+-- Whether it is a code, and then the reach of the word before (OnePass). Assumes nothing.
+use mathlib.Core.Path.{◌∙◌, sym, ap}
 use native.Mathlib.Omega.{arith}
 use borrow.Author.Tests.{eq-eqb, ne_eqb}
-use Rattle.cells.specs.Order.{valid}
 use Rattle.cells.specs.Means.Ranks.{reason_by}
 use Rattle.cells.specs.declared.Reach.{Reach}
 use Rattle.cells.proofs.OnePass.{after_invalid, after_valid}
 use Rattle.cells.proofs.look_at.Goals as goal
-use Rattle.cells.proofs.look_at.Lts as lts
-use Rattle.cells.proofs.look_at.Reads as reads
-use Rattle.cells.proofs.look_at.Tie as tie
 
-abbrev Else-check-ne0 : Type 0
-Else-check-ne0 = lts.Else1 tie.the-claims reads.Pre reads.Post
-
--- a word that is no code
 pub returns-then-check-ne0 : goal.returns-then-check-ne0
 returns-then-check-ne0 c =
     let bad = ne_eqb _ 0 (λ e. c.if-check-ne0.true (c.check.ensures ∙ e)) in
     (after_invalid c.args.last c.args.w bad, λ z. absurd (omega (arith, z)))
 
--- a code
-code : (c : Else-check-ne0) → valid c.args.w ≡ true
-code c = eq-eqb _ 0 (sym c.check.ensures ∙ c.if-check-ne0.false)
-
-pub reach_of-own-requires : goal.reach_of-own-requires
-reach_of-own-requires c = code c
-
 pub returns : goal.returns
 returns c =
-    let e = c.reach_of-own.ensures in (
+    let e = c.reach_of-own.ensures in
+    let code = eq-eqb _ 0 (sym c.check.ensures ∙ c.if-check-ne0.false) in (
       c.reason_after.ensures ∙ ap (λ (x : Reach). reason_by c.args.last x.rank) e
-          ∙ after_valid c.args.last c.args.w (code c.before.before),
+          ∙ after_valid c.args.last c.args.w code,
       λ z. e,
     )

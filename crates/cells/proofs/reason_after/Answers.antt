@@ -1,22 +1,22 @@
--- `cells::reason_after` meets its contract: the tests in turn (OnePass). Assumes nothing.
-use borrow.Author.Tests.{lt-ltb, le-ltb, eq-eqb, ne_eqb}
-use Rattle.frame.proofs.Refusing.{nothing, here, next}
-use Rattle.cells.proofs.OnePass.{reason_by_lem}
+-- The tests in turn. Assumes nothing.
+use Rattle.std.proofs.Common.{arith}
+use Rattle.std.proofs.lemmas.Bool.Decides.{nat_tests}
+use Rattle.frame.specs.Refusals.{first_of}
+use Rattle.cells.specs.Means.Ranks.{reason_by}
 use Rattle.cells.proofs.reason_after.Goals as goal
 
 pub returns-then-own-last : goal.returns-then-own-last
-returns-then-own-last c = reason_by_lem _ _ (here (lt-ltb _ _ c.if-own-last.true))
+unfolding reason_by first_of
+returns-then-own-last c = grind (arith, nat_tests)
 
 pub returns-then-own-last-2 : goal.returns-then-own-last-2
-returns-then-own-last-2 c =
-    reason_by_lem _ _ (next (le-ltb _ _ c.if-own-last.false) (here (eq-eqb _ _ c.if-own-last-2.true)))
+unfolding reason_by first_of
+returns-then-own-last-2 c = grind (arith, nat_tests)
 
 pub returns-then-own-last-3 : goal.returns-then-own-last-3
-returns-then-own-last-3 c =
-    reason_by_lem _ _ (next (le-ltb _ _ c.if-own-last.false) (next (ne_eqb _ _ c.if-own-last-2.false)
-    (here (lt-ltb _ _ c.if-own-last-3.true))))
+unfolding reason_by first_of
+returns-then-own-last-3 c = grind (arith, nat_tests)
 
 pub returns : goal.returns
-returns c =
-    reason_by_lem _ _ (next (le-ltb _ _ c.if-own-last.false) (next (ne_eqb _ _ c.if-own-last-2.false)
-    (next (le-ltb _ _ c.if-own-last-3.false) nothing)))
+unfolding reason_by first_of
+returns c = grind (arith, nat_tests)

@@ -1,14 +1,8 @@
 -- `cells::start_of` meets its contract (OnePass). Assumes nothing.
 use mathlib.Core.Path.{◌∙◌, ap}
 use Prim.Native.Nat.{ℕ, ◌+◌, ◌*◌, ◌%◌, ◌^◌}
-use native.Mathlib.Omega.{arith}
-use Rattle.words.specs.Words.{large}
-use Rattle.words.proofs.WordLayout.{side_top}
 use Rattle.cells.proofs.OnePass.{start_word}
 use Rattle.cells.proofs.start_of.Goals as goal
-
-pub overflow_add-result : goal.overflow_add-result
-overflow_add-result c = omega (arith, c.side_of.ensures, side_top large c.args.w)
 
 pub returns : goal.returns
 returns c =

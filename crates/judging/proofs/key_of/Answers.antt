@@ -1,4 +1,4 @@
--- `judging::key_of` meets its contract. Assumes nothing.
+-- Assumes nothing.
 use mathlib.Core.Path.{◌∙◌, sym, ap}
 use borrow.Author.Tests.{eq-eqb, ne_eqb}
 use Rattle.cells.specs.declared.Reach.{Reach}
@@ -7,9 +7,6 @@ use Rattle.judging.proofs.key_of.Goals as goal
 
 pub returns-then-check-ne0 : goal.returns-then-check-ne0
 returns-then-check-ne0 c = sym (key_invalid _ (ne_eqb _ 0 (λ e. c.if-check-ne0.true (c.check.ensures ∙ e))))
-
-pub reach_of-own-requires : goal.reach_of-own-requires
-reach_of-own-requires c = eq-eqb _ 0 (sym c.check.ensures ∙ c.if-check-ne0.false)
 
 pub returns : goal.returns
 returns c =

@@ -1,5 +1,5 @@
--- `merging::merge_at` meets its contract. The loop's invariant: what is written and what is left make the whole, in the
--- list itself and in both change lists (Written, Passes). The measure is how many are left. Assumes nothing.
+-- What is written and what is left make the whole, in the list itself and in both change lists (Written, Passes). The
+-- measure is how many are left. Assumes nothing.
 use mathlib.Core.List.{map}
 use Prim.Native.Nat.{◌-◌}
 use lib.ListN.{take, drop}

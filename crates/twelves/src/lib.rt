@@ -70,13 +70,12 @@ pub fn name_back(degree: u64, weights: &[u64]) -> NameAnswer
             name: none,
         };
     }
-    let s = knots::back::side_of(weights, total);
-    if s == 24 {
+    let Some(s) = knots::back::side_of(weights, total) else {
         return NameAnswer {
             refusal: 11,
             name: none,
         };
-    }
+    };
     let c = knots::back::corner_at(s, degree, knots::back::point_on(weights, s));
     let here = CornerName(words::word_of(s, degree, c.path) + c.number);
     NameAnswer {

@@ -48,11 +48,10 @@ pub fn file_word(degree: u64, x: i32, y: i32, z: i32) -> u64
     if f != 0 {
         return f;
     }
-    let w = holders::quick_word(degree, d);
-    if w == 0 {
-        return holders::exact_word(degree, d);
+    match holders::quick_word(degree, d) {
+        Some(w) => w,
+        None => holders::exact_word(degree, d),
     }
-    w
 }
 
 // Filing a direction: the least code of the degree that holds it.
@@ -89,8 +88,7 @@ pub fn list(degree: u64, d: Direction, out: &mut [u64]) -> CountAnswer
             count: 0,
         };
     }
-    let w = holders::quick_word(degree, d);
-    if w != 0 {
+    if let Some(w) = holders::quick_word(degree, d) {
         out[0] = w;
         return CountAnswer {
             refusal: 0,

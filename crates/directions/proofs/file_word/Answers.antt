@@ -50,16 +50,16 @@ passes c = sym c.refuse_direction-f.ensures ∙ c.if-f-ne0.false
 may : (c : Else-f-ne0) → Allowed c.args.degree (there c.before.before)
 may c = allowed _ _ (passes c)
 
-pub quick_word-w-requires : goal.quick_word-w-requires
-quick_word-w-requires c = let m = may c in (m.low, m.level, m.some)
+pub quick_word-requires : goal.quick_word-requires
+quick_word-requires c = let m = may c in (m.low, m.level, m.some)
 
 pub exact_word-requires : goal.exact_word-requires
 exact_word-requires c = let m = may c.before.before in (m.low, m.level, m.some)
 
-pub returns-then-w-eq0 : goal.returns-then-w-eq0
-returns-then-w-eq0 c =
+pub returns-in-None : goal.returns-in-None
+returns-in-None c =
     read c.before.before.before.before.before _ (filed_number _ _ _ (passes c.before.before.before) c.exact_word.ensures)
 
-pub returns : goal.returns
-returns c =
-    read c.before.before.before.before _ (filed_number _ _ _ (passes c.before.before) (c.quick_word-w.ensures c.if-w-eq0.false).filed)
+pub returns-in-Some : goal.returns-in-Some
+returns-in-Some c =
+    read c.before.before.before.before _ (filed_number _ _ _ (passes c.before.before) c.in-Some.ensures.filed)

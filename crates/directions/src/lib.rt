@@ -45,11 +45,10 @@ pub fn file(degree: u64, d: Direction) -> Result<TriangleCode, Refusal>
     ensures { FileAnswer degree d (code_told result) }
 {
     refuse_direction(degree, d)?;
-    let w = holders::quick_word(degree, d);
-    if w == 0 {
-        return Ok(TriangleCode(holders::exact_word(degree, d)));
-    }
-    Ok(TriangleCode(w))
+    Ok(TriangleCode(match holders::quick_word(degree, d) {
+        Some(w) => w,
+        None => holders::exact_word(degree, d),
+    }))
 }
 
 // Listing: all codes of the degree that hold a direction, rising, into a list of at least six places. How many there
@@ -61,8 +60,7 @@ pub fn list(degree: u64, d: Direction, out: &mut [u64]) -> Result<u64, Refusal>
     if out.len() < 6 {
         return Err(Refusal::ShortList);
     }
-    let w = holders::quick_word(degree, d);
-    if w != 0 {
+    if let Some(w) = holders::quick_word(degree, d) {
         out[0] = w;
         return Ok(1);
     }

@@ -5,7 +5,7 @@
 
 pub mod exact;
 
-ghost use Rattle.std.specs.Prelude.{◌≡◌, ◌+◌, ◌*◌, ◌<◌, ◌≤◌};
+ghost use Rattle.std.specs.Prelude.{◌≡◌, ◌+◌, ◌*◌, ◌<◌, ◌≤◌, IfSome};
 ghost use Rattle.words.specs.Family.{code_of};
 ghost use Rattle.filing.specs.Filing.{IsFiled};
 ghost use Rattle.filing.specs.Means.Lists.{Room, Puts, all_words};
@@ -20,51 +20,34 @@ use seats::placing::{first_at, second_at, side_at};
 use seats::{Found, Triple, dividing, placing};
 use shares::{Floors, Gaps};
 
-fn nowhere() -> Found
-    ensures { result.side ≡ 0 }
-{
-    Found {
-        side: 0,
-        floors: Floors {
-            f1: 0,
-            f2: 0,
-            f3: 0,
-        },
-    }
-}
-
 // Where a direction stands, if that is clear.
-fn find(d: Direction) -> Found
+fn find(d: Direction) -> Option<Found>
     requires { IsLevel d × IsSome d }
-    ensures { (result.side ≡ 0 → ⊥) → FoundIn d result }
+    ensures { IfSome result (FoundIn d) }
 {
     let t = placing::sit(d);
     let q = dividing::divide_three(t.x1, t.x2, t.sum);
     if !dividing::all_clear(q.q1.rest, q.q2.rest, q.q3.rest, q.sum) {
-        return nowhere();
+        return None;
     }
-    Found {
+    Some(Found {
         side: t.side,
         floors: Floors {
             f1: q.q1.whole,
             f2: q.q2.whole,
             f3: q.q3.whole,
         },
-    }
+    })
 }
 
-// The one word of the degree whose triangle holds a direction, if that is clear; or 0.
-pub fn quick_word(degree: u64, d: Direction) -> u64
+// The one word of the degree whose triangle holds a direction, if that is clear.
+pub fn quick_word(degree: u64, d: Direction) -> Option<u64>
     requires { (degree ≤ 24) × IsLevel d × IsSome d }
-    ensures { (result ≡ 0 → ⊥) → OneWord degree d result }
+    ensures { IfSome result (OneWord degree d) }
 {
-    let h = find(d);
-    let side = h.side;
-    if side == 0 {
-        return 0;
-    }
+    let h = find(d)?;
     let path = shares::weaving::path(degree, h.floors);
-    words::word_of(side, degree, path)
+    Some(words::word_of(h.side, degree, path))
 }
 
 // ---- the exact way

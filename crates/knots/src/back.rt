@@ -2,6 +2,7 @@
 ghost use Rattle.std.specs.Prelude.{◌≡◌, false, ◌+◌, ◌*◌, ◌^◌, ◌<◌, ◌≤◌, eqb, length, take};
 ghost use Rattle.net.specs.Sides.{IsSide, OneToThree};
 ghost use Rattle.net.specs.Division.{sum, corner_of};
+ghost use Rattle.net.specs.Refusals.{on_side};
 ghost use Rattle.net.specs.Means.Paths.{digits_of};
 ghost use Rattle.net.specs.Means.Spreads.{spread, point_in, SideFor};
 
@@ -13,14 +14,11 @@ pub fn adds_to(weights: &[u64], total: u64) -> bool
     ensures { result ≡ eqb (sum (take 12 weights.now)) total }
 {
     let mut left = total;
-    let mut v = 0;
-    while v < 12 {
-        let x = weights[v];
-        if left < x {
+    for x in &weights[..12] {
+        if left < *x {
             return false;
         }
-        left -= x;
-        v += 1;
+        left -= *x;
     }
     left == 0
 }
@@ -40,20 +38,26 @@ pub fn point_on(weights: &[u64], s: u64) -> Point
     }
 }
 
-// A side that has all vertices with weight, or 24: where the weights add to the total, all of it stands on that side.
-pub fn side_of(weights: &[u64], total: u64) -> u64
+// Whether the side s has all vertices with weight: where the weights add to the total, all of it stands on that side.
+pub fn lies_on(weights: &[u64], total: u64, s: u64) -> bool
+    requires { (12 ≤ length weights.now) × (total < 2 ^ 60) × (sum (take 12 weights.now) ≡ total) × IsSide s }
+    ensures { result ≡ on_side s 0 (take 12 weights.now) }
+{
+    let p = point_on(weights, s);
+    p.w1 + p.w2 + p.w3 == total
+}
+
+// A side that has all vertices with weight.
+pub fn side_of(weights: &[u64], total: u64) -> Option<u64>
     requires { (12 ≤ length weights.now) × (total < 2 ^ 60) × (sum (take 12 weights.now) ≡ total) }
     ensures { SideFor (take 12 weights.now) result }
 {
-    let mut s = 4;
-    while s < 24 {
-        let p = point_on(weights, s);
-        if p.w1 + p.w2 + p.w3 == total {
-            return s;
+    for s in 4..24 {
+        if lies_on(weights, total, s) {
+            return Some(s);
         }
-        s += 1;
     }
-    24
+    None
 }
 
 // A triangle of degree n in the side s that has the point p, by its path, and p's number there: the one that points up

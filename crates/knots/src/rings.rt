@@ -4,7 +4,7 @@ ghost use Rattle.words.specs.Words.{degree_of};
 ghost use Rattle.words.specs.Refusals.{check_name_fields};
 ghost use Rattle.net.specs.Corners.{name_of};
 ghost use Rattle.frame.specs.Answers.{over};
-ghost use Rattle.net.specs.Means.Walks.{place_at, around, lesser, name_at, least_name, ring_words};
+ghost use Rattle.net.specs.Means.Walks.{place_at, around, name_at, least_name, ring_words};
 
 use net::seams;
 use net::steps::{ABOVE, over_seam, span_of};
@@ -23,12 +23,6 @@ fn around(r: u64, unit: u64) -> u64
     over_seam(r, k)
 }
 
-fn lesser_of(a: u64, b: u64) -> u64
-    ensures { result ≡ lesser a b }
-{
-    if a < b { a } else { b }
-}
-
 // The least name here and in the m triangles that follow round the corner.
 fn least_of(m: u64, r: u64, unit: u64) -> u64
     requires { (check_name_fields (name_of r) ≡ 0) × (unit ≡ 2 ^ (54 - 2 * degree_of r)) }
@@ -37,7 +31,7 @@ fn least_of(m: u64, r: u64, unit: u64) -> u64
     if m == 0 {
         return r;
     }
-    lesser_of(r, least_of(m - 1, around(r, unit), unit))
+    r.min(least_of(m - 1, around(r, unit), unit))
 }
 
 // The canonical name of the corner that a word with a name's fields has.
@@ -59,10 +53,8 @@ pub fn write_ring(r: CornerName, m: u64, out: &mut [u64])
     let unit = words::unit_of(q);
     let count = m as usize;
     out[0] = q - q % 4;
-    let mut i = 1;
-    while i < count {
+    for i in 1..count {
         q = around(q, unit);
         out[i] = q - q % 4;
-        i += 1;
     }
 }

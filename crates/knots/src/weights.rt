@@ -12,11 +12,7 @@ fn clear_twelve(out: &mut [u64])
     requires { 12 ≤ length out.old }
     ensures { out.new ≡ over no_weights out.old }
 {
-    let mut v = 0;
-    while v < 12 {
-        out[v] = 0;
-        v += 1;
-    }
+    out[..12].fill(0);
 }
 
 // The twelve weights of the point p of the side s over the front of a list; later places are unchanged.
@@ -33,7 +29,7 @@ pub fn write_weights(s: u64, p: Point, out: &mut [u64])
 fn sign_of(x: u64) -> u64
     ensures { result ≡ sign x }
 {
-    if x == 0 { 0 } else { 1 }
+    u64::from(x != 0)
 }
 
 // How many triangles lie round a point of a side.
@@ -41,7 +37,8 @@ pub fn ring_count(p: Point) -> u64
     ensures { result ≡ ring_size (sign p.w1 + sign p.w2 + sign p.w3) }
 {
     if sign_of(p.w1) + sign_of(p.w2) + sign_of(p.w3) == 1 {
-        return 5;
+        5
+    } else {
+        6
     }
-    6
 }

@@ -9,7 +9,6 @@ use Rattle.net.specs.Means.States.{halves, last_of, state_of, step}
 use Rattle.net.specs.declared.State.{State}
 use Rattle.net.specs.declared.State.TheVariants.{Down, Up}
 use Rattle.net.proofs.Paths.{Digits}
-use Rattle.net.proofs.Table.{same}
 
 even : (x : ℕ) → (2 * x) % 2 ≡ 0
 even x = omega arith

@@ -1,20 +1,17 @@
 -- The least over six places round a corner is the corner's name. Assumes nothing.
 use mathlib.Core.Path.{◌≡◌, ◌∙◌, refl, sym, ap, subst}
-use mathlib.Core.Bool.{Bool, true, false}
 use mathlib.Core.List.{List}
-use mathlib.Core.Logic.{◌⊎◌, inl, inr, ⊎_elim}
-use Prim.Native.Nat.{ℕ, zero, suc, ◌+◌, ◌≤◌, ◌<◌}
+use mathlib.Core.Logic.{◌⊎◌, ⊎_elim}
+use Prim.Native.Nat.{ℕ, zero, suc, ◌+◌, ◌≤◌, ◌<◌, min}
 use native.Mathlib.Omega.{arith}
-use lib.Dec.{ltb}
 use lib.ListN.{length}
-use borrow.Author.Tests.{ltb-true, ltb-false}
 use Rattle.words.proofs.Codes.{code_passes, code_side}
 use Rattle.words.specs.Refusals.{IsCode}
-use Rattle.words.specs.Words.{digits, side, side_of}
+use Rattle.words.specs.Words.{side_of}
 use Rattle.words.specs.declared.TriangleCode.{TriangleCode}
 use Rattle.net.specs.Corners.{name_of, HasCorner, corner}
 use Rattle.net.specs.Division.{corner_of}
-use Rattle.net.specs.Means.Walks.{Place, around, least_name, lesser, lesser_by, name_at, ring_at, word_at}
+use Rattle.net.specs.Means.Walks.{Place, around, least_name, name_at, ring_at, word_at}
 use Rattle.net.specs.Names.{IsName}
 use Rattle.net.specs.Sides.{OneToThree}
 use Rattle.net.specs.Steps.{non_zeros, ring_size}
@@ -22,19 +19,8 @@ use Rattle.net.proofs.CodePlaces.{code_is, code_for, corner_at, digits_in, for_c
 use Rattle.net.proofs.Names.{name_is}
 use Rattle.net.proofs.Rings.{At, ring_all, ring_at_lem}
 
-lesser_low : (a b : ℕ) → (lesser a b ≤ a) × (lesser a b ≤ b)
-lesser_low a b = go (ltb a b) refl
-  where
-    go : (t : Bool) → ltb a b ≡ t → (lesser_by t a b ≤ a) × (lesser_by t a b ≤ b)
-    go true e = let h = ltb-true a b e in omega arith
-    go false e = let h = ltb-false a b e in omega arith
-
-lesser_one : (a b : ℕ) → (lesser a b ≡ a) ⊎ (lesser a b ≡ b)
-lesser_one a b = go (ltb a b)
-  where
-    go : (t : Bool) → (lesser_by t a b ≡ a) ⊎ (lesser_by t a b ≡ b)
-    go true = inl refl
-    go false = inr refl
+min_one : (a b : ℕ) → (min a b ≡ a) ⊎ (min a b ≡ b)
+min_one a b = grind arith
 
 pub around_first : (q : Place) (i : ℕ) → ring_at (around q) i ≡ ring_at q (suc i)
 unfolding ring_at
@@ -47,17 +33,16 @@ unfolding least_name ring_at
 least_one zero q = (0, omega arith, refl)
 least_one (suc m) q =
     let r = least_one m (around q) in
-    ⊎_elim (λ e. (0, omega arith, e)) (λ e. (suc r.0, omega (arith, r.1), e ∙ r.2 ∙ ap name_at (around_first q r.0))) (lesser_one (name_at q) (least_name m (around q)))
+    ⊎_elim (λ e. (0, omega arith, e)) (λ e. (suc r.0, omega (arith, r.1), e ∙ r.2 ∙ ap name_at (around_first q r.0))) (min_one (name_at q) (least_name m (around q)))
 
 least_low : (m : ℕ) (q : Place) (i : ℕ) → i ≤ m → least_name m q ≤ name_at (ring_at q i)
 unfolding least_name ring_at
 least_low zero q zero h = omega arith
 least_low zero q (suc i) h = absurd (omega arith)
-least_low (suc m) q zero h = (lesser_low (name_at q) (least_name m (around q))).0
+least_low (suc m) q zero h = omega arith
 least_low (suc m) q (suc i) h =
-    let a = (lesser_low (name_at q) (least_name m (around q))).1 in
     let b : least_name m (around q) ≤ name_at (ring_at q (suc i)) = rw (around_first q i) at (least_low m (around q) i (omega arith)) in
-    omega (arith, a, b)
+    omega (arith, b)
 
 pub size_low : (n : ℕ) → ring_size n ≤ 6
 size_low zero = omega arith

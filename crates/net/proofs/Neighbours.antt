@@ -5,7 +5,6 @@ use mathlib.Core.Logic.{◌⊎◌, inl, inr, ⊎_elim}
 use Prim.Native.Nat.{ℕ}
 use native.Mathlib.Omega.{arith}
 use lib.ListN.{length}
-use Rattle.words.specs.Words.{digits, side}
 use Rattle.net.specs.Division.{corner_of}
 use Rattle.net.specs.Means.States.{point_of, state_of}
 use Rattle.net.specs.Means.Walks.{Arrival, step_of}

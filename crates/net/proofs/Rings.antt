@@ -5,7 +5,6 @@ use mathlib.Core.Logic.{⊎_elim}
 use Prim.Native.Nat.{ℕ, zero, suc, ◌+◌, ◌≤◌, ◌<◌}
 use native.Mathlib.Omega.{arith}
 use lib.ListN.{length}
-use Rattle.words.specs.Words.{digits, side}
 use Rattle.net.specs.Division.{corner_of, each, sum, vertices}
 use Rattle.net.specs.Means.Seams.{seam_kept}
 use Rattle.net.specs.Means.Spreads.{sign, spread, weight_at}

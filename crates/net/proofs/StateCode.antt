@@ -1,7 +1,7 @@
 -- What the code of states, of weights and of the way back rests on. Assumes nothing.
 use mathlib.Core.Path.{◌≡◌, ◌∙◌, refl, sym, ap}
 use mathlib.Core.Logic.{inl, inr, ⊎_elim}
-use mathlib.Core.Bool.{true, false}
+use mathlib.Core.Bool.{Bool, true, false}
 use mathlib.Core.List.{List, [], ◌∷◌, ◌++◌}
 use Prim.Native.Nat.{ℕ, zero, suc, ◌+◌, ◌-◌, ◌*◌, ◌/◌, ◌%◌, ◌^◌, ◌≤◌, ◌<◌}
 use native.Mathlib.Nat.{lt_of_lt_of_le}
@@ -11,7 +11,7 @@ use lib.Dec.{eqb}
 use lib.ListN.{length, get_or, take}
 use lib.Pow.{pow_mono}
 use lib.Seq.{length-take-le, take-suc, get_or-take, ext_get_or}
-use borrow.Author.Tests.{eq-eqb, eqb-true, ne_eqb}
+use borrow.Author.Tests.{eq-eqb, eqb-false, eqb-true, ne_eqb}
 use Rattle.frame.specs.Refusals.{◌either◌}
 use Rattle.frame.proofs.Refusing.{either_left, either_right}
 use Rattle.words.specs.Words.{degree_of, digits, path}
@@ -329,6 +329,15 @@ told ws s t q h l e is =
           ∙ on_side_lem s (point_in s P) h;
       less = λ f o. f (sym has ∙ ap sum (spread_of s P h twelve o) ∙ e);
     }
+
+-- and the test of them
+pub tells : (ws : List ℕ) (s t : ℕ) (q : Point) → Told ws s t q
+    → eqb (q.w1 + q.w2 + q.w3) t ≡ on_side s 0 (take 12 ws)
+tells ws s t q x = go (eqb (q.w1 + q.w2 + q.w3) t) refl
+  where
+    go : (b : Bool) → eqb (q.w1 + q.w2 + q.w3) t ≡ b → b ≡ on_side s 0 (take 12 ws)
+    go true e = sym (x.all (eqb-true _ _ e))
+    go false e = sym (not_so (on_side s 0 (take 12 ws)) (x.less (eqb-false _ _ e)))
 
 -- the weights at the corners of a side, from a longer list
 pub vertex_12 : (s i : ℕ) {r : ℕ} → IsSide s → OneToThree i → r ≡ corner_vertex s i → r < 12

@@ -1,13 +1,12 @@
 -- The step across an edge and the walk round a corner, on words. Assumes nothing.
 use mathlib.Core.Path.{◌≡◌, refl, sym, ◌∙◌, ap, subst}
 use mathlib.Core.List.{List}
-use Prim.Native.Nat.{ℕ, suc, ◌+◌, ◌-◌, ◌*◌, ◌/◌, ◌%◌, ◌^◌, ◌≤◌, ◌<◌}
+use Prim.Native.Nat.{min, ℕ, suc, ◌+◌, ◌-◌, ◌*◌, ◌/◌, ◌%◌, ◌^◌, ◌≤◌, ◌<◌}
 use native.Mathlib.Nat.{mul-le-mul}
 use native.Mathlib.Omega.{arith}
 use lib.Bits.{bit_xor, bit_and, bit_or}
 use lib.Pow.{pow_mono}
 use lib.ListN.{length}
-use borrow.Author.Tests.{lt-ltb, le-ltb}
 use Rattle.words.proofs.Codes.{code_below, code_degree, code_name, code_passes, code_side, code_word, inside_side}
 use Rattle.words.proofs.Codes.{is_code, name_code, name_passes, path_code}
 use Rattle.words.proofs.Digits.{AreDigits, digits_are, path_lt, large_roomy}
@@ -24,7 +23,7 @@ use Rattle.net.specs.Means.Spreads.{sign}
 use Rattle.net.specs.Means.Flags.{flags, ones, other, span_of}
 use Rattle.net.specs.Means.Seams.{flip, seam_kept, seam_side}
 use Rattle.net.specs.Means.States.{Move, cross, inside, outside}
-use Rattle.net.specs.Means.Walks.{Arrival, Place, around, arrival, arrived, edge_there, least_name, lesser}
+use Rattle.net.specs.Means.Walks.{Arrival, Place, around, arrival, arrived, edge_there, least_name}
 use Rattle.net.specs.Means.Walks.{name_at}
 use Rattle.net.specs.Means.Walks.{over_seam, place_at, renumbered, ring_at, step_of, word_at}
 use Rattle.net.specs.Sides.{IsSide, OneToThree, next}
@@ -375,20 +374,14 @@ module _ (r : ℕ) (e : check_name_fields (name_of r) ≡ 0) (i : ℕ) where
 
 -- ---- for the code: names round a corner
 
-pub lesser_first : (a b : ℕ) → a < b → a ≡ lesser a b
-lesser_first a b h = simp (lt-ltb a b h)
-
-pub lesser_second : (a b : ℕ) → b ≤ a → b ≡ lesser a b
-lesser_second a b h = simp (le-ltb a b h)
-
 pub least_none : (m : ℕ) (q : Place) → m ≡ 0 → name_at q ≡ least_name m q
 unfolding least_name
 least_none m q e = rw e
 
-pub least_more : (m : ℕ) (q : Place) → (m ≡ 0 → ⊥) → lesser (name_at q) (least_name (m - 1) (around q))
+pub least_more : (m : ℕ) (q : Place) → (m ≡ 0 → ⊥) → min (name_at q) (least_name (m - 1) (around q))
     ≡ least_name m q
 unfolding least_name
-least_more m q = not_zero (λ m. lesser (name_at q) (least_name (m - 1) (around q)) ≡ least_name m q)
+least_more m q = not_zero (λ m. min (name_at q) (least_name (m - 1) (around q)) ≡ least_name m q)
     (λ m. let e : suc m - 1 ≡ m = omega arith in rw e) m
 
 -- ---- for the code: the word of a side, a degree, a path and a number

@@ -97,9 +97,6 @@ module _ (s : ℕ) (p : Point) {o : ℕ} (e : o ≡ orientation s) where
     base_down : leb 1 p.w1 && leb 1 p.w3 ≡ is_base s p
     base_down = rw down refl
 
-    pub base_none : p.w1 ≡ 0 → false ≡ is_base s p
-    base_none g = sym (ap (λ (w : ℕ). leb 1 w && leb 1 p.w3) g) ∙ base_down
-
     pub base_some : (p.w1 ≡ 0 → ⊥) → leb 1 p.w3 ≡ is_base s p
     base_some g = sym (ap (λ (b : Bool). b && leb 1 p.w3) (le-leb 1 p.w1 (omega arith))) ∙ base_down
 

@@ -17,17 +17,16 @@ use Rattle.net.proofs.Paths.{four, of_length}
 use Rattle.net.proofs.SeamCode.{not_zero}
 use Rattle.notation.specs.Domains.{are_digits}
 use Rattle.notation.specs.Means.Reading.{only, taken}
-use Rattle.notation.specs.declared.Digits.{Digits}
-use Rattle.notation.specs.declared.Digits.TheVariants.{Path, Wrong}
+use Rattle.std.specs.Prelude.{Option, Some, None}
 
 -- ---- reading
 
 -- a digit more of a list, from the place i on
 module _ (v : ℕ) (rs : List ℕ) (i : ℕ) where
-  abbrev next : Digits
+  abbrev next : Option ℕ
   next = taken (4 * v + get_or rs i 0) (drop (suc i) rs)
 
-  pub read_no : i < length rs → 3 < get_or rs i 0 → Wrong ≡ taken v (drop i rs)
+  pub read_no : i < length rs → 3 < get_or rs i 0 → None ≡ taken v (drop i rs)
   unfolding taken
   read_no l h = sym (ap (taken v) (drop-cons rs i 0 l) ∙ ap (λ (b : Bool). only b next) (lt-leb (get_or rs i 0) 3 h))
 
@@ -38,7 +37,7 @@ module _ (v : ℕ) (rs : List ℕ) (i : ℕ) where
       ap (λ (k : ℕ). taken (4 * v + get_or rs i 0) (drop k rs)) n
       ∙ sym (ap (taken v) (drop-cons rs i 0 l) ∙ ap (λ (b : Bool). only b next) (le-leb (get_or rs i 0) 3 h))
 
-  pub read_end : length rs ≤ i → Path v ≡ taken v (drop i rs)
+  pub read_end : length rs ≤ i → Some v ≡ taken v (drop i rs)
   unfolding taken
   read_end l = sym (ap (taken v) (drop_of_length-le rs l))
 
@@ -51,20 +50,20 @@ room_next v i d h l k =
 
 -- the digits of a list, after those of ds, are the list's the other way round and then ds
 pub taken_path : (rs ds : List ℕ) (v : ℕ) → v ≡ path ds → are_digits rs ≡ true
-    → taken v rs ≡ Path (path (reverse_aux rs ds))
+    → taken v rs ≡ Some (path (reverse_aux rs ds))
 unfolding taken path
-taken_path [] ds v e h = ap Path e
+taken_path [] ds v e h = ap (λ (n : ℕ). Some n) e
 taken_path (r ∷ rs) ds v e h =
     let x = (and_true (leb r 3) (are_digits rs)).0 h in
     rw x.0 (taken_path rs (r ∷ ds) (4 * v + r) (ap (λ (y : ℕ). 4 * y + r) e) x.1)
 
-pub taken_no : (rs : List ℕ) (v : ℕ) → are_digits rs ≡ false → taken v rs ≡ Wrong
+pub taken_no : (rs : List ℕ) (v : ℕ) → are_digits rs ≡ false → taken v rs ≡ None
 unfolding taken
 taken_no [] v h = absurd (true≢false h)
 taken_no (r ∷ rs) v h = go (leb r 3) h (taken_no rs (4 * v + r))
   where
-    go : (b : Bool) → b && are_digits rs ≡ false → (are_digits rs ≡ false → taken (4 * v + r) rs ≡ Wrong)
-        → only b (taken (4 * v + r) rs) ≡ Wrong
+    go : (b : Bool) → b && are_digits rs ≡ false → (are_digits rs ≡ false → taken (4 * v + r) rs ≡ None)
+        → only b (taken (4 * v + r) rs) ≡ None
     go true e ih = ih e
     go false e ih = refl
 

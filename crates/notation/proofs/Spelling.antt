@@ -3,10 +3,11 @@ use mathlib.Core.Path.{◌≡◌, ◌∙◌, refl, sym, ap, subst}
 use mathlib.Core.Logic.{⊎_elim}
 use mathlib.Core.Bool.{true, true≢false}
 use mathlib.Core.List.{List, [], ◌∷◌, reverse, reverse_aux}
-use Prim.Native.Nat.{ℕ, zero, suc, ◌+◌, ◌/◌, ◌%◌, ◌^◌, ◌<◌}
+use Prim.Native.Nat.{ℕ, zero, suc, ◌+◌, ◌/◌, ◌%◌, ◌^◌}
 use native.Mathlib.Omega.{arith}
 use lib.ListN.{get_or, length}
 use lib.Pow.{pow_pos}
+use Rattle.std.specs.Prelude.{None, Some}
 use Rattle.words.specs.Words.{path}
 use Rattle.net.specs.Sides.{IsSide, corner_vertex}
 use Rattle.net.specs.Division.{Weights, sum}
@@ -31,10 +32,8 @@ vertex a p v = record { a = a; p = p; path = v }
 
 -- ---- a side was found
 
-pub base_in : {w : Weights} {s : ℕ} → BaseFor w s → (s ≡ 24 → ⊥) → BaseIn w s
-base_in {s = s} b f =
-    let l : s < 24 = omega (arith, f, b.high) in
-    record { a_side = (b.low, l); lies = (b.found l).0; based = (b.found l).1 }
+pub base_in : {w : Weights} {s : ℕ} → BaseFor w (Some s) → BaseIn w s
+base_in b = record { a_side = b.0; lies = b.1; based = b.2 }
 
 module _ (n s : ℕ) (w : Weights) (twelve : length w ≡ 12) (e : sum w ≡ 2 ^ n) (x : BaseIn w s) where
   pub by_base : {v t : ℕ} → v ≡ path_up n (base_state s (point_in s w)) → t ≡ path (directions 0 (digits_of n v))
@@ -81,11 +80,11 @@ module _ (n : ℕ) {w : Weights} (s : ℕ) (p : Point) (h : IsSide s) (k : p.w1 
       ) in
       omega (arith, no, x.first)
 
-pub by_pole : (n : ℕ) {w : Weights} {s : ℕ} (p : ℕ) → BaseFor w s → s ≡ 24
+pub by_pole : (n : ℕ) {w : Weights} (p : ℕ) → BaseFor w None
     → ((s : ℕ) (q : Point) → IsSide s → q.w1 + q.w2 + q.w3 ≡ 2 ^ n → spread s q ≡ w → Polar s q
     → corner_vertex s 1 ≡ p)
     → IsVertexOf n w (vertex 0 p 0)
-by_pole n {w} p b e which q y =
+by_pole n {w} p b which q y =
     let l = name_lies y in
     let ss = reverse (digits_of n 0) in
     ⊎_elim
@@ -97,5 +96,5 @@ by_pole n {w} p b e which q y =
     (subst (Spelt n (0 ∷ p ∷ ss)) l.is (subst (λ (v : ℕ). Spelt n (0 ∷ v ∷ ss) (spread l.s l.p)) v z)) y)
     (λ x.
     let t = subst (λ (w : Weights). BaseIn w x.0) l.is x.1 in
-    absurd (true≢false (sym t.based ∙ b.none (omega (arith, e)) x.0 t.a_side t.lies)))
+    absurd (true≢false (sym t.based ∙ b x.0 t.a_side t.lies)))
     (side_some l.s l.p l.a_side (omega (arith, l.total, pow_pos n)))

@@ -22,13 +22,6 @@ ghost use Rattle.notation.specs.Means.Reading.{taken, IsVertexOf};
 use knots::back;
 use net::{Point, State};
 
-// What was read: the path of the digits, or that one of them is none.
-#[derive(Clone, Copy)]
-pub enum Digits {
-    Path(u64),
-    Wrong,
-}
-
 // The digits of a domain by their path, and the orientation of its side.
 #[derive(Clone, Copy)]
 pub struct Turned {
@@ -47,21 +40,18 @@ pub struct Vertex {
 // ---- digits
 
 // The path of the digits of a list, or that one of them is none.
-pub fn read_digits(list: &[u64]) -> Digits
+pub fn read_digits(list: &[u64]) -> Option<u64>
     requires { length list.now ≤ 24 }
     ensures { result ≡ taken 0 list.now }
 {
     let mut v = 0;
-    let mut i = 0;
-    while i < list.len() {
-        let d = list[i];
-        if 3 < d {
-            return Digits::Wrong;
+    for d in list {
+        if 3 < *d {
+            return None;
         }
-        v = 4 * v + d;
-        i += 1;
+        v = 4 * v + *d;
     }
-    Digits::Path(v)
+    Some(v)
 }
 
 // The n digits of the path v, the first first, over the front of a list: from the last to the first.
@@ -70,11 +60,9 @@ pub fn put_digits(n: u64, v: u64, out: &mut [u64])
     ensures { out.new ≡ over (reverse (digits_of n v)) out.old }
 {
     let mut rest = v;
-    let mut i = n as usize;
-    while 0 < i {
-        i -= 1;
+    for i in (0..n as usize).rev() {
         out[i] = rest % 4;
-        rest = rest / 4;
+        rest /= 4;
     }
 }
 
@@ -93,10 +81,7 @@ fn turned_by(r: u64, o: u64) -> u64
     requires { o ≤ 1 }
     ensures { result ≡ turned r o }
 {
-    if r == 0 {
-        return 1 - o;
-    }
-    o
+    if r == 0 { 1 - o } else { o }
 }
 
 // The directions of the base vertex of the domain with orientation o and the n digits of the path v, as a path. (As
@@ -146,30 +131,23 @@ fn is_base(s: u64, p: Point) -> bool
     ensures { result ≡ is_base s p }
 {
     if orientation_of(s) == 0 {
-        return 0 < p.w2;
+        0 < p.w2
+    } else {
+        0 < p.w1 && 0 < p.w3
     }
-    if p.w1 == 0 {
-        return false;
-    }
-    0 < p.w3
 }
 
-// The side in which it lies, or 24 where there is none: of twelve weights that add to the total.
-pub fn base_side(weights: &[u64], total: u64) -> u64
+// The side in which it lies: of twelve weights that add to the total.
+pub fn base_side(weights: &[u64], total: u64) -> Option<u64>
     requires { (12 ≤ length weights.now) × (total < 2 ^ 60) × (sum (take 12 weights.now) ≡ total) }
     ensures { BaseFor (take 12 weights.now) result }
 {
-    let mut s = 4;
-    while s < 24 {
-        let p = back::point_on(weights, s);
-        if p.w1 + p.w2 + p.w3 == total {
-            if is_base(s, p) {
-                return s;
-            }
+    for s in 4..24 {
+        if back::lies_on(weights, total, s) && is_base(s, back::point_on(weights, s)) {
+            return Some(s);
         }
-        s += 1;
     }
-    24
+    None
 }
 
 // The domain itself, in that side.
@@ -178,9 +156,10 @@ pub fn base_state(s: u64, p: Point) -> State
     ensures { result ≡ base_state s p }
 {
     if orientation_of(s) == 0 {
-        return State::Up(p.w1, p.w2 - 1, p.w3);
+        State::Up(p.w1, p.w2 - 1, p.w3)
+    } else {
+        State::Down(p.w1 - 1, p.w2, p.w3 - 1)
     }
-    State::Down(p.w1 - 1, p.w2, p.w3 - 1)
 }
 
 // The code of a corner of degree n by its twelve weights. A corner without such a domain is a pole.
@@ -188,14 +167,13 @@ pub fn vertex_of(weights: &[u64], n: u64) -> Vertex
     requires { (12 ≤ length weights.now) × (n ≤ 24) × (sum (take 12 weights.now) ≡ 2 ^ n) }
     ensures { IsVertexOf n (take 12 weights.now) result }
 {
-    let s = base_side(weights, words::power(n));
-    if s == 24 {
+    let Some(s) = base_side(weights, words::power(n)) else {
         return Vertex {
             a: 0,
             p: if weights[0] == 0 { 1 } else { 0 },
             path: 0,
         };
-    }
+    };
     let state = base_state(s, back::point_on(weights, s));
     Vertex {
         a: s / 4,

@@ -22,7 +22,7 @@ use Rattle.net.proofs.Canonical.{and_true, not_so}
 use Rattle.notation.specs.Domains.{are_digits, is_a, is_bit, is_domain}
 use Rattle.notation.specs.Same.{SameDomain}
 use Rattle.notation.specs.Means.Reading.{taken}
-use Rattle.notation.specs.declared.Digits.TheVariants.{Path, Wrong}
+use Rattle.std.specs.Prelude.{None, Some}
 use Rattle.notation.proofs.Domains.{Read, reverse_digits, ours, ours_same}
 use Rattle.notation.proofs.Reading.{reverse_long, taken_no, taken_path}
 use Rattle.paper.specs.Answers.{FromDomainAnswer}
@@ -44,24 +44,24 @@ rest_long h xs = ap length (rest_drop h xs) ∙ length-drop h xs
 pub read_room : (h : ℕ) (xs : List ℕ) → length xs ≤ h + 24 → length (rest h xs) ≤ 24
 read_room h xs l = omega (arith, rest_long h xs)
 
-path_or_wrong : {v : ℕ} → Path v ≡ Wrong → ⊥
+path_or_wrong : {v : ℕ} → Some v ≡ None → ⊥
 path_or_wrong e = let z : ◌≡◌ {A = ℕ} 0 1 = cc in absurd (omega arith)
 
 -- what was read tells whether all are digits, and their path
 module _ (rs : List ℕ) where
-  read_path : are_digits rs ≡ true → taken 0 rs ≡ Path (path (reverse rs))
+  read_path : are_digits rs ≡ true → taken 0 rs ≡ Some (path (reverse rs))
   unfolding path
   read_path h = taken_path rs [] 0 refl h
 
-  pub digits_wrong : Wrong ≡ taken 0 rs → are_digits rs ≡ false
+  pub digits_wrong : None ≡ taken 0 rs → are_digits rs ≡ false
   digits_wrong e = not_so (are_digits rs) (λ h. path_or_wrong (sym (e ∙ read_path h)))
 
-  module _ {v : ℕ} (e : Path v ≡ taken 0 rs) where
+  module _ {v : ℕ} (e : Some v ≡ taken 0 rs) where
     pub digits_right : are_digits rs ≡ true
     digits_right = so_unless (are_digits rs) (λ h. path_or_wrong (e ∙ taken_no rs 0 h))
 
     pub path_is : v ≡ path (reverse rs)
-    path_is = let f : Path v ≡ Path (path (reverse rs)) = e ∙ read_path digits_right in cc
+    path_is = let f : Some v ≡ Some (path (reverse rs)) = e ∙ read_path digits_right in cc
 
     pub path_small : {n : ℕ} → length rs ≡ n → v < 2 ^ (2 * n)
     path_small {n} l =
@@ -159,7 +159,7 @@ module _ (xs : List ℕ) (low : 3 ≤ length xs) where
 
   -- the word of what was read is the code of the triangle
   pub from_answers : {v w : ℕ} → length xs ≤ 27 → is_a a && (is_bit p && is_bit q) ≡ true
-      → Path v ≡ taken 0 (rest 3 xs) → w ≡ word_of (side a p q) (length xs - 3) v
+      → Some v ≡ taken 0 (rest 3 xs) → w ≡ word_of (side a p q) (length xs - 3) v
       → FromDomainAnswer xs (code_answer 0 (code_of w))
   from_answers {v} {w} high b e f =
       let rs = rest 3 xs in

@@ -22,7 +22,7 @@ use Rattle.notation.specs.Vertices.{are_zeros, is_vertex}
 use Rattle.notation.specs.Same.{SameVertex}
 use Rattle.notation.specs.Means.Directions.{parts, turned_parts}
 use Rattle.notation.specs.Means.Reading.{taken}
-use Rattle.notation.specs.declared.Digits.TheVariants.{Path}
+use Rattle.std.specs.Prelude.{Some}
 use Rattle.notation.specs.declared.Turned.{Turned}
 use Rattle.notation.proofs.Domains.{reverse_digits}
 use Rattle.notation.proofs.Directions.{parts_digits, side_turn_low}
@@ -151,7 +151,7 @@ module _ (xs : List ℕ) (two : 2 ≤ length xs) where
       not_so (is_vertex xs) (λ e. f (begun (get_or xs 0 0) (get_or xs 1 0) (rest 2 xs) (ap is_vertex (sym opened) ∙ e)))
 
   -- the list of the digits that were read is the list itself
-  pub from_read : {v : ℕ} {r : NameAnswer} → Path v ≡ taken 0 (rest 2 xs)
+  pub from_read : {v : ℕ} {r : NameAnswer} → Some v ≡ taken 0 (rest 2 xs)
       → FromVertexAnswer (get_or xs 0 0 ∷ get_or xs 1 0 ∷ reverse (digits_of (length xs - 2) v)) r → FromVertexAnswer xs r
   from_read {v} {r} e =
       let rs = rest 2 xs in

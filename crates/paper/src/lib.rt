@@ -13,7 +13,6 @@ ghost use Rattle.paper.specs.Answers.{FromDomainAnswer, FromVertexAnswer, ToDoma
 
 use corners::{CountAnswer, NameAnswer};
 use knots::rings;
-use notation::Digits;
 use words::{CodeAnswer, CornerName, TriangleCode};
 
 // The places of a code of degree 24.
@@ -66,11 +65,11 @@ pub fn from_domain(code: &[u64]) -> CodeAnswer
         return no_code(33);
     }
     match notation::read_digits(&code[3..]) {
-        Digits::Path(v) => CodeAnswer {
+        Some(v) => CodeAnswer {
             refusal: 0,
             code: TriangleCode(words::word_of(4 * a + 2 * p + q, (m - 3) as u64, v)),
         },
-        Digits::Wrong => no_code(33),
+        None => no_code(33),
     }
 }
 
@@ -164,8 +163,8 @@ pub fn from_vertex(code: &[u64]) -> NameAnswer
         return no_name(33);
     }
     match notation::read_digits(&code[2..]) {
-        Digits::Path(v) => vertex_name(a, p, (m - 2) as u64, v),
-        Digits::Wrong => no_name(33),
+        Some(v) => vertex_name(a, p, (m - 2) as u64, v),
+        None => no_name(33),
     }
 }
 

@@ -8,7 +8,7 @@ pub mod placing;
 
 use shares::{Floors, Gaps};
 
-// The side that holds a direction, and the floors there; or the side 0.
+// The side that holds a direction, and the floors there.
 #[derive(Clone, Copy)]
 pub struct Found {
     pub side: u64,

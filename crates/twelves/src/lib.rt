@@ -54,10 +54,9 @@ pub fn name_back(degree: u64, weights: &[u64]) -> Result<CornerName, Refusal>
     if !knots::back::adds_to(weights, total) {
         return Err(Refusal::NoCorner);
     }
-    let s = knots::back::side_of(weights, total);
-    if s == 24 {
+    let Some(s) = knots::back::side_of(weights, total) else {
         return Err(Refusal::NoCorner);
-    }
+    };
     let c = knots::back::corner_at(s, degree, knots::back::point_on(weights, s));
     let here = CornerName(words::word_of(s, degree, c.path) + c.number);
     Ok(rings::least_name(here))

@@ -9,15 +9,14 @@ use Rattle.directions.proofs.file.Goals as goal
 pub returns-in_err-refuse_direction : goal.returns-in_err-refuse_direction
 returns-in_err-refuse_direction c = handed_on _ _ _ c.from_residual.ensures c.in_err-refuse_direction.ensures
 
-pub quick_word-w-requires : goal.quick_word-w-requires
-quick_word-w-requires c = let m = allowed _ _ (sym c.in_ok-refuse_direction.ensures) in (m.low, m.level, m.some)
+pub quick_word-requires : goal.quick_word-requires
+quick_word-requires c = let m = allowed _ _ (sym c.in_ok-refuse_direction.ensures) in (m.low, m.level, m.some)
 
 pub exact_word-requires : goal.exact_word-requires
 exact_word-requires c = let m = allowed _ _ (sym c.in_ok-refuse_direction.ensures) in (m.low, m.level, m.some)
 
-pub returns-then-w-eq0 : goal.returns-then-w-eq0
-returns-then-w-eq0 c = filed_answer _ _ _ (sym c.in_ok-refuse_direction.ensures) c.exact_word.ensures
+pub returns-in-None : goal.returns-in-None
+returns-in-None c = filed_answer _ _ _ (sym c.in_ok-refuse_direction.ensures) c.exact_word.ensures
 
-pub returns : goal.returns
-returns c =
-    filed_answer _ _ _ (sym c.in_ok-refuse_direction.ensures) (c.quick_word-w.ensures c.if-w-eq0.false).filed
+pub returns-in-Some : goal.returns-in-Some
+returns-in-Some c = filed_answer _ _ _ (sym c.in_ok-refuse_direction.ensures) c.in-Some.ensures.filed

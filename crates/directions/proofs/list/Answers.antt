@@ -20,15 +20,15 @@ returns-then-out-lt6 c = let a = c.args in
     refusing ((list_then a.degree a.d a.out.now).nine (sym c.in_ok-refuse_direction.ensures) c.if-out-lt6.true)
     (λ e. omega arith)
 
-pub quick_word-w-requires : goal.quick_word-w-requires
-quick_word-w-requires c = let a = allowed _ _ (sym c.in_ok-refuse_direction.ensures) in (a.low, a.level, a.some)
+pub quick_word-requires : goal.quick_word-requires
+quick_word-requires c = let a = allowed _ _ (sym c.in_ok-refuse_direction.ensures) in (a.low, a.level, a.some)
 
-pub returns-then-w-ne0 : goal.returns-then-w-ne0
-returns-then-w-ne0 c =
+pub returns-in-Some : goal.returns-in-Some
+returns-in-Some c =
     let a = c.args in
-    let e = (c.quick_word-w.ensures c.if-w-ne0.true).alone in
+    let e = c.in-Some.ensures.alone in
     listed_answer a.degree a.d a.out.now 1 _ (sym c.in_ok-refuse_direction.ensures) c.if-out-lt6.false
-    (puts_one 0 c.quick_word-w.result _ a.out.now e (rw e (omega (
+    (puts_one 0 c.in-Some.w _ a.out.now e (rw e (omega (
       arith,
       c.if-out-lt6.false,
     )))).1

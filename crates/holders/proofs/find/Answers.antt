@@ -10,11 +10,7 @@ all_clear-requires c =
     let v = c.divide_three-q.ensures in
     (v.1.e1.left, v.1.e2.left, v.1.e3.left, rw v.0 c.sit-t.ensures.small)
 
-pub returns-then-not-all_clear : goal.returns-then-not-all_clear
-returns-then-not-all_clear c = λ f. absurd (f c.nowhere.ensures)
-
 pub returns : goal.returns
 returns c =
-    λ f.
     found_in c.args.d c.sit-t.result c.divide_three-q.result c.sit-t.ensures c.divide_three-q.ensures.0
     c.divide_three-q.ensures.1 (c.all_clear.ensures.holds c.if-not-all_clear.false)

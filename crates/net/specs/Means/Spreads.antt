@@ -1,6 +1,6 @@
 -- A point of a side as twelve weights. Assumes nothing.
-use Rattle.std.specs.Prelude.{◌≡◌, true, false, ℕ, zero, suc, ◌+◌, ◌≤◌, ◌<◌, get_or, eqb}
-use Rattle.net.specs.Sides.{corner_vertex}
+use Rattle.std.specs.Prelude.{◌≡◌, true, false, ℕ, zero, suc, ◌+◌, get_or, eqb, Option, Some, None}
+use Rattle.net.specs.Sides.{IsSide, corner_vertex}
 use Rattle.net.specs.Division.{Weights, vertices, each, load}
 use Rattle.net.specs.Refusals.{on_side, on_one_side}
 use Rattle.net.specs.declared.Point.{Point}
@@ -31,9 +31,7 @@ point_in s p = record {
   w3 = get_or p (corner_vertex s 3) 0;
 }
 
--- r is a side on which the weights lie, or 24 where there is none
-pub record SideFor (p : Weights) (r : ℕ) : Type 0 where
-  pub low : 4 ≤ r
-  pub high : r ≤ 24
-  pub found : r < 24 → on_side r 0 p ≡ true
-  pub none : 24 ≤ r → on_one_side p ≡ false
+-- r is a side on which the weights lie; it is none where there is no such side
+abbrev pub SideFor : Weights → Option ℕ → Type 0
+SideFor p None = on_one_side p ≡ false
+SideFor p (Some s) = IsSide s × (on_side s 0 p ≡ true)

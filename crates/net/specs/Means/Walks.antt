@@ -1,5 +1,5 @@
 -- The step across an edge on a side and digits, and the walk round a corner. Assumes nothing.
-use Rattle.std.specs.Prelude.{ℕ, zero, suc, ◌+◌, Bool, true, false, List, [], ◌∷◌, ltb, length}
+use Rattle.std.specs.Prelude.{ℕ, zero, suc, ◌+◌, min, List, [], ◌∷◌, length}
 use Rattle.words.specs.Words.{degree_of, digits, side_of, path, word_of, corner_number}
 use Rattle.words.specs.Words as words
 use Rattle.words.specs.Family.{code_of}
@@ -72,16 +72,9 @@ unfoldable pub name_at : Place → ℕ
 name_at q = word_at q + q.number
 
 -- the least name over a place and the m that follow it round the corner
-abbrev pub lesser_by : Bool → ℕ → ℕ → ℕ
-lesser_by true a b = a
-lesser_by false a b = b
-
-abbrev pub lesser : ℕ → ℕ → ℕ
-lesser a b = lesser_by (ltb a b) a b
-
 unfoldable pub least_name : ℕ → Place → ℕ
 least_name zero q = name_at q
-least_name (suc m) q = lesser (name_at q) (least_name m (around q))
+least_name (suc m) q = min (name_at q) (least_name m (around q))
 
 -- the words of m triangles round a corner, from a place on
 unfoldable pub ring_words : ℕ → Place → List ℕ

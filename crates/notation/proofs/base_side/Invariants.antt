@@ -2,7 +2,7 @@
 -- its base vertex. Assumes nothing.
 use mathlib.Core.Bool.{true, false}
 use mathlib.Core.Path.{◌≡◌}
-use Prim.Native.Nat.{ℕ, ◌-◌, ◌≤◌, ◌<◌}
+use Prim.Native.Nat.{ℕ, ◌<◌}
 use lib.ListN.{take}
 use Rattle.net.specs.Sides.{IsSide}
 use Rattle.net.specs.Refusals.{on_side}
@@ -13,8 +13,4 @@ use Rattle.notation.proofs.base_side.Given as goal
 abbrev pub invariant-loop-s : goal.invariant-loop-s
 invariant-loop-s l =
     let w = take 12 l.weights in
-    (4 ≤ l.s) × (l.s ≤ 24)
-    × ((j : ℕ) → j < l.s → IsSide j → on_side j 0 w ≡ true → is_base j (point_in j w) ≡ false)
-
-abbrev pub decreases-loop-s : goal.decreases-loop-s
-decreases-loop-s l = 24 - l.s
+    (j : ℕ) → j < l.s → IsSide j → on_side j 0 w ≡ true → is_base j (point_in j w) ≡ false

@@ -21,12 +21,12 @@ both : (c : Else-orientation_of-eq0) → (let p = c.args.p in (1 ≤ p.w1) × (1
 both c =
     weights_down c.args.s c.args.p c.orientation_of.ensures c.if-orientation_of-eq0.false c.requires.1
 
-pub overflow_sub-result-2 : goal.overflow_sub-result-2
-overflow_sub-result-2 c = (both c.before).0
+pub overflow_sub-result-else-orientation_of-eq0 : goal.overflow_sub-result-else-orientation_of-eq0
+overflow_sub-result-else-orientation_of-eq0 c = (both c.before).0
 
-pub overflow_sub-result-3 : goal.overflow_sub-result-3
-overflow_sub-result-3 c = (both c.before.before).1
+pub overflow_sub-result-else-orientation_of-eq0-2 : goal.overflow_sub-result-else-orientation_of-eq0-2
+overflow_sub-result-else-orientation_of-eq0-2 c = (both c.before.before).1
 
-pub returns : goal.returns
-returns c =
+pub returns-else-orientation_of-eq0 : goal.returns-else-orientation_of-eq0
+returns-else-orientation_of-eq0 c =
     state_down c.args.s c.args.p c.orientation_of.ensures c.if-orientation_of-eq0.false

@@ -12,6 +12,3 @@ abbrev pub invariant-loop-i : goal.invariant-loop-i
 invariant-loop-i l =
     (l.i ≤ length l.out) × (length l.out ≡ length l.initial.out)
     × (over (reverse (digits_of l.i l.rest)) l.out ≡ over (reverse (digits_of l.n l.v)) l.initial.out)
-
-abbrev pub decreases-loop-i : goal.decreases-loop-i
-decreases-loop-i l = l.i

@@ -5,5 +5,5 @@ use Rattle.notation.proofs.turned_by.Goals as goal
 pub returns-then-r-eq0 : goal.returns-then-r-eq0
 returns-then-r-eq0 c = turned_zero _ _ c.if-r-eq0.true
 
-pub returns : goal.returns
-returns c = turned_else _ _ c.if-r-eq0.false
+pub returns-else-r-eq0 : goal.returns-else-r-eq0
+returns-else-r-eq0 c = turned_else _ _ c.if-r-eq0.false

@@ -1,7 +1,7 @@
 -- Domains and the codes of their base vertices, digit for digit. Where a domain S(Σr) has the orientation o and its
 -- base vertex the code Ts, r tells s and s tells r by one table: s is r xor (2 + o). So (40) to (43), and (52) to (54),
 -- are one rule, read from the last digit to the first. Assumes nothing.
-use Rattle.std.specs.Prelude.{ℕ, zero, suc, ◌+◌, ◌-◌, ◌*◌, ◌/◌, ◌%◌, ◌≤◌, ◌<◌, ◌≡◌, Bool, true, false, ◌&&◌, cond, List, [], ◌∷◌, eqb, leb}
+use Rattle.std.specs.Prelude.{ℕ, zero, suc, ◌+◌, ◌-◌, ◌*◌, ◌/◌, ◌%◌, ◌≡◌, Bool, true, false, ◌&&◌, cond, List, [], ◌∷◌, eqb, leb, Option, Some, None}
 use Rattle.words.specs.Words.{path}
 use Rattle.net.specs.Refusals.{on_side}
 use Rattle.net.specs.Sides.{IsSide}
@@ -68,9 +68,8 @@ abbrev pub base_state : (s : ℕ) → Point → State
 base_state s p =
     cond (eqb (orientation s) 0) (Up p.w1 (p.w2 - 1) p.w3) (Down (p.w1 - 1) p.w2 (p.w3 - 1))
 
--- r is the side in which the corner with these weights is the base vertex of such a domain, or 24 where there is none
-pub record BaseFor (w : Weights) (r : ℕ) : Type 0 where
-  pub low : 4 ≤ r
-  pub high : r ≤ 24
-  pub found : r < 24 → (on_side r 0 w ≡ true) × (is_base r (point_in r w) ≡ true)
-  pub none : 24 ≤ r → (s : ℕ) → IsSide s → on_side s 0 w ≡ true → is_base s (point_in s w) ≡ false
+-- r is the side in which the corner with these weights is the base vertex of such a domain; it is none where there is no
+-- such side
+abbrev pub BaseFor : Weights → Option ℕ → Type 0
+BaseFor w None = (s : ℕ) → IsSide s → on_side s 0 w ≡ true → is_base s (point_in s w) ≡ false
+BaseFor w (Some s) = IsSide s × (on_side s 0 w ≡ true) × (is_base s (point_in s w) ≡ true)

@@ -1,21 +1,19 @@
 -- How the code reads and writes digits: a list of them as a path, and back. Assumes nothing.
-use Rattle.std.specs.Prelude.{ℕ, ◌+◌, ◌*◌, Bool, true, false, List, [], ◌∷◌, reverse, leb}
+use Rattle.std.specs.Prelude.{ℕ, ◌+◌, ◌*◌, Bool, true, false, List, [], ◌∷◌, reverse, leb, Option, Some, None}
 use Rattle.words.specs.declared.CornerName.{CornerName}
 use Rattle.net.specs.Division.{Weights}
 use Rattle.net.specs.Names.{IsName}
 use Rattle.net.specs.Means.Paths.{digits_of}
 use Rattle.notation.specs.Same.{SameVertex}
 use Rattle.notation.specs.declared.Vertex.{Vertex}
-use Rattle.notation.specs.declared.Digits.{Digits}
-use Rattle.notation.specs.declared.Digits.TheVariants.{Path, Wrong}
 
-abbrev pub only : Bool → Digits → Digits
+abbrev pub only : Bool → Option ℕ → Option ℕ
 only true r = r
-only false r = Wrong
+only false r = None
 
 -- the path of digits after those of the path v, or that one of them is none
-unfoldable pub taken : (v : ℕ) → List ℕ → Digits
-taken v [] = Path v
+unfoldable pub taken : (v : ℕ) → List ℕ → Option ℕ
+taken v [] = Some v
 taken v (r ∷ rs) = only (leb r 3) (taken (4 * v + r) rs)
 
 -- x is the code, of degree n, of the corner with these weights

@@ -58,26 +58,26 @@ overflow_mul-p c = omega (arith, side_low c.before.before.before.before)
 pub overflow_add-a : goal.overflow_add-a
 overflow_add-a c = omega (arith, side_low c.before.before.before.before)
 
-pub overflow_add-a-in-Path : goal.overflow_add-a-in-Path
-overflow_add-a-in-Path c = omega (arith, side_low c.before.before.before.before)
+pub overflow_add-a-in-Some : goal.overflow_add-a-in-Some
+overflow_add-a-in-Some c = omega (arith, side_low c.before.before.before.before)
 
 pub word_of-requires : goal.word_of-requires
 word_of-requires c =
     let xs = list c.before.before.before.before in (
       omega (arith, side_low c.before.before.before.before),
       omega (arith, c.if-m-gt-DOMAIN_PLACES.false),
-      path_small (rest 3 xs) (sym c.in-Path.is ∙ c.read_digits.ensures) (rest_long 3 xs),
+      path_small (rest 3 xs) (sym c.in-Some.is ∙ c.read_digits.ensures) (rest_long 3 xs),
     )
 
-pub returns-in-Path : goal.returns-in-Path
-returns-in-Path c =
+pub returns-in-Some : goal.returns-in-Some
+returns-in-Some c =
     from_answers (list c.before.before.before.before.before) c.if-m-lt3.false c.if-m-gt-DOMAIN_PLACES.false (starts c.before.before.before.before.before)
-    (sym c.in-Path.is ∙ c.read_digits.ensures) c.word_of.ensures
+    (sym c.in-Some.is ∙ c.read_digits.ensures) c.word_of.ensures
 
-pub returns-in-Wrong : goal.returns-in-Wrong
-returns-in-Wrong c =
+pub returns-in-None : goal.returns-in-None
+returns-in-None c =
     let xs = list c.before.before.before.before.before in
     refused_wrong (domain_refusal xs) c.if-m-gt-DOMAIN_PLACES.false
     (not_digits xs c.if-m-lt3.false
-    (digits_wrong (rest 3 xs) (sym c.in-Wrong.is ∙ c.read_digits.ensures)))
-    c.no_code-in-Wrong.ensures
+    (digits_wrong (rest 3 xs) (sym c.in-None.is ∙ c.read_digits.ensures)))
+    c.no_code-in-None.ensures

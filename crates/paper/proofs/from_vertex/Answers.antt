@@ -66,14 +66,14 @@ vertex_name-requires c =
       c.if-a-gt5.false,
       c.if-p-gt1.false,
       omega (arith, s),
-      path_small (rest 2 (xs c.before.before.before.before.before.before.before.before)) (sym c.in-Path.is ∙ c.read_digits.ensures) (rest_long 2 (xs c.before.before.before.before.before.before.before.before)),
+      path_small (rest 2 (xs c.before.before.before.before.before.before.before.before)) (sym c.in-Some.is ∙ c.read_digits.ensures) (rest_long 2 (xs c.before.before.before.before.before.before.before.before)),
     )
 
-pub returns-in-Path : goal.returns-in-Path
-returns-in-Path c =
-    from_read (xs c.before.before.before.before.before.before.before.before.before) (two c.before.before.before.before.before.before.before.before.before) (sym c.in-Path.is ∙ c.read_digits.ensures) c.vertex_name.ensures
+pub returns-in-Some : goal.returns-in-Some
+returns-in-Some c =
+    from_read (xs c.before.before.before.before.before.before.before.before.before) (two c.before.before.before.before.before.before.before.before.before) (sym c.in-Some.is ∙ c.read_digits.ensures) c.vertex_name.ensures
 
-pub returns-in-Wrong : goal.returns-in-Wrong
-returns-in-Wrong c =
-    let w = digits_wrong (rest 2 (xs c.before.before.before.before.before.before.before.before.before)) (sym c.in-Wrong.is ∙ c.read_digits.ensures) in
-    wrong c.before.before.before.before.before.before.before.before.before (λ x. true≢false (sym x.2 ∙ w)) c.no_name-in-Wrong.ensures
+pub returns-in-None : goal.returns-in-None
+returns-in-None c =
+    let w = digits_wrong (rest 2 (xs c.before.before.before.before.before.before.before.before.before)) (sym c.in-None.is ∙ c.read_digits.ensures) in
+    wrong c.before.before.before.before.before.before.before.before.before (λ x. true≢false (sym x.2 ∙ w)) c.no_name-in-None.ensures

@@ -1,32 +1,27 @@
--- `knots::back::adds_to` meets its contract. The invariant: what is left and the sum of the places passed are the total.
--- Assumes nothing.
+-- A place more of the twelve; and a weight above what is left would be too much for the sum. Assumes nothing.
+use Rattle.std.proofs.Common.{◌+◌, take, length, sym, arith}
+use Rattle.std.proofs.lemmas.List.{take_all}
 use borrow.Author.Tests.{ne_eqb}
-use mathlib.Core.Path.{◌≡◌, sym}
-use Prim.Native.Nat.{◌+◌}
-use lib.ListN.{take}
-use native.Mathlib.Omega.{arith}
 use Rattle.net.specs.Division.{sum}
 use Rattle.net.proofs.StateCode.{none_left, sum_more, sum_take}
 use Rattle.knots.proofs.back.adds_to.Goals as goal
 
-pub loop-v-init : goal.loop-v-init
+pub loop-x-init : goal.loop-x-init
 unfolding sum
-loop-v-init c = (omega arith, omega arith)
+loop-x-init c = omega arith
 
 pub returns-then-left-x : goal.returns-then-left-x
 returns-then-left-x c =
-    let ws = c.args.weights.now in
-    let v = c.loop-v.v in
-    sym (ne_eqb (sum (take 12 ws)) c.args.total
-    (λ e. omega (arith, sum_more ws v (omega arith), sum_take ws (v + 1) 12 (omega arith))))
+    let xs = take 12 c.args.weights.now in
+    let i = c.loop-x.x-index in
+    sym (ne_eqb (sum xs) c.args.total
+    (λ e. omega (arith, sum_more xs i (omega arith), rw (take_all (length xs) xs (omega arith)) at (sum_take xs (i + 1) (length xs) (omega arith)))))
 
-pub loop-v-preserved : goal.loop-v-preserved
-loop-v-preserved c =
-    let ws = c.args.weights.now in
-    (omega arith, omega (arith, sum_more ws c.loop-v.v (omega arith)))
+pub loop-x-preserved : goal.loop-x-preserved
+loop-x-preserved c = omega (arith, sum_more (take 12 c.args.weights.now) c.loop-x.x-index (omega arith))
 
 pub returns : goal.returns
 returns c =
-    let l = c.loop-v in
-    let e : l.v ≡ 12 = omega arith in
-    none_left l.left _ _ (rw e at l.invariant.1)
+    let l = c.loop-x in
+    let xs = take 12 c.args.weights.now in
+    none_left l.left _ _ (rw (take_all l.x-index xs (omega arith)) at l.invariant)

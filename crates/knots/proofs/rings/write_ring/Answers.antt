@@ -24,8 +24,6 @@ pub loop-i-init : goal.loop-i-init
 loop-i-init c =
     let r = c.args.r.0 in
     let l : c.args.m ≤ length c.args.out.now = c.requires.2 in (
-      omega arith,
-      c.requires.1,
       ring_first c.args.m (place_at r) c.args.out.now c.requires.1 l
           (word_place r c.requires.0),
       refl,
@@ -38,13 +36,13 @@ around-q-requires c =
     let r = c.args.r.0 in
     let e = c.requires.0 in
     let a = at_walk r e (l.i - 1) in
-    let f = l.invariant.4 in
+    let f = l.invariant.2 in
     (fields_there a (low_degree r e) f, unit_there a (low_degree r e) f c.unit_of-unit.ensures)
 
 pub bounds-out-i : goal.bounds-out-i
 bounds-out-i c =
     let l = c.loop-i in
-    omega (arith, l.invariant.3, length-set c.args.out.now 0 (c.args.r.0 - c.args.r.0 % 4))
+    omega (arith, l.invariant.1, length-set c.args.out.now 0 (c.args.r.0 - c.args.r.0 % 4))
 
 pub loop-i-preserved : goal.loop-i-preserved
 loop-i-preserved c =
@@ -52,26 +50,24 @@ loop-i-preserved c =
     let r = c.args.r.0 in
     let e = c.requires.0 in
     let D = c.args.out.now in
-    let k : suc (l.i - 1) ≡ l.i = omega (arith, l.invariant.0) in
+    let k : suc (l.i - 1) ≡ l.i = omega arith in
     let n : l.i ≡ l.i + 1 - 1 = omega arith in
     let f : c.around-q.result ≡ name_at (ring_at (place_at r) l.i) =
-    rw k at (next_walk r e (l.i - 1) l.invariant.4 c.around-q.ensures) in (
-      omega arith,
-      omega arith,
-      ring_next c.args.m (place_at r) _ (omega (arith, length-set D 0 (r - r % 4))) l.i (omega arith) l.invariant.2
+    rw k at (next_walk r e (l.i - 1) l.invariant.2 c.around-q.ensures) in (
+      ring_next c.args.m (place_at r) _ (omega (arith, length-set D 0 (r - r % 4))) l.i (omega arith) l.invariant.0
           (word_walk r e l.i f),
-      length-set l.out l.i _ ∙ l.invariant.3,
+      length-set l.out l.i _ ∙ l.invariant.1,
       rw n at f,
     )
 
 pub shape_of-out : goal.shape_of-out
 shape_of-out c =
-    c.loop-i.invariant.3 ∙ length-set c.args.out.now 0 (c.args.r.0 - c.args.r.0 % 4)
+    c.loop-i.invariant.1 ∙ length-set c.args.out.now 0 (c.args.r.0 - c.args.r.0 % 4)
 
 pub returns : goal.returns
 returns c =
     let l = c.loop-i in
     let m = c.args.m in
-    let e : l.i ≡ m = omega (arith, l.invariant.1) in
-    l.invariant.2 ∙ rw e (ring_last m (place_at c.args.r.0) c.args.out.now _ c.requires.1
+    let e : l.i ≡ m = omega (arith, c.requires.1) in
+    l.invariant.0 ∙ rw e (ring_last m (place_at c.args.r.0) c.args.out.now _ c.requires.1
     c.requires.2)

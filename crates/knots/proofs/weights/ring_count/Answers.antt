@@ -21,7 +21,7 @@ returns-then-sign_of-eq1 c =
     let e : sign p.w1 + sign p.w2 + sign p.w3 ≡ 1 = omega arith in
     rw e
 
-pub returns : goal.returns
-returns c =
+pub returns-else-sign_of-eq1 : goal.returns-else-sign_of-eq1
+returns-else-sign_of-eq1 c =
     let p = c.args.p in
     ring_rest (sign p.w1 + sign p.w2 + sign p.w3) (λ e. c.if-sign_of-eq1.false (omega arith))

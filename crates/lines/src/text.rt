@@ -75,7 +75,7 @@ impl<const N: usize> Text<N> {
     }
 
     // A byte string.
-    pub fn push_all(&mut self, text: &[u8])
+    pub fn push_bytes(&mut self, text: &[u8])
         requires { length self.old + length text.now ≤ N }
         ensures text { self.new ≡ self.old ++ text.now }
         ensures within { length self.new ≤ length self.old + length text.now }
@@ -149,7 +149,7 @@ impl<const N: usize> Text<N> {
         ensures text { self.new ≡ self.old ++ writing.hexadecimal k n }
         ensures within { length self.new ≤ length self.old + (2 + k) }
     {
-        self.push_all(b"0x");
+        self.push_bytes(b"0x");
         self.push_digits(16, k, n);
     }
 

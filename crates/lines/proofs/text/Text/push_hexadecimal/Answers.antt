@@ -6,4 +6,4 @@ use Rattle.lines.proofs.text.Text.push_hexadecimal.Goals as goal
 
 pub returns-clause-text : goal.returns-clause-text
 unfolding hexadecimal
-returns-clause-text g c = appended_after _ _ _ refl c.push_all.ensures.text c.push_digits.ensures.text
+returns-clause-text g c = appended_after _ _ _ refl c.push_bytes.ensures.text c.push_digits.ensures.text

@@ -1,5 +1,4 @@
 -- The laws that the proofs of `lines` cite.
-pub mod Placing
 pub mod Appending
 pub mod Runs
 pub mod Readings

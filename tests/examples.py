@@ -25,7 +25,7 @@ def constant(file, name):
 
 
 HELP = constant("replies/src/help.rt", "HELP")
-FORMS = constant("texts/src/lib.rt", "CALLS").splitlines()
+FORMS = re.findall(r'^    \(Call::\w+, "(.*)"\),$', (CRATES / "texts/src/lib.rt").read_text(), re.M)
 NAMES = [form.split()[0] for form in FORMS]
 # How a document may write a form that has optional parts: without them, and with them.
 SPELLED = {form.split(" [")[0] for form in FORMS} | {form.replace("[", "").replace("]", "") for form in FORMS}

@@ -175,8 +175,8 @@ def size_name(call):
 
 def sentences(table, first):
     """A table of crate texts, by number."""
-    rows_of = re.search(rf'const {table}: \[u8; \d+\] = \*b"(.*?)";', REASONS.read_text(), re.S)[1]
-    return dict(enumerate(rows_of.splitlines(), first))
+    rows_of = re.search(rf'const {table}: \[&str; \d+\] = \[(.*?)\];', REASONS.read_text(), re.S)[1]
+    return dict(enumerate(re.findall(r'^    "(.*)",$', rows_of, re.M), first))
 
 
 def reasons(given):

@@ -1,25 +1,26 @@
 // Mending the list that is held: the mended list to standard output, eight bytes a code, and then the report.
 ghost use Rattle.std.specs.Prelude.{◌*◌, ◌≤◌, length};
 
-use crate::{report, write_first, write_lines};
+use crate::{Held, report, write_lines};
+use std::io;
 
-// Writes the first words of a list, eight bytes each, and says whether all were taken.
-fn write_list(rt: &impl Print, list: &[u64], count: usize) -> bool
-    requires { (count ≤ length list.now) × (count ≤ 4096) }
+// Writes a list, eight bytes a word.
+fn write_list(rt: &impl Print, list: &[u64]) -> io::Result<()>
+    requires { length list.now ≤ 4096 }
 {
     let mut bytes = [0u8; 32768];
-    octets::write_words(list, count, &mut bytes);
-    write_first(rt, &bytes, 8 * count)
+    octets::write_words(list, list.len(), &mut bytes);
+    rt.write_all(&bytes[..8 * list.len()])
 }
 
 // The same where it is asked for.
-fn deliver(rt: &impl Print, list: &[u64], count: usize, listed: bool) -> bool
-    requires { (count ≤ length list.now) × (count ≤ 4096) }
+fn deliver(rt: &impl Print, list: &[u64], listed: bool) -> io::Result<()>
+    requires { length list.now ≤ 4096 }
 {
     if listed {
-        return write_list(rt, list, count);
+        write_list(rt, list)?;
     }
-    true
+    Ok(())
 }
 
 // Mends a list, writes the mended one where it is asked for, and reports.
@@ -43,7 +44,7 @@ fn mend_words(rt: &impl Print, err: &impl Print, words: &[u64], listed: bool)
     );
     let count = z.count;
     let changes = z.changes;
-    if deliver(rt, &list, count, listed) {
+    if deliver(rt, &list[..count], listed).is_ok() {
         report::tell_all(
             err,
             words,
@@ -67,14 +68,11 @@ fn mend_bytes(rt: &impl Print, err: &impl Print, head: &[u8], count: usize, list
 }
 
 // Mends the list that is held. One that cannot be mended gets the line that it has where it is checked.
-pub fn mend_held(rt: &impl Print, err: &impl Print, head: &[u8], size: usize, listed: bool)
-    requires { 32768 ≤ length head.now }
-{
-    if size % 8 == 0 {
-        if size / 8 <= 4096 {
-            mend_bytes(rt, err, head, size / 8, listed);
-            return;
-        }
+pub fn mend_held(rt: &impl Print, err: &impl Print, held: &Held, listed: bool) {
+    let count = held.size / 8;
+    if held.size % 8 == 0 && count <= 4096 {
+        mend_bytes(rt, err, &held.head, count, listed);
+    } else {
+        let _ = write_lines(err, held, false);
     }
-    write_lines(err, head, size, false);
 }

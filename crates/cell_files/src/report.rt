@@ -1,209 +1,155 @@
-// What mending says on standard error: a line for each change, and a closing line. The lines are gathered in a buffer,
+// What mending says on standard error: a line for each change, and a closing line. The lines are gathered in a text,
 // which is written whenever it is full.
 ghost use Rattle.std.specs.Prelude.{◌+◌, ◌≤◌, length};
 
-use crate::{telling, write_first};
+use crate::telling;
+use lines::Text;
 use words::TriangleCode;
 
 // ---- why a word is dropped
 
 // Document 02, 2026-10: 1 invalid, 3 equal to an earlier word, 4 inside another word.
-fn put_why(reason: u64, out: &mut [u8], at: usize) -> usize
-    requires { at + 100 ≤ length out.old }
-    ensures { result ≤ at + 100 }
+fn put_why<const N: usize>(reason: u64, out: &mut Text<N>)
+    requires { length out.old + 100 ≤ N }
+    ensures { length out.new ≤ length out.old + 100 }
 {
     match reason {
-        1 => texts::put_offence(1, out, at),
-        3 => lines::put_bytes(b"equal to an earlier word", out, at),
-        _ => lines::put_bytes(b"inside another word", out, at),
+        1 => texts::put_offence(1, out),
+        3 => out.push_bytes(b"equal to an earlier word"),
+        _ => out.push_bytes(b"inside another word"),
     }
 }
 
 // Why a word is dropped; of an invalid one also by which refusal.
-fn put_reason(w: u64, reason: u64, out: &mut [u8], at: usize) -> usize
-    requires { at + 202 ≤ length out.old }
-    ensures { result ≤ at + 202 }
+fn put_reason<const N: usize>(w: u64, reason: u64, out: &mut Text<N>)
+    requires { length out.old + 202 ≤ N }
+    ensures { length out.new ≤ length out.old + 202 }
 {
     if reason == 1 {
-        return telling::put_invalid(TriangleCode(w).check(), out, at);
+        telling::put_invalid(TriangleCode(w).check(), out);
+    } else {
+        put_why(reason, out);
     }
-    put_why(reason, out, at)
 }
 
 // ---- the lines
 
 // A code with its word; a word that is no code alone.
-fn put_shown(w: u64, out: &mut [u8], at: usize) -> usize
-    requires { at + 46 ≤ length out.old }
-    ensures { result ≤ at + 46 }
+fn put_shown<const N: usize>(w: u64, out: &mut Text<N>)
+    requires { length out.old + 46 ≤ N }
+    ensures { length out.new ≤ length out.old + 46 }
 {
     if TriangleCode(w).check() != 0 {
-        return lines::put_word(w, out, at);
+        out.push_word(w);
+    } else {
+        texts::put_code(w, out);
     }
-    texts::put_code(w, out, at)
 }
 
 // The line of the word that is dropped from a place.
-fn put_dropped(place: u64, w: u64, reason: u64, out: &mut [u8], at: usize) -> usize
-    requires { at + 300 ≤ length out.old }
-    ensures { result ≤ at + 300 }
+fn put_dropped<const N: usize>(place: u64, w: u64, reason: u64, out: &mut Text<N>)
+    requires { length out.old + 300 ≤ N }
+    ensures { length out.new ≤ length out.old + 300 }
 {
-    let number = lines::put_bytes(b"place ", out, at);
-    let colon = lines::put_decimal(place, out, number);
-    let word = lines::put_bytes(b": ", out, colon);
-    let is = put_shown(w, out, word);
-    let why = lines::put_bytes(b" is dropped: ", out, is);
-    let end = put_reason(w, reason, out, why);
-    lines::put_byte(b'\n', out, end)
+    out.push_bytes(b"place ");
+    out.push_decimal(place);
+    out.push_bytes(b": ");
+    put_shown(w, out);
+    out.push_bytes(b" is dropped: ");
+    put_reason(w, reason, out);
+    out.push(b'\n');
 }
 
 // The line of a merge, by its parent.
-fn put_merge(w: u64, out: &mut [u8], at: usize) -> usize
-    requires { at + 300 ≤ length out.old }
-    ensures { result ≤ at + 300 }
+fn put_merge<const N: usize>(w: u64, out: &mut Text<N>)
+    requires { length out.old + 300 ≤ N }
+    ensures { length out.new ≤ length out.old + 300 }
 {
-    let takes = texts::put_code(w, out, at);
-    lines::put_bytes(b" takes the place of its four children\n", out, takes)
+    texts::put_code(w, out);
+    out.push_bytes(b" takes the place of its four children\n");
 }
 
 // How many of the reasons are this one.
 fn count_of(reasons: &[u64], reason: u64) -> u64 {
-    let mut n = 0;
-    let mut i = 0;
-    while i < reasons.len() {
-        if reasons[i] == reason {
-            n += 1;
-            i += 1;
-        } else {
-            i += 1;
-        }
-    }
-    n
+    reasons.iter().filter(|other| **other == reason).count() as u64
 }
 
 // How many words are dropped by a reason.
-fn put_count(reasons: &[u64], reason: u64, out: &mut [u8], at: usize) -> usize
-    requires { at + 121 ≤ length out.old }
-    ensures { result ≤ at + 121 }
+fn put_count<const N: usize>(reasons: &[u64], reason: u64, out: &mut Text<N>)
+    requires { length out.old + 121 ≤ N }
+    ensures { length out.new ≤ length out.old + 121 }
 {
-    let space = put_why(reason, out, at);
-    let number = lines::put_byte(b' ', out, space);
-    lines::put_decimal(count_of(reasons, reason), out, number)
+    put_why(reason, out);
+    out.push(b' ');
+    out.push_decimal(count_of(reasons, reason));
 }
 
 // How many words are dropped, reason by reason.
-fn put_counts(reasons: &[u64], out: &mut [u8], at: usize) -> usize
-    requires { at + 370 ≤ length out.old }
-    ensures { result ≤ at + 370 }
+fn put_counts<const N: usize>(reasons: &[u64], out: &mut Text<N>)
+    requires { length out.old + 370 ≤ N }
+    ensures { length out.new ≤ length out.old + 370 }
 {
-    let comma = put_count(reasons, 1, out, at);
-    let equal = lines::put_bytes(b", ", out, comma);
-    let second = put_count(reasons, 3, out, equal);
-    let inside = lines::put_bytes(b", ", out, second);
-    put_count(reasons, 4, out, inside)
+    put_count(reasons, 1, out);
+    out.push_bytes(b", ");
+    put_count(reasons, 3, out);
+    out.push_bytes(b", ");
+    put_count(reasons, 4, out);
 }
 
 // How many words came in, and how many go out.
-fn put_sizes(taken: u64, left: u64, out: &mut [u8], at: usize) -> usize
-    requires { at + 61 ≤ length out.old }
-    ensures { result ≤ at + 61 }
+fn put_sizes<const N: usize>(taken: u64, left: u64, out: &mut Text<N>)
+    requires { length out.old + 61 ≤ N }
+    ensures { length out.new ≤ length out.old + 61 }
 {
-    let number = lines::put_bytes(b"words in ", out, at);
-    let comma = lines::put_decimal(taken, out, number);
-    let second = lines::put_bytes(b", words out ", out, comma);
-    lines::put_decimal(left, out, second)
+    out.push_bytes(b"words in ");
+    out.push_decimal(taken);
+    out.push_bytes(b", words out ");
+    out.push_decimal(left);
 }
 
 // The closing line: how many words there were and are, and how many changes by each reason.
-fn put_closing(taken: u64, left: u64, reasons: &[u64], out: &mut [u8], at: usize) -> usize
-    requires { at + 500 ≤ length out.old }
-    ensures { result ≤ at + 500 }
+fn put_closing<const N: usize>(taken: u64, left: u64, reasons: &[u64], out: &mut Text<N>)
+    requires { length out.old + 500 ≤ N }
+    ensures { length out.new ≤ length out.old + 500 }
 {
-    let dropped = put_sizes(taken, left, out, at);
-    let counts = lines::put_bytes(b"; dropped: ", out, dropped);
-    let merges = put_counts(reasons, out, counts);
-    let number = lines::put_bytes(b"; merges ", out, merges);
-    let end = lines::put_decimal(count_of(reasons, 5), out, number);
-    lines::put_byte(b'\n', out, end)
+    put_sizes(taken, left, out);
+    out.push_bytes(b"; dropped: ");
+    put_counts(reasons, out);
+    out.push_bytes(b"; merges ");
+    out.push_decimal(count_of(reasons, 5));
+    out.push(b'\n');
 }
 
 // ---- the report
 
-// Writes the lines so far, where there may be no room for one more. How many bytes of them are still to be written.
-fn make_room(err: &impl Print, out: &[u8], filled: usize) -> usize
-    requires { (filled ≤ length out.now) × (65536 ≤ length out.now) }
-    ensures { result ≤ 65000 }
+// Writes the lines so far, where there may be no room for one more.
+fn make_room(err: &impl Print, out: &mut Text<65536>)
+    ensures { length out.new ≤ 65000 }
 {
-    if filled <= 65000 {
-        return filled;
+    if 65000 < out.len() {
+        let _ = err.write_all(out.as_bytes());
+        out.clear();
     }
-    write_first(err, out, filled);
-    0
-}
-
-// The word at a place, where it is dropped.
-fn tell_word(
-    err: &impl Print,
-    place: u64,
-    w: u64,
-    reason: u64,
-    out: &mut [u8],
-    filled: usize,
-) -> usize
-    requires { (filled ≤ 65536) × (65536 ≤ length out.old) }
-    ensures { result ≤ 65536 }
-{
-    if reason == 0 {
-        return filled;
-    }
-    let at = make_room(err, out, filled);
-    put_dropped(place, w, reason, out, at)
 }
 
 // The words that are dropped, in the order of the list.
-fn tell_dropped(err: &impl Print, words: &[u64], why: &[u64], out: &mut [u8]) -> usize
-    requires { (length words.now ≤ length why.now) × (65536 ≤ length out.old) }
-    ensures { result ≤ 65536 }
-{
-    let mut filled = 0;
-    let mut i = 0;
-    while i < words.len() {
-        filled = tell_word(err, i as u64, words[i], why[i], out, filled);
-        i += 1;
+fn tell_dropped(err: &impl Print, words: &[u64], why: &[u64], out: &mut Text<65536>) {
+    for (place, (w, reason)) in words.iter().zip(why).enumerate() {
+        if *reason != 0 {
+            make_room(err, out);
+            put_dropped(place as u64, *w, *reason, out);
+        }
     }
-    filled
-}
-
-// A row of the change list, where it is a merge.
-fn tell_merge(err: &impl Print, w: u64, reason: u64, out: &mut [u8], filled: usize) -> usize
-    requires { (filled ≤ 65536) × (65536 ≤ length out.old) }
-    ensures { result ≤ 65536 }
-{
-    if reason != 5 {
-        return filled;
-    }
-    let at = make_room(err, out, filled);
-    put_merge(w, out, at)
 }
 
 // The merges of the change list, in its order.
-fn tell_merges(
-    err: &impl Print,
-    changed: &[u64],
-    reasons: &[u64],
-    out: &mut [u8],
-    before: usize,
-) -> usize
-    requires { (length reasons.now ≤ length changed.now) × (before ≤ 65536) × (65536 ≤ length out.old) }
-    ensures { result ≤ 65536 }
-{
-    let mut filled = before;
-    let mut i = 0;
-    while i < reasons.len() {
-        filled = tell_merge(err, changed[i], reasons[i], out, filled);
-        i += 1;
+fn tell_merges(err: &impl Print, changed: &[u64], reasons: &[u64], out: &mut Text<65536>) {
+    for (w, reason) in changed.iter().zip(reasons) {
+        if *reason == 5 {
+            make_room(err, out);
+            put_merge(*w, out);
+        }
     }
-    filled
 }
 
 // Reports how a list was mended: `why` has the reason of each of its words, 0 for one that is kept, `changed` and
@@ -215,13 +161,11 @@ pub fn tell_all(
     changed: &[u64],
     reasons: &[u64],
     left: u64,
-)
-    requires { (length words.now ≤ length why.now) × (length reasons.now ≤ length changed.now) }
-{
-    let mut out = [0u8; 65536];
-    let dropped = tell_dropped(err, words, why, &mut out);
-    let merges = tell_merges(err, changed, reasons, &mut out, dropped);
-    let at = make_room(err, &out, merges);
-    let end = put_closing(words.len() as u64, left, reasons, &mut out, at);
-    write_first(err, &out, end);
+) {
+    let mut out = Text::new();
+    tell_dropped(err, words, why, &mut out);
+    tell_merges(err, changed, reasons, &mut out);
+    make_room(err, &mut out);
+    put_closing(words.len() as u64, left, reasons, &mut out);
+    let _ = err.write_all(out.as_bytes());
 }

@@ -1,6 +1,5 @@
 -- The laws that the proofs of `lines` cite.
-pub mod Placing
-pub mod Growing
+pub mod Appending
 pub mod Runs
 pub mod Readings
 pub mod Spelling

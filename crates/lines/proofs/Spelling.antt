@@ -1,8 +1,7 @@
 -- The digits of a number as text: the last after the others, or the first before them. Assumes nothing.
 use mathlib.Core.Path.{◌≡◌, refl}
 use mathlib.Core.List.{[], ◌∷◌, ◌++◌}
-use Prim.Native.Nat.{ℕ, zero, suc, ◌+◌, ◌-◌, ◌*◌, ◌/◌, ◌%◌, ◌^◌, ◌≤◌, ◌<◌}
-use native.Mathlib.Nat.{div-lt_iff_lt-mul}
+use Prim.Native.Nat.{ℕ, zero, suc, ◌-◌, ◌*◌, ◌/◌, ◌%◌, ◌^◌, ◌≤◌, ◌<◌}
 use native.Mathlib.Omega.{arith}
 use lib.IntN.{ℤ, nat_abs}
 use lib.Pow.{pow_pos, pow_mono}
@@ -46,10 +45,6 @@ decimals_last zero n g h l e = absurd (h refl)
 decimals_last (suc k) n g h l e = rw e (simp (less k, le-ltb n 10 l))
 
 -- ---- decimals of a fraction
-
--- of f / m, f below m, the next is below 10
-pub next_small : (m f : ℕ) → f < m → f * 10 / m < 10
-next_small m f h = (div-lt_iff_lt-mul {k = m} {x = f * 10} {y = 10} (omega arith)).1 (omega arith)
 
 pub places_none : (k m f : ℕ) → k ≡ 0 → [] ≡ decimals k m f
 unfolding decimals

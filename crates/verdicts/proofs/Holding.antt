@@ -1,23 +1,20 @@
 -- What is kept of a file of any length: with its next bytes, and that its line needs no more. Assumes nothing.
 use mathlib.Core.Path.{◌≡◌, ◌∙◌, refl, sym, ap}
-use mathlib.Core.Bool.{true, false, not}
+use mathlib.Core.Bool.{true}
 use mathlib.Core.Logic.{◌⊎◌, inl, inr, ⊎_elim}
 use mathlib.Core.List.{List, [], ◌∷◌, ◌++◌}
-use Prim.Native.Nat.{ℕ, ◌+◌, ◌-◌, ◌*◌, ◌/◌, ◌%◌, ◌≤◌, ◌<◌}
+use Prim.Native.Nat.{ℕ, ◌+◌, ◌/◌, ◌%◌, ◌≤◌, ◌<◌}
 use native.Mathlib.Decide.{dec_le}
 use native.Mathlib.Omega.{arith}
-use lib.Dec.{ltb, eqb}
+use lib.Dec.{eqb}
 use lib.ListN.{length, take, drop, length-append, take-append-drop}
-use lib.Seq.{take_at}
 use borrow.Author.Tests.{lt-ltb, le-ltb, eq-eqb, ne_eqb}
 use Rattle.frame.proofs.Answering.{answers_or_not}
 use Rattle.octets.specs.Bytes.{numbers}
 use Rattle.octets.proofs.Laying.{read_append}
-use Rattle.lines.specs.Writing.{Wrote}
-use Rattle.lines.proofs.Placing.{wrote_as}
 use Rattle.cells.specs.Checking.{checked}
 use Rattle.verdicts.specs.Program.{bad_length_text, too_long_text, verdict_text, text, line}
-use Rattle.verdicts.specs.Files.{folded, Holds, TakesIn, WritesOf}
+use Rattle.verdicts.specs.Files.{folded, Holds, TakesIn}
 use Rattle.verdicts.specs.Promises.{Reading}
 
 -- ---- the length
@@ -74,18 +71,15 @@ past next head size r e long file h =
     }
 
 -- there is room for them
-pub kept : {most : ℕ} (next old new : List ℕ) (size r : ℕ) → size + length next ≤ 32768 → 32768 ≤ length old
-    → Wrote most next size r old new → TakesIn next old size new r
-kept next old new size r l room w file h =
+pub kept : (next old new : List ℕ) (size : ℕ) → size + length next ≤ 32768
+    → take (size + length next) new ≡ take size old ++ next → TakesIn next old size new (size + length next)
+kept next old new size l w file h =
     let n : size ≡ length file = kept_small (length file) h.sized (omega (arith, l)) in
     let all : length (file ++ next) ≡ size + length next = omega (arith, n, length-append file next) in
     let f : take size old ≡ file = ap (λ (k : ℕ). take k old) n ∙ h.front (omega (arith, l, n)) in
-    let rest = drop (size + length next) old in
-    let c : new ≡ (file ++ next) ++ rest =
-    w.contents ∙ ap (λ (x : List ℕ). x ++ next ++ rest) f in
     record {
-      sized = w.place ∙ sym all ∙ sym (folded_small (length (file ++ next)) (omega (arith, all, l)));
-      front = λ s. ap (take (length (file ++ next))) c ∙ take_at (file ++ next) rest (length (file ++ next)) refl;
+      sized = sym all ∙ sym (folded_small (length (file ++ next)) (omega (arith, all, l)));
+      front = λ s. ap (λ (k : ℕ). take k new) all ∙ w ∙ ap (λ (x : List ℕ). x ++ next) f;
     }
 
 -- ---- its text
@@ -132,9 +126,3 @@ decides file file' head size h h' =
 
 pub reading : Reading
 reading = record { begins = begins; decides = decides }
-
--- what a writer left, where it is the text of each file that is held
-pub writes_as : {text_of : List ℕ → List ℕ} {m most size r : ℕ} {t head old new : List ℕ} → m ≤ most
-    → Wrote m t 0 r old new → ((file : List ℕ) → Holds file head size → t ≡ text_of file)
-    → WritesOf text_of most head size r old new
-writes_as l w is = record { within = omega (arith, l, w.within); wrote = λ file h. wrote_as (is file h) l w }

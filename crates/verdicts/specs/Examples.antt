@@ -1,7 +1,7 @@
 -- Document 02, 2026-09: the line at some files, and wrong lines. Assumes nothing.
 use Rattle.std.specs.Prelude.{◌≡◌, List, [], ◌∷◌, ◌++◌, ℕ, length, replicate}
 use Rattle.octets.specs.Bytes.{bytes, words_in}
-use Rattle.words.specs.Writing.{written, words_for}
+use Rattle.words.specs.Writing.{words_for}
 use Rattle.cells.specs.Checking.{checked}
 use Rattle.verdicts.specs.Program.{accepted_text, bad_length_text, too_long_text, place_text, reason_text}
 use Rattle.verdicts.specs.Program.{verdict_text, line}

@@ -2,14 +2,14 @@
 // buffer that does not grow with it, and the line.
 #![tactic(auto)]
 
-ghost use Rattle.std.specs.Prelude.{◌≡◌, ◌+◌, ◌*◌, ◌%◌, ◌≤◌, length};
+ghost use Rattle.std.specs.Prelude.{◌≡◌, List, ℕ, [], ◌∷◌, ◌++◌, ◌+◌, ◌*◌, ◌%◌, ◌≤◌, length};
 ghost use Rattle.octets.specs.Bytes.{numbers};
-ghost use Rattle.lines.specs.Writing.{Wrote};
 ghost use Rattle.cells.specs.Checking.{checked};
 ghost use Rattle.verdicts.specs.Program.{verdict_text, text, line};
-ghost use Rattle.verdicts.specs.Files.{TakesIn, WritesOf};
+ghost use Rattle.verdicts.specs.Files.{Holds, TakesIn, WritesOf};
 
 use cells::Verdict;
+use lines::Text;
 use octets::read_words;
 
 // The length that is kept of a file of more than 4,096 words, which has so many bytes more.
@@ -31,7 +31,9 @@ pub fn take_in(next: &[u8], head: &mut [u8], size: usize) -> usize
     if 32768 - size < next.len() {
         return past_room(size, next.len());
     }
-    lines::put_bytes(next, head, size)
+    let end = size + next.len();
+    head[size..end].copy_from_slice(next);
+    end
 }
 
 // Checks the first words of the bytes.
@@ -44,39 +46,59 @@ pub fn check_words(bytes: &[u8], count: usize) -> Verdict
     cells::check(&words[..count])
 }
 
-// A verdict as text, over the front of a buffer.
-pub fn put_verdict(v: Verdict, out: &mut [u8]) -> usize
-    requires { 54 ≤ length out.old }
-    ensures { Wrote 54 (verdict_text v) 0 result out.old out.new }
+// A verdict as text.
+pub fn put_verdict<const N: usize>(v: Verdict, out: &mut Text<N>)
+    requires { length out.old + 54 ≤ N }
+    ensures text { out.new ≡ out.old ++ verdict_text v }
+    ensures within { length out.new ≤ length out.old + 54 }
 {
     if v.reason == 0 {
-        return lines::put_bytes(b"accepted", out, 0);
+        out.push_bytes(b"accepted");
+        return;
     }
-    let place = lines::put_bytes(b"place ", out, 0);
-    let end = lines::put_decimal(v.place, out, place);
-    let reason = lines::put_bytes(b" reason ", out, end);
-    lines::put_decimal(v.reason, out, reason)
+    out.push_bytes(b"place ");
+    out.push_decimal(v.place);
+    out.push_bytes(b" reason ");
+    out.push_decimal(v.reason);
 }
 
 // The line without its end.
-fn put_text(head: &[u8], size: usize, out: &mut [u8]) -> usize
-    requires { (32768 ≤ length head.now) × (54 ≤ length out.old) }
-    ensures { WritesOf text 54 head.now size result out.old out.new }
+fn put_text<const N: usize>(head: &[u8], size: usize, out: &mut Text<N>)
+    requires { (32768 ≤ length head.now) × (length out.old + 54 ≤ N) }
+    ensures text { (file : List ℕ) → Holds file head.now size → out.new ≡ out.old ++ text file }
+    ensures within { length out.new ≤ length out.old + 54 }
 {
     if size % 8 != 0 {
-        return lines::put_bytes(b"bad length", out, 0);
+        out.push_bytes(b"bad length");
+        return;
     }
     if 4096 < size / 8 {
-        return lines::put_bytes(b"too long", out, 0);
+        out.push_bytes(b"too long");
+        return;
     }
-    put_verdict(check_words(head, size / 8), out)
+    put_verdict(check_words(head, size / 8), out);
 }
 
-// The line of the file that is held, over the front of a buffer. Its length.
+// The line of the file that is held.
+pub fn write_line<const N: usize>(head: &[u8], size: usize, out: &mut Text<N>)
+    requires { (32768 ≤ length head.now) × (length out.old + 55 ≤ N) }
+    ensures text { (file : List ℕ) → Holds file head.now size → out.new ≡ out.old ++ line file }
+    ensures within { length out.new ≤ length out.old + 55 }
+{
+    put_text(head, size, out);
+    out.push(b'\n');
+}
+
+// The same over the front of a lent buffer, and its length. It stays as contracts/specs/Verdicts.antt has it, and so do
+// `head` and `size` beside one another: C lends the bytes.
 pub fn put_line(head: &[u8], size: usize, out: &mut [u8]) -> usize
     requires { (32768 ≤ length head.now) × (55 ≤ length out.old) }
     ensures { WritesOf line 55 head.now size result out.old out.new }
 {
-    let at = put_text(head, size, out);
-    lines::put_byte(10, out, at)
+    let mut written: Text<55> = Text::new();
+    write_line(head, size, &mut written);
+    let bytes = written.as_bytes();
+    let n = bytes.len();
+    out[..n].copy_from_slice(bytes);
+    n
 }

@@ -1,22 +1,19 @@
 -- `verdicts::put_verdict` meets its contract: one piece after the other. Assumes nothing.
 use mathlib.Core.Path.{refl}
 use mathlib.Core.List.{◌++◌}
-use native.Mathlib.Omega.{arith}
 use Rattle.lines.specs.Writing.{decimal}
-use Rattle.lines.proofs.Placing.{wrote_as, wrote_after}
 use Rattle.verdicts.specs.Program.{place_text, reason_text}
+use Rattle.lines.proofs.Appending.{appended_as, appended_after}
 use Rattle.verdicts.proofs.Texts.{text_accepted, text_place}
 use Rattle.verdicts.proofs.put_verdict.Goals as goal
 
-pub returns-then-v-eq0 : goal.returns-then-v-eq0
-returns-then-v-eq0 c =
-    wrote_as (text_accepted c.args.v c.if-v-eq0.true) (omega arith) c.put_bytes.ensures
+pub returns-then-v-eq0-clause-text : goal.returns-then-v-eq0-clause-text
+returns-then-v-eq0-clause-text g c = appended_as _ (text_accepted c.args.v c.if-v-eq0.true) c.push_bytes.ensures.text
 
-pub returns : goal.returns
-returns c =
+pub returns-clause-text : goal.returns-clause-text
+returns-clause-text g c =
     let v = c.args.v in
-    let first = wrote_after {most = 26} {text = place_text ++ decimal v.place} refl (omega arith) (omega arith)
-    c.put_bytes-place.ensures c.put_decimal-end.ensures in
-    let next = wrote_after {most = 34} {text = place_text ++ decimal v.place ++ reason_text} refl (omega arith)
-    (omega arith) first c.put_bytes-reason.ensures in
-    wrote_after (text_place v c.if-v-eq0.false) (omega arith) (omega arith) next c.put_decimal.ensures
+    let old = c.args.out.now in
+    let place = appended_after old place_text (decimal v.place) refl c.push_bytes-2.ensures.text c.push_decimal.ensures.text in
+    let reason = appended_after old (place_text ++ decimal v.place) reason_text refl place c.push_bytes-3.ensures.text in
+    appended_after old (place_text ++ decimal v.place ++ reason_text) (decimal v.reason) (text_place v c.if-v-eq0.false) reason c.push_decimal-2.ensures.text

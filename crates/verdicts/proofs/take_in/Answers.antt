@@ -1,4 +1,9 @@
 -- `verdicts::take_in` meets its contract (Holding). Assumes nothing.
+use mathlib.Core.Path.{ap, sym, ◌∙◌}
+use mathlib.Core.List.{List, ◌++◌}
+use Prim.Native.Nat.{ℕ, ◌+◌}
+use lib.ListN.{length, take}
+use Rattle.std.proofs.lemmas.Slice.{take-put_mid}
 use native.Mathlib.Omega.{arith}
 use Rattle.verdicts.proofs.Holding.{kept_small, kept_large, past, kept}
 use Rattle.verdicts.proofs.take_in.Goals as goal
@@ -17,5 +22,11 @@ returns-then-size-next c =
 
 pub returns : goal.returns
 returns c =
-    kept c.args.next.now c.args.head.now _ c.args.size c.put_bytes.result
-    (omega (arith, c.if-size-gt32768.false, c.if-size-next.false)) c.requires c.put_bytes.ensures
+    let next = c.args.next.now in
+    let head = c.args.head.now in
+    let size = c.args.size in
+    let h = c.if-size-gt32768.false in
+    let l = c.if-size-next.false in
+    kept next head _ size (omega (arith, h, l))
+    (take-put_mid size _ head _ (size + length next) (ap (λ (xs : List ℕ). size + length xs) (sym c.copy_from_slice.ensures.after)) (omega (arith, h, c.requires))
+    ∙ ap (λ (xs : List ℕ). take size head ++ xs) c.copy_from_slice.ensures.after)

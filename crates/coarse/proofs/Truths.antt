@@ -6,7 +6,6 @@ use mathlib.Core.List.{List, [], ◌∷◌}
 use Prim.Native.Nat.{ℕ, zero, suc, ◌≤◌, ◌<◌}
 use native.Mathlib.Nat.{pos_of_ne-zero}
 use native.Mathlib.Omega.{arith}
-use borrow.Author.Tests.{eq-eqb, eqb-true}
 use lib.Dec.{eqb}
 use lib.IntN.{ℤ}
 use lib.ListN.{length, set, replicate, get_or-replicate}
@@ -31,12 +30,11 @@ use Rattle.tables.specs.Answers.{carried_out, refused_deed, DeedAnswer}
 use Rattle.tables.specs.Histories.{Call, asks, does, answers, after, doing, on_table, seen}
 use Rattle.tables.specs.declared.Deed.{Deed}
 use Rattle.tables.specs.declared.TableAnswer.{TableAnswer}
-use Rattle.tables.proofs.Places.{same_places}
 use Rattle.tables.proofs.Deeds.{Owned, deed_passed}
 use Rattle.tables.proofs.Holding.{same_degree, begun}
 use Rattle.tables.proofs.Alike.{alike_answers, alike_after, alike_seen}
 use Rattle.tables.proofs.SimpleMaps.{turned}
-use Rattle.coarse.specs.Sums.{present, present_in, parents, Coarse, coarse, stored_for, every_parent, true_coarse}
+use Rattle.coarse.specs.Sums.{present_in, parents, Coarse, coarse, stored_for, every_parent, true_coarse}
 use Rattle.coarse.specs.Sums.{Chart, fresh_chart, kept, coarse_after, chart_after}
 use Rattle.coarse.specs.Refusals.{sum_order, length_rows, differs, coarse_rows, refuse_kept}
 use Rattle.coarse.specs.Answers.{kept_out, refused_kept, KeptAnswer}

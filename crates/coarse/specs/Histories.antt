@@ -1,15 +1,13 @@
 -- Document 02, 2026-08: calls one after the other on the four lists, and the "readings present according to the history
 -- of calls". Assumes nothing.
-use Rattle.std.specs.Prelude.{◌&&◌, cond, List, [], ◌∷◌, ℕ, eqb}
+use Rattle.std.specs.Prelude.{◌&&◌, cond, List, [], ◌∷◌, ℕ, eqb, None}
 use Rattle.frame.specs.Answers.{settled}
 use Rattle.frame.specs.Lists.{below}
 use Rattle.words.specs.Counting.{code_at}
 use Rattle.words.specs.declared.TriangleCode.{TriangleCode}
-use Rattle.tables.specs.Tables.{places, number}
+use Rattle.tables.specs.Tables.{places, number, Sounding}
 use Rattle.tables.specs.Owners.{sounding_after}
 use Rattle.tables.specs.Histories.{Call, asks, does, Answered, got, done, doing, on_table}
-use Rattle.tables.specs.declared.Sounding.{Sounding}
-use Rattle.tables.specs.declared.Sounding.TheVariants.{Nothing}
 use Rattle.coarse.specs.Sums.{present, Chart}
 use Rattle.coarse.specs.Refusals.{refuse_kept}
 use Rattle.coarse.specs.Answers.{kept_out, refused_kept}
@@ -27,7 +25,7 @@ Told = TriangleCode → Sounding
 
 -- a fresh table has no readings
 abbrev pub no_readings : Told
-no_readings t = Nothing
+no_readings t = None
 
 -- an answered call leaves its triangle what it is to leave; one that is refused tells nothing
 abbrev pub told : Call → Answered → Told → Told

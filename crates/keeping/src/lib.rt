@@ -44,9 +44,7 @@ pub fn store_all(list: &[i32], counts: &mut [u64], sums: &mut [u64])
         × (sums.new
         ≡ below (length sums.old) (λ i. sum (present_from (4 * i) list.now))) }
 {
-    let mut p = 0;
-    while p < counts.len() {
+    for p in 0..counts.len() {
         store(p, list, counts, sums);
-        p += 1;
     }
 }

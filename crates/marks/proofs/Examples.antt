@@ -31,7 +31,7 @@ use Rattle.grid.proofs.Showing.{point_by, ticks_test}
 use Rattle.tables.specs.Tables.{fresh, none, said, number_at}
 use Rattle.tables.specs.Refusals.{refuse_call, refuse_get}
 use Rattle.tables.specs.Examples.{bad, three_seven}
-use Rattle.tables.specs.declared.Sounding.TheVariants.{Nothing as NoReading, Reading}
+use Rattle.std.specs.Prelude.{None, Some}
 use Rattle.marks.specs.declared.Mark.{Mark}
 use Rattle.marks.specs.declared.Mark.TheVariants.{Nothing, Dot, Segment}
 use Rattle.marks.specs.declared.MarkAnswer.{MarkAnswer}
@@ -43,14 +43,14 @@ use Rattle.marks.proofs.Marking.{a_dot, a_segment, edge_mark_one, mark_of_said, 
 -- ---- how an example is shown
 
 module _ (n : ℕ) (t : TriangleCode) (list : List ℤ) where
-  none_by : refuse_get n t list ≡ 0 → said (number_at t list) ≡ NoReading
+  none_by : refuse_get n t list ≡ 0 → said (number_at t list) ≡ None
       → TableMarkAnswer n t list gives mark_answer 0 0 Nothing
   none_by z e =
       let is : TableMarkAnswer n t list (mark_answer 0 0 Nothing) =
       answering z (with_mark (mark_of_said t Nothing e nothing_shown)) in
       gives_one (table_one n t list) is
 
-  dot_by : (r : ℤ) (p : Point) → refuse_get n t list ≡ 0 → said (number_at t list) ≡ Reading r → DrawnAt t 1 p
+  dot_by : (r : ℤ) (p : Point) → refuse_get n t list ≡ 0 → said (number_at t list) ≡ Some r → DrawnAt t 1 p
       → TableMarkAnswer n t list gives mark_answer 0 0 (Dot p)
   dot_by r p z e d =
       let is : TableMarkAnswer n t list (mark_answer 0 0 (Dot p)) =

@@ -17,11 +17,10 @@ use Rattle.points.specs.Answers.{DrawAnswer}
 use Rattle.points.specs.Answers.{PointAnswer}
 use Rattle.points.proofs.OnePlace.{draw_some, point_one}
 use Rattle.grid.proofs.Turns.{ends_three}
-use Rattle.tables.specs.Tables.{said, number_at}
+use Rattle.tables.specs.Tables.{said, number_at, Sounding}
 use Rattle.tables.specs.Refusals.{refuse_get}
 use Rattle.tables.specs.Answers.{GetAnswer}
-use Rattle.tables.specs.declared.Sounding.{Sounding}
-use Rattle.tables.specs.declared.Sounding.TheVariants.{Nothing as NoReading, Reading}
+use Rattle.std.specs.Prelude.{None, Some}
 use Rattle.tables.specs.declared.SoundingAnswer.{SoundingAnswer}
 use Rattle.tables.proofs.Refused.{call_passed}
 use Rattle.marks.specs.declared.Mark.{Mark}
@@ -62,8 +61,8 @@ drawn_some t i z l = let a = draw_some t i in (a.0.at, drawn_is t i z l a.1)
 -- ---- one mark
 
 pub mark_one : (t : TriangleCode) (s : Sounding) (m m' : Mark) → IsMark t s m → IsMark t s m' → m ≡ m'
-mark_one t NoReading m m' x y = shows_one x y
-mark_one t (Reading r) m m' x y =
+mark_one t None m m' x y = shows_one x y
+mark_one t (Some r) m m' x y =
     shows_one (subst (λ (p : Point). Shows m 1 (p ∷ [])) (point_one x.1 y.1) x.2) y.2
 
 pub edge_one : (t : TriangleCode) (k : ℕ) (m m' : Mark) → IsEdgeMark t k m → IsEdgeMark t k m' → m ≡ m'
@@ -84,8 +83,8 @@ pub a_segment : (t : TriangleCode) (k : ℕ) {p q : Point} → DrawnAt t (lower 
 a_segment t k {p} {q} d e = (p, q, d, e, record { is = refl; are = refl })
 
 mark_some : (t : TriangleCode) (s : Sounding) → check_code t ≡ 0 → (m : Mark) × IsMark t s m
-mark_some t NoReading z = (Nothing, nothing_shown)
-mark_some t (Reading r) z = let p = drawn_some t 1 z (omega arith) in (Dot p.0, a_dot t p.1)
+mark_some t None z = (Nothing, nothing_shown)
+mark_some t (Some r) z = let p = drawn_some t 1 z (omega arith) in (Dot p.0, a_dot t p.1)
 
 edge_some : (t : TriangleCode) (k : ℕ) → check_code t ≡ 0 → OneToThree k → (m : Mark) × IsEdgeMark t k m
 edge_some t k z l =

@@ -26,11 +26,10 @@ use Rattle.points.specs.Answers.{DrawAnswer}
 use Rattle.points.specs.Answers.{PointAnswer}
 use Rattle.points.proofs.OnePlace.{point_one}
 use Rattle.grid.proofs.Turns.{ends_three}
-use Rattle.tables.specs.Tables.{said, number_at}
+use Rattle.tables.specs.Tables.{said, number_at, Sounding}
 use Rattle.tables.specs.Refusals.{refuse_get}
 use Rattle.tables.specs.Answers.{GetAnswer}
-use Rattle.tables.specs.declared.Sounding.{Sounding}
-use Rattle.tables.specs.declared.Sounding.TheVariants.{Nothing as NoReading, Reading}
+use Rattle.std.specs.Prelude.{None, Some}
 use Rattle.tables.specs.declared.SoundingAnswer.{SoundingAnswer}
 use Rattle.marks.specs.declared.Mark.{Mark}
 use Rattle.marks.specs.declared.Mark.TheVariants.{Nothing}
@@ -52,20 +51,20 @@ one_answer = record {
 -- ---- of a table
 
 abbrev count : Sounding → ℕ
-count NoReading = 0
-count (Reading r) = 1
+count None = 0
+count (Some r) = 1
 
-a_reading : {r : ℤ} → Reading r ≡ NoReading → ⊥
+a_reading : {r : ℤ} → Some r ≡ None → ⊥
 a_reading e = let f = ap count e in omega (arith, f)
 
 -- what a mark says of what the table has
-marks_nothing : (t : TriangleCode) (s : Sounding) (m : Mark) → IsMark t s m → (s ≡ NoReading) ↔ Shows m 0 []
-marks_nothing t NoReading m x = (λ e. x, λ y. refl)
-marks_nothing t (Reading r) m x = (λ e. absurd (a_reading e), λ y. absurd (omega (arith, x.2.is, y.is)))
+marks_nothing : (t : TriangleCode) (s : Sounding) (m : Mark) → IsMark t s m → (s ≡ None) ↔ Shows m 0 []
+marks_nothing t None m x = (λ e. x, λ y. refl)
+marks_nothing t (Some r) m x = (λ e. absurd (a_reading e), λ y. absurd (omega (arith, x.2.is, y.is)))
 
-marks_dot : (t : TriangleCode) (s : Sounding) (m : Mark) → IsMark t s m → (s ≡ NoReading → ⊥) ↔ (number_of m ≡ 1)
-marks_dot t NoReading m x = (λ d. absurd (d refl), λ e. absurd (omega (arith, x.is, e)))
-marks_dot t (Reading r) m x = (λ d. x.2.is, λ e. a_reading)
+marks_dot : (t : TriangleCode) (s : Sounding) (m : Mark) → IsMark t s m → (s ≡ None → ⊥) ↔ (number_of m ≡ 1)
+marks_dot t None m x = (λ d. absurd (d refl), λ e. absurd (omega (arith, x.is, e)))
+marks_dot t (Some r) m x = (λ d. x.2.is, λ e. a_reading)
 
 module _ (n : ℕ) (t : TriangleCode) (list : List ℤ) (r : MarkAnswer) (g : SoundingAnswer)
     (x : TableMarkAnswer n t list r) (a : GetAnswer n t list g) where
@@ -73,14 +72,14 @@ module _ (n : ℕ) (t : TriangleCode) (list : List ℤ) (r : MarkAnswer) (g : So
   marked : refuse_get n t list ≡ 0 → IsMark t g.sounding r.mark
   marked z = mark_of_said t r.mark (ap (λ (h : SoundingAnswer). h.sounding) (a.answered z)) (x.answered z).is
 
-  nothing : (g.sounding ≡ NoReading) ↔ Shows r.mark 0 []
+  nothing : (g.sounding ≡ None) ↔ Shows r.mark 0 []
   nothing = ⊎_elim (λ z. marks_nothing t g.sounding r.mark (marked z)) (λ d. (
     λ e. subst (λ (m : Mark). Shows m 0 []) (sym (ap (λ (r : MarkAnswer). r.mark) (x.refused d))) nothing_shown,
     λ y. ap (λ (h : SoundingAnswer). h.sounding) (a.refused d),
   )) (answers_or_not (refuse_get n t list))
 
   -- by cases, whether there is a reading
-  dot : (g.sounding ≡ NoReading → ⊥) ↔ (number_of r.mark ≡ 1)
+  dot : (g.sounding ≡ None → ⊥) ↔ (number_of r.mark ≡ 1)
   dot = ⊎_elim (λ z. marks_dot t g.sounding r.mark (marked z)) (λ d. (
     λ n. absurd (n (ap (λ (h : SoundingAnswer). h.sounding) (a.refused d))),
     λ e. absurd (omega (arith, e, ap (λ (r : MarkAnswer). number_of r.mark) (x.refused d))),
@@ -103,8 +102,8 @@ of_table = record { nothing = nothing; dot = dot; refused = refused }
 -- a mark of one point has the point of the triangle's corner 1
 dotted : (t : TriangleCode) (s : Sounding) (m : Mark) {p : Point} → IsMark t s m → number_of m ≡ 1 → DrawnAt t 1 p
     → Shows m 1 (p ∷ [])
-dotted t NoReading m x e d = absurd (omega (arith, e, x.is))
-dotted t (Reading r) m x e d = subst (λ (p : Point). Shows m 1 (p ∷ [])) (point_one x.1 d) x.2
+dotted t None m x e d = absurd (omega (arith, e, x.is))
+dotted t (Some r) m x e d = subst (λ (p : Point). Shows m 1 (p ∷ [])) (point_one x.1 d) x.2
 
 module _ (n : ℕ) (t : TriangleCode) (list : List ℤ) (r : MarkAnswer) (a : PointAnswer)
     (x : TableMarkAnswer n t list r) (e : number_of r.mark ≡ 1) (d : DrawAnswer t 1 a) where

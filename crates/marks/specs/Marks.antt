@@ -1,5 +1,5 @@
 -- Document 02, 2026-14: "a mark is nothing, one dot, or a segment between two points." Assumes nothing.
-use Rattle.std.specs.Prelude.{◌≡◌, List, [], ◌∷◌, ℕ}
+use Rattle.std.specs.Prelude.{◌≡◌, List, [], ◌∷◌, ℕ, None, Some}
 use Rattle.words.specs.Words.{degree_of}
 use Rattle.words.specs.declared.TriangleCode.{TriangleCode}
 use Rattle.net.specs.Corners.{corner}
@@ -7,8 +7,7 @@ use Rattle.corners.specs.Turns.{lower, higher}
 use Rattle.filing.specs.Coordinates.{exact}
 use Rattle.filing.specs.Drawing.{IsPoint}
 use Rattle.filing.specs.declared.Point.{Point}
-use Rattle.tables.specs.declared.Sounding.{Sounding}
-use Rattle.tables.specs.declared.Sounding.TheVariants.{Nothing as NoReading, Reading}
+use Rattle.tables.specs.Tables.{Sounding}
 use Rattle.marks.specs.declared.Mark.{Mark}
 use Rattle.marks.specs.declared.Mark.TheVariants.{Nothing, Dot, Segment}
 
@@ -35,8 +34,8 @@ DrawnAt t i p = IsPoint (degree_of t.0) (exact (corner t i)) p
 
 -- "the answer is nothing where it has no reading, and otherwise a dot at its corner 1."
 abbrev pub IsMark : TriangleCode → Sounding → Mark → Type 0
-IsMark t NoReading m = Shows m 0 []
-IsMark t (Reading x) m = (p : Point) × DrawnAt t 1 p × Shows m 1 (p ∷ [])
+IsMark t None m = Shows m 0 []
+IsMark t (Some x) m = (p : Point) × DrawnAt t 1 p × Shows m 1 (p ∷ [])
 
 -- "Asked for an edge of a triangle, it is a segment between that edge's corners in rising number."
 abbrev pub IsEdgeMark : TriangleCode → (edge : ℕ) → Mark → Type 0

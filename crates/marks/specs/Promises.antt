@@ -1,5 +1,5 @@
 -- Document 02, 2026-14: what is promised of the calls for marks. Assumes nothing.
-use Rattle.std.specs.Prelude.{◌≡◌, ◌⊎◌, ◌↔◌, List, [], ◌∷◌, ℕ, ℤ}
+use Rattle.std.specs.Prelude.{◌≡◌, ◌⊎◌, ◌↔◌, List, [], ◌∷◌, ℕ, ℤ, None}
 use Rattle.frame.specs.Promises.{Keeps}
 use Rattle.words.specs.declared.TriangleCode.{TriangleCode}
 use Rattle.corners.specs.Refusals.{refuse_numbered}
@@ -12,7 +12,6 @@ use Rattle.filing.specs.declared.Point.{Point}
 use Rattle.tables.specs.Refusals.{refuse_get}
 use Rattle.tables.specs.Answers.{GetAnswer}
 use Rattle.tables.specs.declared.SoundingAnswer.{SoundingAnswer}
-use Rattle.tables.specs.declared.Sounding.TheVariants.{Nothing as NoReading}
 use Rattle.marks.specs.declared.MarkAnswer.{MarkAnswer}
 use Rattle.marks.specs.Marks.{number_of, Shows}
 use Rattle.marks.specs.Answers.{no_mark, no_edge_mark, TableMarkAnswer, EdgeMarkAnswer}
@@ -30,10 +29,10 @@ pub record OneAnswer : Type 0 where
 pub record OfTable : Type 0 where
   pub nothing : (n : ℕ) (t : TriangleCode) (list : List ℤ) (r : MarkAnswer) (g : SoundingAnswer)
       → TableMarkAnswer n t list r → GetAnswer n t list g
-      → (g.sounding ≡ NoReading) ↔ Shows r.mark 0 []
+      → (g.sounding ≡ None) ↔ Shows r.mark 0 []
   pub dot : (n : ℕ) (t : TriangleCode) (list : List ℤ) (r : MarkAnswer) (g : SoundingAnswer)
       → TableMarkAnswer n t list r → GetAnswer n t list g
-      → (g.sounding ≡ NoReading → ⊥) ↔ (number_of r.mark ≡ 1)
+      → (g.sounding ≡ None → ⊥) ↔ (number_of r.mark ≡ 1)
   pub refused : (n : ℕ) (t : TriangleCode) (list : List ℤ) (r : MarkAnswer) (g : SoundingAnswer)
       → TableMarkAnswer n t list r → GetAnswer n t list g
       → (r.refusal ≡ g.refusal) × (r.place ≡ g.place)

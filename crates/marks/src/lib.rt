@@ -36,12 +36,8 @@ fn mark_of(t: TriangleCode, s: Sounding) -> Mark
     ensures { IsMark t s result }
 {
     match s {
-        Sounding::Nothing => Mark::Nothing,
-        Sounding::Reading(_) => {
-            let corner = points::drawn_of(t, 1);
-            let at = corner.at;
-            Mark::Dot(at)
-        }
+        None => Mark::Nothing,
+        Some(_) => Mark::Dot(points::drawn_of(t, 1).at),
     }
 }
 
@@ -57,11 +53,10 @@ pub fn table_mark(degree: u64, t: TriangleCode, list: &[i32]) -> MarkAnswer
             mark: Mark::Nothing,
         };
     }
-    let s = got.sounding;
     MarkAnswer {
         refusal: 0,
         place: 0,
-        mark: mark_of(t, s),
+        mark: mark_of(t, got.sounding),
     }
 }
 
@@ -77,10 +72,8 @@ pub fn edge_mark(t: TriangleCode, edge: u64) -> MarkAnswer
             mark: Mark::Nothing,
         };
     }
-    let lower = points::drawn_of(t, of_three(edge, 2, 1, 1));
-    let higher = points::drawn_of(t, of_three(edge, 3, 3, 2));
-    let from = lower.at;
-    let to = higher.at;
+    let from = points::drawn_of(t, of_three(edge, 2, 1, 1)).at;
+    let to = points::drawn_of(t, of_three(edge, 3, 3, 2)).at;
     MarkAnswer {
         refusal: 0,
         place: 0,

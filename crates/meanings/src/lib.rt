@@ -54,9 +54,9 @@ pub fn said_of(number: i32) -> Sounding
     ensures { result ≡ said number }
 {
     if number == -1 {
-        return Sounding::Nothing;
+        return None;
     }
-    Sounding::Reading(number)
+    Some(number)
 }
 
 // ---- what a desk does with a triangle

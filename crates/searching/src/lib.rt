@@ -3,7 +3,7 @@
 #![tactic(auto)]
 
 ghost use Rattle.std.specs.Prelude.{◌≡◌};
-ghost use Rattle.tables.specs.Tables.{any_bad, least_bad};
+ghost use Rattle.tables.specs.Tables.{is_bad, any_bad, least_bad};
 ghost use Rattle.tables.specs.Owners.{any_other};
 
 use meanings::{is_bad, is_other};
@@ -14,12 +14,8 @@ pub fn any_bad(list: &[i32]) -> bool
     ensures { result ≡ any_bad list.now }
 {
     let mut found = false;
-    let mut i = 0;
-    while i < list.len() {
-        if is_bad(list[i]) {
-            found = true;
-        }
-        i += 1;
+    for &number in list {
+        found |= is_bad(number);
     }
     found
 }
@@ -28,14 +24,13 @@ pub fn any_bad(list: &[i32]) -> bool
 pub fn least_bad(list: &[i32]) -> usize
     ensures { result ≡ least_bad list.now }
 {
-    let mut least = 0;
-    while least < list.len() {
-        if is_bad(list[least]) {
-            return least;
-        }
-        least += 1;
-    }
-    least
+    list.iter()
+        .position(
+            |number|
+                ensures { result ≡ is_bad number.now }
+            { is_bad(*number) },
+        )
+        .unwrap_or(list.len())
 }
 
 // Whether the list of owners holds another number than an owner. It looks at every place too.
@@ -43,12 +38,8 @@ pub fn any_other(owners: &[u8]) -> bool
     ensures { result ≡ any_other owners.now }
 {
     let mut found = false;
-    let mut place = 0;
-    while place < owners.len() {
-        if is_other(owners[place]) {
-            found = true;
-        }
-        place += 1;
+    for &owner in owners {
+        found |= is_other(owner);
     }
     found
 }

@@ -31,7 +31,7 @@ pub fn get(degree: u64, t: TriangleCode, list: &[i32]) -> SoundingAnswer
         return SoundingAnswer {
             refusal: a.refusal,
             place: a.place,
-            sounding: Sounding::Nothing,
+            sounding: None,
         };
     }
     let i = ordering::place_of(t) as usize;

@@ -3,7 +3,7 @@
 // `octets::get8` of its bytes. What the numbers of a table are is said in the crate tables.
 #![tactic(auto)]
 
-ghost use Rattle.std.specs.Prelude.{◌≡◌, map, ◌+◌, ◌*◌, ◌≤◌, length};
+ghost use Rattle.std.specs.Prelude.{◌≡◌, ℕ, map, ◌+◌, ◌*◌, ◌≤◌, length};
 ghost use Rattle.frame.specs.Answers.{over};
 ghost use Rattle.octets.specs.Bytes.{bytes, read_each};
 ghost use Rattle.tables.specs.Owners.{shared};
@@ -19,62 +19,68 @@ const ALL: u64 = 0xFFFF_FFFF_FFFF_FFFF;
 
 // ---- one number
 
-// A number of a table's readings as it is written.
-fn word_of(x: i32) -> u64
-    ensures { result ≡ word_of x }
-{
-    if x < 0 {
-        return ALL - (-1 - x) as u64;
-    }
-    x as u64
+// What a list of a table holds, as a number of its file.
+trait Filed: Copy {
+    ghost to_word: { Self → ℕ };
+
+    ghost from_word: { ℕ → Self };
+
+    fn to_word(self) -> u64
+        ensures { result ≡ to_word self };
+
+    fn from_word(w: u64) -> Self
+        ensures { result ≡ from_word w };
 }
 
-// A number of a file as one of the readings.
-fn reading_of(w: u64) -> i32
-    ensures { result ≡ reading_of w }
-{
-    if w <= 100000 {
-        return w as i32;
+// One of the readings.
+impl Filed for i32 {
+    ghost to_word = { word_of };
+
+    ghost from_word = { reading_of };
+
+    fn to_word(self) -> u64 {
+        if self < 0 {
+            return ALL - (-1 - self) as u64;
+        }
+        self as u64
     }
-    if w == ALL {
-        return -1;
+
+    fn from_word(w: u64) -> i32 {
+        match w {
+            0..=100000 => w as i32,
+            ALL => -1,
+            _ => -2,
+        }
     }
-    -2
 }
 
-// A number of a file as one of the owners.
-fn owner_of(w: u64) -> u8
-    ensures { result ≡ owner_of w }
-{
-    if w <= 2 {
-        return w as u8;
+// One of the owners.
+impl Filed for u8 {
+    ghost to_word = { λ owner. owner };
+
+    ghost from_word = { owner_of };
+
+    fn to_word(self) -> u64 {
+        self as u64
     }
-    3
+
+    fn from_word(w: u64) -> u8 {
+        match w {
+            0..=2 => w as u8,
+            _ => 3,
+        }
+    }
 }
 
 // ---- written
 
-// The readings over the front of out.
-fn put_readings(list: &[i32], out: &mut [u8])
+// The numbers of a list over the front of out.
+fn put_list<T: Filed>(list: &[T], out: &mut [u8])
     requires { 8 * length list.now ≤ length out.old }
-    ensures { out.new ≡ over (bytes 8 (map word_of list.now)) out.old }
+    ensures { out.new ≡ over (bytes 8 (map T.to_word list.now)) out.old }
 {
-    let mut i = 0;
-    while i < list.len() {
-        put8(word_of(list[i]), &mut out[8 * i..]);
-        i += 1;
-    }
-}
-
-// The owners over the front of out.
-fn put_owners(owners: &[u8], out: &mut [u8])
-    requires { 8 * length owners.now ≤ length out.old }
-    ensures { out.new ≡ over (bytes 8 owners.now) out.old }
-{
-    let mut i = 0;
-    while i < owners.len() {
-        put8(owners[i] as u64, &mut out[8 * i..]);
-        i += 1;
+    for (place, number) in list.iter().enumerate() {
+        put8(number.to_word(), &mut out[8 * place..]);
     }
 }
 
@@ -86,33 +92,19 @@ pub fn put_table(degree: u64, list: &[i32], owners: &[u8], out: &mut [u8])
 {
     let after = 8 * (1 + list.len());
     put8(degree, out);
-    put_readings(list, &mut out[8..]);
-    put_owners(owners, &mut out[after..]);
+    put_list(list, &mut out[8..]);
+    put_list(owners, &mut out[after..]);
 }
 
 // ---- read
 
-// A reading for every place of the list.
-fn read_readings(bytes: &[u8], list: &mut [i32])
+// A number for every place of the list.
+fn read_list<T: Filed>(bytes: &[u8], list: &mut [T])
     requires { 8 * length list.old ≤ length bytes.now }
-    ensures { list.new ≡ read_each reading_of 8 (length list.old) bytes.now }
+    ensures { list.new ≡ read_each T.from_word 8 (length list.old) bytes.now }
 {
-    let mut i = 0;
-    while i < list.len() {
-        list[i] = reading_of(get8(&bytes[8 * i..]));
-        i += 1;
-    }
-}
-
-// An owner for every place of the list.
-fn read_owners(bytes: &[u8], owners: &mut [u8])
-    requires { 8 * length owners.old ≤ length bytes.now }
-    ensures { owners.new ≡ read_each owner_of 8 (length owners.old) bytes.now }
-{
-    let mut i = 0;
-    while i < owners.len() {
-        owners[i] = owner_of(get8(&bytes[8 * i..]));
-        i += 1;
+    for (place, number) in list.iter_mut().enumerate() {
+        *number = T::from_word(get8(&bytes[8 * place..]));
     }
 }
 
@@ -124,8 +116,8 @@ pub fn read_table(bytes: &[u8], list: &mut [i32], owners: &mut [u8])
         ≡ owners_in (length list.old) (length owners.old) bytes.now) }
 {
     let start = 8 * (1 + list.len());
-    read_readings(&bytes[8..], list);
-    read_owners(&bytes[start..], owners);
+    read_list(&bytes[8..], list);
+    read_list(&bytes[start..], owners);
 }
 
 // ---- refused

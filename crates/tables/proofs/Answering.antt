@@ -7,11 +7,10 @@ use lib.IntN.{ℤ}
 use Rattle.frame.specs.Answers.{Known}
 use Rattle.frame.proofs.Answering.{answering, refused_as}
 use Rattle.words.specs.declared.TriangleCode.{TriangleCode}
-use Rattle.tables.specs.Tables.{least_bad, said, number_at}
+use Rattle.tables.specs.Tables.{least_bad, said, number_at, Sounding}
 use Rattle.tables.specs.Refusals.{refuse_get}
 use Rattle.tables.specs.Answers.{table_answer, sounding_answer, refused, GetAnswer}
-use Rattle.tables.specs.declared.Sounding.{Sounding}
-use Rattle.tables.specs.declared.Sounding.TheVariants.{Nothing}
+use Rattle.std.specs.Prelude.{None}
 use Rattle.tables.specs.declared.TableAnswer.{TableAnswer}
 
 -- ---- the place beside a refusal
@@ -46,9 +45,9 @@ module _ (list : List ℤ) (f : ℕ) (a : TableAnswer) (e : a ≡ refused list f
 
 module _ (n : ℕ) (t : TriangleCode) (list : List ℤ) (a : TableAnswer) (e : a ≡ refused list (refuse_get n t list))
   where
-    pub get_refused : (a.refusal ≡ 0 → ⊥) → GetAnswer n t list (sounding_answer a.refusal a.place Nothing)
+    pub get_refused : (a.refusal ≡ 0 → ⊥) → GetAnswer n t list (sounding_answer a.refusal a.place None)
     get_refused d =
-        refused_as (ap (λ (r : TableAnswer). sounding_answer r.refusal r.place Nothing) e) (some list _ a e d)
+        refused_as (ap (λ (r : TableAnswer). sounding_answer r.refusal r.place None) e) (some list _ a e d)
 
     pub get_found : a.refusal ≡ 0 → {s : Sounding} → s ≡ said (number_at t list)
         → GetAnswer n t list (sounding_answer 0 0 s)

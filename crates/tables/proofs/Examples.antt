@@ -12,13 +12,12 @@ use Rattle.frame.proofs.Answering.{known_gives, no_other}
 use Rattle.words.specs.Words.{first_digits, path, word_in}
 use Rattle.words.specs.Counting.{place_of}
 use Rattle.words.specs.Writing.{decimals, written}
-use Rattle.tables.specs.Tables.{number}
+use Rattle.tables.specs.Tables.{number, Sounding}
 use Rattle.tables.specs.Owners.{Shared}
 use Rattle.tables.specs.Refusals.{refuse_call, refuse_deed}
 use Rattle.tables.specs.Histories.{answers, after}
 use Rattle.tables.specs.Examples.{Examples, Bounds, Mistakes}
-use Rattle.tables.specs.declared.Sounding.{Sounding}
-use Rattle.tables.specs.declared.Sounding.TheVariants.{Nothing, Reading}
+use Rattle.std.specs.Prelude.{None, Some}
 use Rattle.tables.specs.declared.SoundingAnswer.{SoundingAnswer}
 use Rattle.tables.specs.declared.TableAnswer.{TableAnswer}
 
@@ -98,8 +97,8 @@ heard r = told (number r.sounding)
 
 -- a reading, or none
 abbrev case : Sounding → ℕ
-case Nothing = 0
-case (Reading x) = 1
+case None = 0
+case (Some x) = 1
 
 pub mistakes : Mistakes
 unfolding place_of some first_place first_of refuse_call refuse_deed decimals written path word_in first_digits

@@ -11,11 +11,10 @@ use Rattle.frame.proofs.Scanning.{none_at, none_set, none_replicate}
 use Rattle.words.specs.Refusals.{IsCode}
 use Rattle.words.specs.Counting.{place_of}
 use Rattle.words.specs.declared.TriangleCode.{TriangleCode}
-use Rattle.tables.specs.Tables.{places, none, is_bad, IsTable, said, number, number_at}
+use Rattle.tables.specs.Tables.{places, none, is_bad, IsTable, said, number, number_at, Sounding}
 use Rattle.tables.specs.Owners.{nobody, is_desk, is_other, owner_at, Shared, IsShared, fresh_shared}
 use Rattle.tables.specs.Owners.{Held, held, held_at, owner_after, sounding_after, held_after, hold, shared_after}
 use Rattle.tables.specs.Refusals.{out_of_range}
-use Rattle.tables.specs.declared.Sounding.{Sounding}
 use Rattle.tables.specs.declared.Deed.{Deed}
 use Rattle.tables.specs.declared.Deed.TheVariants.{Taking, Setting, Clearing, Giving}
 use Rattle.tables.proofs.Numbers.{reading_good, said_is, number_said, desk_not_other}

@@ -8,10 +8,9 @@ use lib.Dec.{ltb, leb, eqb, eqb-suc-zero}
 use lib.IntN.{ℤ, pos, negsuc}
 use lib.Signed.{lt_z, le_z}
 use Rattle.frame.specs.Refusals.{◌either◌}
-use Rattle.tables.specs.Tables.{is_reading, none, is_bad, said, number}
+use Rattle.tables.specs.Tables.{is_reading, none, is_bad, said, number, Sounding}
 use Rattle.tables.specs.Owners.{nobody, is_desk, is_other}
-use Rattle.tables.specs.declared.Sounding.{Sounding}
-use Rattle.tables.specs.declared.Sounding.TheVariants.{Nothing, Reading}
+use Rattle.std.specs.Prelude.{None, Some}
 
 -- ---- bad: below -1, or above 100,000
 
@@ -44,15 +43,15 @@ reading_good x e = rw e
 
 -- ---- what a number says
 
-pub said_nothing : (x : ℤ) → x ≡ none → said x ≡ Nothing
+pub said_nothing : (x : ℤ) → x ≡ none → said x ≡ None
 said_nothing x e = ap said e
 
-pub said_reading : (x : ℤ) → (x ≡ none → ⊥) → said x ≡ Reading x
+pub said_reading : (x : ℤ) → (x ≡ none → ⊥) → said x ≡ Some x
 said_reading (pos n) d = refl
 said_reading (negsuc zero) d = absurd (d refl)
 said_reading (negsuc (suc n)) d = rw (eqb-suc-zero n)
 
-pub said_is : (x : ℤ) → is_reading x ≡ true → said x ≡ Reading x
+pub said_is : (x : ℤ) → is_reading x ≡ true → said x ≡ Some x
 said_is (pos r) e = refl
 said_is (negsuc r) e = absurd (true≢false (sym e))
 
@@ -63,13 +62,13 @@ number_said (negsuc zero) = refl
 number_said (negsuc (suc n)) = rw (eqb-suc-zero n)
 
 abbrev is_there : Sounding → Bool
-is_there Nothing = false
-is_there (Reading x) = true
+is_there None = false
+is_there (Some x) = true
 
-pub no_reading : {s : Sounding} {x : ℤ} → s ≡ Nothing → s ≡ Reading x → ⊥
+pub no_reading : {s : Sounding} {x : ℤ} → s ≡ None → s ≡ Some x → ⊥
 no_reading e q = true≢false (sym (ap is_there q) ∙ ap is_there e)
 
-pub reading_said : (x y : ℤ) → is_bad y ≡ false → said y ≡ Reading x → is_reading x ≡ true
+pub reading_said : (x y : ℤ) → is_bad y ≡ false → said y ≡ Some x → is_reading x ≡ true
 reading_said x (pos n) e q = ap is_reading (sym (ap number q)) ∙ go (leb n 100000) refl
   where
     go : (b : Bool) → leb n 100000 ≡ b → leb n 100000 ≡ true

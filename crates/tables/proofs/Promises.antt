@@ -16,7 +16,7 @@ use Rattle.tables.specs.Refusals.{refuse_get, refuse_deed}
 use Rattle.tables.specs.Answers.{place_for, refused, refused_get, found, GetAnswer}
 use Rattle.tables.specs.Answers.{carried_out, refused_deed, DeedAnswer}
 use Rattle.tables.specs.Promises.{OneAnswer, IsLeastBad, Least, Visible}
-use Rattle.tables.specs.declared.Sounding.TheVariants.{Nothing, Reading}
+use Rattle.std.specs.Prelude.{None, Some}
 use Rattle.tables.specs.declared.Deed.{Deed}
 use Rattle.tables.specs.declared.Deed.TheVariants.{Taking, Setting, Clearing, Giving}
 use Rattle.tables.specs.declared.TableAnswer.{TableAnswer}
@@ -99,13 +99,13 @@ module _ (n : ℕ) (t : TriangleCode) (list : List ℤ) (r : SoundingAnswer) (p 
   told : r.refusal ≡ 0 → number r.sounding ≡ number_at t list
   told e = ap number (says (unrefused e)) ∙ number_said (number_at t list)
 
-  reading : (x : ℤ) → r.sounding ≡ Reading x → is_reading x ≡ true
+  reading : (x : ℤ) → r.sounding ≡ Some x → is_reading x ≡ true
   reading x q =
       ⊎_elim (λ z. reading_said x (number_at t list) (not_bad z) (sym (says z) ∙ q))
       (λ some. absurd (no_reading (ap (λ (y : SoundingAnswer). y.sounding) (p.refused some)) q))
       (answers_or_not (refuse_get n t list))
 
-  nothing : r.refusal ≡ 0 → (r.sounding ≡ Nothing) ↔ (number_at t list ≡ none)
+  nothing : r.refusal ≡ 0 → (r.sounding ≡ None) ↔ (number_at t list ≡ none)
   nothing e = (λ q. sym (told e) ∙ ap number q, λ q. says (unrefused e) ∙ ap said q)
 
 pub visible : Visible

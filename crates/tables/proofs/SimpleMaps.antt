@@ -26,7 +26,7 @@ use Rattle.tables.specs.Histories.{Call, asks, does, got, done, answers, doing, 
 use Rattle.tables.specs.Histories.{Map, other_degree_rows, map_rows, refuse_get_on_map, refuse_deed_on_map}
 use Rattle.tables.specs.Histories.{on_held, triangle_of, on_map}
 use Rattle.tables.specs.Promises.{SimpleMap}
-use Rattle.tables.specs.declared.Sounding.TheVariants.{Nothing}
+use Rattle.std.specs.Prelude.{None}
 use Rattle.tables.specs.declared.Deed.{Deed}
 use Rattle.tables.specs.declared.TableAnswer.{TableAnswer}
 use Rattle.tables.proofs.Places.{same_places}
@@ -170,10 +170,10 @@ module _ {n : ℕ} {s : Shared} (is : IsShared n s) (t : TriangleCode) (h : Held
       where
         go : (f : ℕ) → (f ≡ 23 → ⊥) → (f ≡ 0 → IsCode n t)
             → got (settled f (found t s.readings) (refused_get s.readings))
-            ≡ got (settled f (sounding_answer 0 0 h.sounding) (λ k. sounding_answer k 0 Nothing))
+            ≡ got (settled f (sounding_answer 0 0 h.sounding) (λ k. sounding_answer k 0 None))
         go zero d c = ap (λ (x : Held). got (sounding_answer 0 0 x.sounding)) (has (c refl))
         go (suc f) d c =
-            ap (λ (r : TableAnswer). got (sounding_answer (suc f) r.place Nothing))
+            ap (λ (r : TableAnswer). got (sounding_answer (suc f) r.place None))
             (sym (no_place s.readings (suc f) d))
 
     did : (e : Deed) (d m : ℕ) → Turned n (does e d m t) s h

@@ -2,14 +2,12 @@
 -- contract of get cites its own; those of the others have cited, since 2026-08, what stands in
 -- coarse/specs/Answers.antt, which leaves the readings and the owners as it is said here (AsBefore). `list` is the
 -- lent list of readings; `s` is both lists as they come, `new` as they are left. Assumes nothing.
-use Rattle.std.specs.Prelude.{cond, List, ℕ, eqb, ℤ}
+use Rattle.std.specs.Prelude.{cond, List, ℕ, eqb, ℤ, None}
 use Rattle.frame.specs.Answers.{Known}
 use Rattle.words.specs.declared.TriangleCode.{TriangleCode}
-use Rattle.tables.specs.Tables.{least_bad, said, number_at}
+use Rattle.tables.specs.Tables.{least_bad, said, number_at, Sounding}
 use Rattle.tables.specs.Owners.{Shared, shared_after}
 use Rattle.tables.specs.Refusals.{refuse_get, refuse_deed}
-use Rattle.tables.specs.declared.Sounding.{Sounding}
-use Rattle.tables.specs.declared.Sounding.TheVariants.{Nothing}
 use Rattle.tables.specs.declared.Deed.{Deed}
 use Rattle.tables.specs.declared.Deed.TheVariants.{Taking, Setting, Clearing, Giving}
 use Rattle.tables.specs.declared.TableAnswer.{TableAnswer}
@@ -32,7 +30,7 @@ refused list f = table_answer f (place_for list f)
 
 -- "Every refusal returns only its number and zeros" (document 01): the zero of a sounding is that there is none
 abbrev pub refused_get : List ℤ → (refusal : ℕ) → SoundingAnswer
-refused_get list f = sounding_answer f (place_for list f) Nothing
+refused_get list f = sounding_answer f (place_for list f) None
 
 -- ---- get
 

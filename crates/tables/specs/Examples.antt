@@ -1,6 +1,6 @@
 -- Document 02, 2026-03: what a stranger would try, each refusal at its bound, and wrong answers; the ice desk owns
 -- every triangle here, or takes it. Assumes nothing.
-use Rattle.std.specs.Prelude.{◌≡◌, List, [], ◌∷◌, ◌++◌, ℕ, ◌+◌, ℤ, pos, negsuc, length, set, replicate}
+use Rattle.std.specs.Prelude.{◌≡◌, List, [], ◌∷◌, ◌++◌, ℕ, ◌+◌, ℤ, pos, negsuc, length, set, replicate, None, Some}
 use Rattle.frame.specs.Promises.{◌gives◌, ◌leaves◌}
 use Rattle.words.specs.Family.{code_of}
 use Rattle.words.specs.Counting.{place_of}
@@ -10,7 +10,6 @@ use Rattle.tables.specs.Owners.{Shared, shared, fresh_shared}
 use Rattle.tables.specs.Refusals.{refuse_get, refuse_deed}
 use Rattle.tables.specs.Answers.{table_answer, sounding_answer, GetAnswer, SetAnswer, ClearAnswer}
 use Rattle.tables.specs.Histories.{Call, asks, does, Answered, got, done, answers, after, on_table}
-use Rattle.tables.specs.declared.Sounding.TheVariants.{Nothing, Reading}
 use Rattle.tables.specs.declared.Deed.TheVariants.{Taking, Setting, Clearing}
 
 -- ---- how examples are written
@@ -31,10 +30,10 @@ abbrev pub ok : Answered
 ok = done (table_answer 0 0)
 
 abbrev pub nothing : Answered
-nothing = got (sounding_answer 0 0 Nothing)
+nothing = got (sounding_answer 0 0 None)
 
 abbrev pub millimetres : ℕ → Answered
-millimetres x = got (sounding_answer 0 0 (Reading (pos x)))
+millimetres x = got (sounding_answer 0 0 (Some (pos x)))
 
 -- a table of degree 0 with these numbers at its places 3 and 7
 abbrev pub three_seven : (x y : ℤ) → List ℤ
@@ -98,10 +97,10 @@ pub record Bounds : Type 0 where
   pub places_80 : refuse_deed Clearing 1 1 (written 1000) (ours (replicate 80 none)) ≡ 0
   -- "23 the list holds a number that is neither a reading nor -1": "the least bad place, counted from 0", wherever the
   -- triangle lies
-  pub bad_get : GetAnswer 0 (written 100) (three_seven bad (pos 100001)) gives sounding_answer 23 3 Nothing
-  pub bad_later : GetAnswer 0 (written 100) (three_seven (pos 100000) (pos 100001)) gives sounding_answer 23 7 Nothing
-  pub bad_first : GetAnswer 0 (written 511) (pos 100001 ∷ replicate 19 none) gives sounding_answer 23 0 Nothing
-  pub bad_last : GetAnswer 0 (written 100) (replicate 19 none ++ (bad ∷ [])) gives sounding_answer 23 19 Nothing
+  pub bad_get : GetAnswer 0 (written 100) (three_seven bad (pos 100001)) gives sounding_answer 23 3 None
+  pub bad_later : GetAnswer 0 (written 100) (three_seven (pos 100000) (pos 100001)) gives sounding_answer 23 7 None
+  pub bad_first : GetAnswer 0 (written 511) (pos 100001 ∷ replicate 19 none) gives sounding_answer 23 0 None
+  pub bad_last : GetAnswer 0 (written 100) (replicate 19 none ++ (bad ∷ [])) gives sounding_answer 23 19 None
   pub bad_set : SetAnswer 1 0 (written 100) (pos 1) (ours (three_seven bad none))
       leaves (table_answer 23 3, ours (three_seven bad none))
   pub bad_clear : ClearAnswer 1 0 (written 100) (ours (three_seven bad none))
@@ -119,7 +118,7 @@ pub record Bounds : Type 0 where
   pub twentyone_before_23 : refuse_deed (Setting (pos 100001)) 1 0 (written 100) (ours (three_seven bad none)) ≡ 21
   pub twentytwo_before_23 : refuse_deed (Setting (pos 1)) 1 0 (written 100) (ours (bad ∷ [])) ≡ 22
   -- beside every other refusal the place is 0
-  pub no_place : GetAnswer 0 (written 100) (none ∷ bad ∷ []) gives sounding_answer 22 0 Nothing
+  pub no_place : GetAnswer 0 (written 100) (none ∷ bad ∷ []) gives sounding_answer 22 0 None
 
 -- Wrong answers that the promises refuse.
 pub record Mistakes : Type 0 where
@@ -135,15 +134,15 @@ pub record Mistakes : Type 0 where
   pub set_none : SetAnswer 1 0 (written 100) none (ours (pos 5 ∷ replicate 19 none)) (table_answer 0 0)
       (ours (fresh 0)) → ⊥
   -- no reading answered as the reading -1, or as 0
-  pub minus_1 : GetAnswer 0 (written 100) (fresh 0) (sounding_answer 0 0 (Reading none)) → ⊥
-  pub zero_read : GetAnswer 0 (written 100) (fresh 0) (sounding_answer 0 0 (Reading (pos 0))) → ⊥
+  pub minus_1 : GetAnswer 0 (written 100) (fresh 0) (sounding_answer 0 0 (Some none)) → ⊥
+  pub zero_read : GetAnswer 0 (written 100) (fresh 0) (sounding_answer 0 0 (Some (pos 0))) → ⊥
   -- a reading of 0 answered as none
-  pub zero_lost : GetAnswer 0 (written 100) (pos 0 ∷ replicate 19 none) (sounding_answer 0 0 Nothing) → ⊥
+  pub zero_lost : GetAnswer 0 (written 100) (pos 0 ∷ replicate 19 none) (sounding_answer 0 0 None) → ⊥
   -- the triangle's own place alone looked at for 23
-  pub own_alone : GetAnswer 0 (written 100) (three_seven bad none) (sounding_answer 0 0 Nothing) → ⊥
+  pub own_alone : GetAnswer 0 (written 100) (three_seven bad none) (sounding_answer 0 0 None) → ⊥
   -- the last bad place, or counted from 1
-  pub last_bad : GetAnswer 0 (written 100) (three_seven bad (pos 100001)) (sounding_answer 23 7 Nothing) → ⊥
-  pub from_1 : GetAnswer 0 (written 100) (three_seven bad (pos 100001)) (sounding_answer 23 4 Nothing) → ⊥
+  pub last_bad : GetAnswer 0 (written 100) (three_seven bad (pos 100001)) (sounding_answer 23 7 None) → ⊥
+  pub from_1 : GetAnswer 0 (written 100) (three_seven bad (pos 100001)) (sounding_answer 23 4 None) → ⊥
   -- stored before 23 is looked for
   pub stored_first : SetAnswer 1 0 (written 100) (pos 5) (ours (three_seven bad none)) (table_answer 23 3)
       (ours (pos 5 ∷ none ∷ none ∷ bad ∷ replicate 16 none)) → ⊥

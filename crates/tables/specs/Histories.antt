@@ -1,7 +1,7 @@
 -- Document 02, 2026-03: "Any sequence of calls answers as a simple map from code to reading or nothing.", with the
 -- owners of 2026-07. Calls of desks one after the other on one table, and the same calls on a map; and what one desk
 -- sees of a triangle. Assumes nothing.
-use Rattle.std.specs.Prelude.{Bool, false, not, ◌&&◌, cond, List, [], ◌∷◌, ◌++◌, ℕ, eqb}
+use Rattle.std.specs.Prelude.{Bool, false, not, ◌&&◌, cond, List, [], ◌∷◌, ◌++◌, ℕ, eqb, None}
 use Rattle.frame.specs.Refusals.{Row, ◌when◌, first_of}
 use Rattle.frame.specs.Answers.{settled}
 use Rattle.frame.specs.Lists.{those}
@@ -10,7 +10,6 @@ use Rattle.tables.specs.Owners.{nobody, Shared, Held, held, held_at, held_after,
 use Rattle.tables.specs.Refusals.{table_order, triangle_rows, out_of_range, refuse_get}
 use Rattle.tables.specs.Refusals.{desk_order, desk_rows, owner_rows, refuse_deed}
 use Rattle.tables.specs.Answers.{table_answer, sounding_answer, refused_get, found, carried_out, refused_deed}
-use Rattle.tables.specs.declared.Sounding.TheVariants.{Nothing}
 use Rattle.tables.specs.declared.Deed.{Deed}
 use Rattle.tables.specs.declared.TableAnswer.{TableAnswer}
 use Rattle.tables.specs.declared.SoundingAnswer.{SoundingAnswer}
@@ -49,7 +48,7 @@ abbrev pub Map : Type 0
 Map = TriangleCode → Held
 
 abbrev pub empty : Map
-empty t = held nobody Nothing
+empty t = held nobody None
 
 abbrev pub with : TriangleCode → Held → Map → Map
 with t h map u = cond (eqb u.0 t.0) h (map u)
@@ -76,7 +75,7 @@ refuse_deed_on_map n e d m t o = first_of desk_order (map_rows n (out_of_range e
 -- a call's answer by what the map has for its triangle, and what that is then
 abbrev pub on_held : (table : ℕ) → Call → Held → Answered × Held
 on_held n (asks d m t) h =
-    (got (settled (refuse_get_on_map n m t) (sounding_answer 0 0 h.sounding) (λ f. sounding_answer f 0 Nothing)), h)
+    (got (settled (refuse_get_on_map n m t) (sounding_answer 0 0 h.sounding) (λ f. sounding_answer f 0 None)), h)
 on_held n (does e d m t) h =
     doing (settled (refuse_deed_on_map n e d m t h.owner) (table_answer 0 0, held_after e d h)
     (λ f. (table_answer f 0, h)))

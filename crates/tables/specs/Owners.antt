@@ -1,12 +1,10 @@
 -- Document 02, 2026-07: the owners of a table's triangles, and what the four calls that write leave. Assumes nothing.
-use Rattle.std.specs.Prelude.{◌≡◌, ℕ, Bool, true, false, not, List, eqb, ℤ, length, get_or, set, replicate}
+use Rattle.std.specs.Prelude.{◌≡◌, ℕ, Bool, true, false, not, List, eqb, ℤ, length, get_or, set, replicate, None, Some}
 use Rattle.frame.specs.Refusals.{◌either◌}
 use Rattle.frame.specs.Lists.{some}
 use Rattle.words.specs.Counting.{place_of}
 use Rattle.words.specs.declared.TriangleCode.{TriangleCode}
-use Rattle.tables.specs.Tables.{places, IsTable, fresh, said, number, number_at}
-use Rattle.tables.specs.declared.Sounding.{Sounding}
-use Rattle.tables.specs.declared.Sounding.TheVariants.{Nothing, Reading}
+use Rattle.tables.specs.Tables.{places, IsTable, fresh, said, number, number_at, Sounding}
 use Rattle.tables.specs.declared.Deed.{Deed}
 use Rattle.tables.specs.declared.Deed.TheVariants.{Taking, Setting, Clearing, Giving}
 
@@ -85,9 +83,9 @@ owner_after Giving d o = nobody
 -- what it has then: "taking a free one keeps its reading, giving back clears it"
 abbrev pub sounding_after : Deed → Sounding → Sounding
 sounding_after Taking s = s
-sounding_after (Setting x) s = Reading x
-sounding_after Clearing s = Nothing
-sounding_after Giving s = Nothing
+sounding_after (Setting x) s = Some x
+sounding_after Clearing s = None
+sounding_after Giving s = None
 
 abbrev pub held_after : Deed → (desk : ℕ) → Held → Held
 held_after e d h = held (owner_after e d h.owner) (sounding_after e h.sounding)

@@ -1,5 +1,5 @@
 -- Document 02, 2026-03 and 2026-07: what is promised of the calls. Assumes nothing.
-use Rattle.std.specs.Prelude.{◌≡◌, true, false, List, [], ◌∷◌, ◌++◌, ◌↔◌, ◌⊎◌, ℕ, ◌≤◌, ◌<◌, ℤ, length, get_or}
+use Rattle.std.specs.Prelude.{◌≡◌, true, false, List, [], ◌∷◌, ◌++◌, ◌↔◌, ◌⊎◌, ℕ, ◌≤◌, ◌<◌, ℤ, length, get_or, None, Some}
 use Rattle.frame.specs.Refusals.{first_of}
 use Rattle.frame.specs.Promises.{Keeps, KeepsLent}
 use Rattle.words.specs.Refusals.{IsCode}
@@ -13,7 +13,6 @@ use Rattle.tables.specs.Answers.{refused, refused_get, GetAnswer}
 use Rattle.tables.specs.Answers.{DeedAnswer, TakeAnswer, SetAnswer, ClearAnswer, GiveAnswer}
 use Rattle.tables.specs.Histories.{Call, asks, does, got, done, answers, after, on_table, map_of, empty, on_map}
 use Rattle.tables.specs.Histories.{calls_about, without, seen}
-use Rattle.tables.specs.declared.Sounding.TheVariants.{Nothing, Reading}
 use Rattle.tables.specs.declared.Deed.{Deed}
 use Rattle.tables.specs.declared.Deed.TheVariants.{Taking, Setting, Clearing, Giving}
 use Rattle.tables.specs.declared.TableAnswer.{TableAnswer}
@@ -65,9 +64,9 @@ pub record Visible : Type 0 where
   pub told : (n : ℕ) (t : TriangleCode) (list : List ℤ) (r : SoundingAnswer) → GetAnswer n t list r
       → r.refusal ≡ 0 → number r.sounding ≡ number_at t list
   pub reading : (n : ℕ) (t : TriangleCode) (list : List ℤ) (r : SoundingAnswer) (x : ℤ) → GetAnswer n t list r
-      → r.sounding ≡ Reading x → is_reading x ≡ true
+      → r.sounding ≡ Some x → is_reading x ≡ true
   pub nothing : (n : ℕ) (t : TriangleCode) (list : List ℤ) (r : SoundingAnswer) → GetAnswer n t list r
-      → r.refusal ≡ 0 → (r.sounding ≡ Nothing) ↔ (number_at t list ≡ none)
+      → r.refusal ≡ 0 → (r.sounding ≡ None) ↔ (number_at t list ≡ none)
 
 -- "Any sequence of calls answers as a simple map from code to reading or nothing.", with an owner
 pub record SimpleMap : Type 0 where

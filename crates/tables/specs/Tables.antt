@@ -1,11 +1,9 @@
 -- Document 02, 2026-03: the list of a table. Assumes nothing.
-use Rattle.std.specs.Prelude.{◌≡◌, ℕ, ◌*◌, ◌^◌, ◌≤◌, Bool, false, not, cond, List, leb, eqb, ℤ, pos, negsuc, length, get_or, replicate}
+use Rattle.std.specs.Prelude.{◌≡◌, ℕ, ◌*◌, ◌^◌, ◌≤◌, Bool, false, not, cond, List, leb, eqb, ℤ, pos, negsuc, length, get_or, replicate, Option, None, Some}
 use Rattle.frame.specs.Refusals.{◌either◌}
 use Rattle.frame.specs.Lists.{some, first_place}
 use Rattle.words.specs.Counting.{place_of}
 use Rattle.words.specs.declared.TriangleCode.{TriangleCode}
-use Rattle.tables.specs.declared.Sounding.{Sounding}
-use Rattle.tables.specs.declared.Sounding.TheVariants.{Nothing, Reading}
 
 -- ---- the numbers
 
@@ -52,12 +50,15 @@ fresh n = replicate (places n) none
 
 -- ---- "reading or nothing": what a number of the list says, and the paper's number for each case
 
+abbrev pub Sounding : Type 0
+Sounding = Option ℤ
+
 abbrev pub said : ℤ → Sounding
-said x = cond (is_none x) Nothing (Reading x)
+said x = cond (is_none x) None (Some x)
 
 abbrev pub number : Sounding → ℤ
-number Nothing = none
-number (Reading r) = r
+number None = none
+number (Some r) = r
 
 -- ---- a triangle's place: "ordered by code"
 

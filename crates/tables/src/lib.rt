@@ -5,11 +5,7 @@
 #![tactic(auto)]
 
 // What a table has for a triangle: no reading, or one in millimetres.
-#[derive(Clone, Copy)]
-pub enum Sounding {
-    Nothing,
-    Reading(i32),
-}
+pub type Sounding = Option<i32>;
 
 // What a desk is to do with a triangle: take it, set this reading, clear, or give it back.
 #[derive(Clone, Copy)]

@@ -27,12 +27,6 @@ reading c =
     let x = c.args.number in
     counts x (rw (to_z-of_z w32 x c.ranges.number) at c.if-number-lt0.false)
 
-pub overflow_cast-result : goal.overflow_cast-result
-overflow_cast-result c =
-    let x = c.args.number in
-    rw (to_z-of_z w32 x c.ranges.number)
-    ((reading c).castable, omega (arith, (reading c).cast, c.ranges.number.sfits))
-
 pub returns : goal.returns
 returns c =
     let x = c.args.number in

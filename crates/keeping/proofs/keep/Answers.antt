@@ -4,7 +4,7 @@ use native.Mathlib.Omega.{arith}
 use lib.ListN.{length}
 use Rattle.net.specs.Division.{sum}
 use Rattle.coarse.specs.Sums.{count_in, sum_in, coarse}
-use Rattle.coarse.proofs.Children.{Above, above, kept_set, kept_none}
+use Rattle.coarse.proofs.Children.{Above, above, kept_set}
 use Rattle.keeping.proofs.keep.Goals as goal
 use Rattle.keeping.proofs.keep.Lts as lts
 use Rattle.keeping.proofs.keep.Reads as reads
@@ -12,17 +12,6 @@ use Rattle.keeping.proofs.keep.Tie as tie
 
 abbrev After-parent_place : Type 0
 After-parent_place = lts.After-parent_place tie.the-claims reads.Pre reads.Post
-
-pub returns-then-degree-eq0 : goal.returns-then-degree-eq0
-returns-then-degree-eq0 c =
-    let a = c.args in
-    let list = a.list.now in
-    λ i. coarse (kept_none a.degree c.if-degree-eq0.true a.t (λ p. count_in p list) a.counts.now i)
-    (kept_none a.degree c.if-degree-eq0.true a.t (λ p. sum_in p list) a.sums.now i)
-
-pub parent_place-requires : goal.parent_place-requires
-parent_place-requires c =
-    (c.requires.1.passes, omega (arith, c.if-degree-eq0.false, c.requires.1.degree_is))
 
 -- the parent's place
 up : (c : After-parent_place) → (let a = c.args in

@@ -12,10 +12,7 @@ use Rattle.keeping.proofs.store_all.Invariants.{counted, summed}
 
 pub loop-p-init : goal.loop-p-init
 unfolding below
-loop-p-init c = (omega arith, refl, refl, refl, refl)
-
-pub store-requires : goal.store-requires
-store-requires c = (omega arith, omega arith, omega arith)
+loop-p-init c = (refl, refl, refl, refl)
 
 pub loop-p-preserved : goal.loop-p-preserved
 loop-p-preserved c =
@@ -23,25 +20,18 @@ loop-p-preserved c =
     let a = c.args in
     let list = a.list.now in
     let e = c.store.ensures in (
-      omega arith,
-      simp add-one (e.0 ∙ ap (λ (x : List ℕ). set x l.p (counted list l.p)) l.invariant.1
+      simp add-one (e.0 ∙ ap (λ (x : List ℕ). set x l.p (counted list l.p)) l.invariant.0
           ∙ below_next (counted list) a.counts.now l.p (omega arith) refl),
-      ap length e.0 ∙ length-set l.counts l.p (counted list l.p) ∙ l.invariant.2,
-      simp add-one (e.1 ∙ ap (λ (x : List ℕ). set x l.p (summed list l.p)) l.invariant.3
+      ap length e.0 ∙ length-set l.counts l.p (counted list l.p) ∙ l.invariant.1,
+      simp add-one (e.1 ∙ ap (λ (x : List ℕ). set x l.p (summed list l.p)) l.invariant.2
           ∙ below_next (summed list) a.sums.now l.p (omega arith) refl),
-      ap length e.1 ∙ length-set l.sums l.p (summed list l.p) ∙ l.invariant.4,
+      ap length e.1 ∙ length-set l.sums l.p (summed list l.p) ∙ l.invariant.3,
     )
-
-pub shape_of-counts : goal.shape_of-counts
-shape_of-counts c = c.loop-p.invariant.2
-
-pub shape_of-sums : goal.shape_of-sums
-shape_of-sums c = c.loop-p.invariant.4
 
 pub returns : goal.returns
 returns c =
     let l = c.loop-p in
     let a = c.args in (
-      l.invariant.1 ∙ below_all (counted a.list.now) a.counts.now l.p (omega arith) l.invariant.0,
-      l.invariant.3 ∙ below_all (summed a.list.now) a.sums.now l.p (omega arith) (omega arith),
+      l.invariant.0 ∙ below_all (counted a.list.now) a.counts.now l.p (omega arith) (omega arith),
+      l.invariant.2 ∙ below_all (summed a.list.now) a.sums.now l.p (omega arith) (omega arith),
     )

@@ -1,7 +1,7 @@
 -- The loop writes place by place (frame's Below). Assumes nothing.
 use mathlib.Core.Path.{◌≡◌}
 use mathlib.Core.List.{List}
-use Prim.Native.Nat.{ℕ, ◌-◌, ◌*◌, ◌≤◌}
+use Prim.Native.Nat.{ℕ, ◌*◌}
 use lib.IntN.{ℤ}
 use lib.ListN.{length}
 use Rattle.frame.specs.Answers.{over}
@@ -18,9 +18,6 @@ summed list i = sum (present_from (4 * i) list)
 
 abbrev pub invariant-loop-p : goal.invariant-loop-p
 invariant-loop-p l =
-    (l.p ≤ length l.initial.counts) × (l.counts ≡ over (below l.p (counted l.list)) l.initial.counts)
+    (l.counts ≡ over (below l.p (counted l.list)) l.initial.counts)
     × (length l.counts ≡ length l.initial.counts) × (l.sums ≡ over (below l.p (summed l.list)) l.initial.sums)
     × (length l.sums ≡ length l.initial.sums)
-
-abbrev pub decreases-loop-p : goal.decreases-loop-p
-decreases-loop-p l = length l.counts - l.p

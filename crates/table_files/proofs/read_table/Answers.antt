@@ -14,8 +14,8 @@ returns c =
     let bytes = c.args.bytes.now in
     let k = length c.args.list.now in
     let m = length c.args.owners.now in (
-      c.read_readings.ensures
+      c.read_list.ensures
           ∙ ap (λ (bs : List ℕ). read_each reading_of 8 k bs) (rest bytes 8 (omega (arith, c.requires))),
-      c.read_owners.ensures
+      c.read_list-2.ensures
           ∙ ap (λ (bs : List ℕ). read_each owner_of 8 m bs) (rest bytes (8 * (1 + k)) (omega (arith, c.requires))),
     )

@@ -72,7 +72,7 @@ pub struct Found {
 pub fn look_at(w: u64, last: Reach) -> Found
     ensures { (result.reason ≡ reason_after last w) × (result.reason ≡ 0 → result.own ≡ reach w) }
 {
-    if TriangleCode(w).check() != 0 {
+    if TriangleCode(w).check().is_err() {
         return Found {
             reason: 1,
             own: last,

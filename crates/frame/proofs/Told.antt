@@ -4,10 +4,10 @@ use mathlib.Core.Path.{◌≡◌, ◌∙◌, refl, sym, ap, subst}
 use mathlib.Core.Logic.{◌⊎◌, inl, inr, ⊎_elim}
 use mathlib.Core.List.{List, [], ◌∷◌}
 use Prim.Native.Nat.{ℕ}
-use mathlib.Core.Bool.{Bool, true, false, cond, ◌&&◌}
+use mathlib.Core.Bool.{Bool, true, false, cond, ◌&&◌, true≢false}
 use lib.Dec.{T, eqb, eqb→eq}
 use native.Mathlib.Omega.{arith}
-use Rattle.std.specs.Prelude.{Result, Ok, Err, IsErr}
+use Rattle.std.specs.Prelude.{Result, Ok, Err, IsErr, is_err}
 use Rattle.std.specs.Result.{IsErrAnd}
 use Rattle.frame.specs.Refusals.{Row, given, first_of, number, told, told_number}
 use Rattle.frame.specs.Promises.{Keeps}
@@ -114,6 +114,15 @@ handed (Err e) h = ap Err h.1
 
 -- ---- results as the documents' answers
 
+-- whether a result is a refusal
+pub some_told : {A : Type 0} (r : Result A Refusal) → is_err r ≡ true → told_number r ≡ 0 → ⊥
+some_told (Ok a) e = absurd (true≢false (sym e))
+some_told (Err f) e = number_some f
+
+pub none_told : {A : Type 0} (r : Result A Refusal) → is_err r ≡ false → told_number r ≡ 0
+none_told (Ok a) e = refl
+none_told (Err f) e = absurd (true≢false e)
+
 pub told_handed : {A : Type 0} {f : ℕ} (e : Refusal) (r : Result A Refusal) → IsErr r × IsErrAnd r (λ x. x ≡ e)
     → number e ≡ f → told_number r ≡ f
 told_handed e r h g = ap told_number (handed r h) ∙ g
@@ -180,5 +189,8 @@ module _ {A X : Type 0} (answer : X → A) (zeros : ℕ → A) (num : A → ℕ)
       some : (r : Result X Refusal) × P (told answer zeros r)
       some = ⊎_elim
           (λ z. let x = made k.one.0 k.one.1.meets z in (Ok x.0, subst P (sym x.1) k.one.1.meets))
-          (λ e. (Err e.0, subst P (k.refused _ k.one.1.meets (λ z. number_some e.0 (e.1 ∙ z)) ∙ ap zeros (sym e.1))
-              k.one.1.meets)) is
+          (λ e. (
+            Err e.0,
+            subst P (k.refused _ k.one.1.meets (λ z. number_some e.0 (e.1 ∙ z)) ∙ ap zeros (sym e.1))
+                k.one.1.meets,
+          )) is

@@ -2,7 +2,7 @@
 #![tactic(auto)]
 
 ghost use Rattle.std.specs.Prelude.{◌≡◌};
-ghost use Rattle.frame.specs.Refusals.{number};
+ghost use Rattle.frame.specs.Refusals.{number, told_number};
 
 // Why a call refuses: 'Refusal numbers' of document 01, and after them those of document 02.
 #[derive(Clone, Copy, Debug, PartialEq, Eq, Hash)]
@@ -67,5 +67,15 @@ impl From<Refusal> for u64 {
             Refusal::LongList => 32,
             Refusal::PaperCode => 33,
         }
+    }
+}
+
+// The number that a call for a host in C returns: 0 where nothing is refused.
+pub fn number_of(answer: Result<(), Refusal>) -> u64
+    ensures { result ≡ told_number answer }
+{
+    match answer {
+        Ok(()) => 0,
+        Err(f) => u64::from(f),
     }
 }

@@ -16,7 +16,7 @@ use words::TriangleCode;
 fn key_of(w: u64) -> u64
     ensures { result ≡ key w }
 {
-    if TriangleCode(w).check() != 0 {
+    if TriangleCode(w).check().is_err() {
         return 0;
     }
     let own = cells::reach_of(w);

@@ -20,9 +20,5 @@ least_name-requires c =
 pub returns : goal.returns
 returns c =
     let a = c.args in
-    record {
-      number = refl;
-      is = made_named a.s a.n a.v a.i c.requires.0 c.requires.1 c.requires.2 c.requires.3 refl
-          (c.least_name.ensures
-          ∙ ap (λ (w : ℕ). name_of (least_name 5 (place_at (w + a.i)))) c.word_of.ensures);
-    }
+    made_named a.s a.n a.v a.i c.requires.0 c.requires.1 c.requires.2 c.requires.3 refl
+    (c.least_name.ensures ∙ ap (λ (w : ℕ). name_of (least_name 5 (place_at (w + a.i)))) c.word_of.ensures)

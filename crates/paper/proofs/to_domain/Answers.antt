@@ -1,34 +1,25 @@
 -- The refusals in turn; a, p and q in the first three places, and the digits laid behind them (ToPaper). Assumes
 -- nothing.
-use mathlib.Core.Path.{◌≡◌, ◌∙◌, sym}
+use mathlib.Core.Path.{◌≡◌, sym}
 use mathlib.Core.List.{[], ◌∷◌}
-use Prim.Native.Nat.{◌/◌, ◌%◌, ◌≤◌}
+use Prim.Native.Nat.{ℕ, ◌/◌, ◌%◌, ◌≤◌}
 use native.Mathlib.Omega.{arith}
 use lib.ListN.{length-set, length-take, length-drop}
 use Rattle.frame.proofs.Answering.{refusing}
+use Rattle.frame.proofs.Told.{number_some, handed_lent}
 use Rattle.words.specs.Refusals.{check_code}
+use Rattle.words.specs.Words.{degree_of}
+use Rattle.words.specs.declared.TriangleCode.{TriangleCode}
 use Rattle.words.proofs.Codes.{code_degree, is_code}
 use Rattle.paper.proofs.ToPaper.{domain_then, laid_long, to_answers}
 use Rattle.paper.proofs.to_domain.Goals as goal
-use Rattle.paper.proofs.to_domain.Lts as lts
-use Rattle.paper.proofs.to_domain.Reads as reads
-use Rattle.paper.proofs.to_domain.Tie as tie
 
-abbrev After-degree_of-n : Type 0
-After-degree_of-n = lts.After-degree_of tie.the-claims reads.Pre reads.Post
-
-abbrev Else-f-ne0 : Type 0
-Else-f-ne0 = lts.Else1 tie.the-claims reads.Pre reads.Post
-
-pub returns-then-f-ne0 : goal.returns-then-f-ne0
-returns-then-f-ne0 c = refusing ((domain_then _ _).first c.check-f.ensures c.if-f-ne0.true) c.if-f-ne0.true
-
--- the code passes
-passes : (c : Else-f-ne0) → check_code c.args.t ≡ 0
-passes c = sym c.check-f.ensures ∙ c.if-f-ne0.false
+pub returns-in_err-check : goal.returns-in_err-check
+returns-in_err-check c =
+    handed_lent _ _ _ c.from_residual.ensures ((domain_then _ _).first c.in_err-check.ensures (number_some _))
 
 pub returns-then-out-lt-DOMAIN_PLACES : goal.returns-then-out-lt-DOMAIN_PLACES
-returns-then-out-lt-DOMAIN_PLACES c = refusing ((domain_then _ _).nine (passes c.before.before) (omega arith)) (λ e. omega arith)
+returns-then-out-lt-DOMAIN_PLACES c = refusing ((domain_then _ _).nine (sym c.in_ok-check.ensures) (omega arith)) (λ e. omega arith)
 
 pub bounds-out-1 : goal.bounds-out-1
 bounds-out-1 c = simp length-set (omega arith)
@@ -36,12 +27,11 @@ bounds-out-1 c = simp length-set (omega arith)
 pub bounds-out-2 : goal.bounds-out-2
 bounds-out-2 c = simp length-set (omega arith)
 
-degree-low : (c : After-degree_of-n) → c.degree_of-n.result ≤ 24
-degree-low c =
-    omega (arith, c.degree_of-n.ensures, code_degree (is_code c.args.t (passes c.before.before.before)))
+degree_low : (t : TriangleCode) {n : ℕ} → n ≡ degree_of t.0 → 0 ≡ check_code t → n ≤ 24
+degree_low t e z = omega (arith, e, code_degree (is_code t (sym z)))
 
 pub path_of-requires : goal.path_of-requires
-path_of-requires c = degree-low c
+path_of-requires c = degree_low c.args.t c.degree_of-n.ensures c.in_ok-check.ensures
 
 pub slice_bounds-put_digits-count : goal.slice_bounds-put_digits-count
 slice_bounds-put_digits-count c = simp length-set (omega arith)
@@ -50,7 +40,7 @@ pub slice_bounds-put_digits-start : goal.slice_bounds-put_digits-start
 slice_bounds-put_digits-start c = simp length-set (omega arith)
 
 pub put_digits-requires : goal.put_digits-requires
-put_digits-requires c = simp (length-take, length-drop, length-set) (omega (arith, degree-low c.before.before))
+put_digits-requires c = simp (length-take, length-drop, length-set) (omega (arith, degree_low c.args.t c.degree_of-n.ensures c.in_ok-check.ensures))
 
 pub shape_of-out : goal.shape_of-out
 shape_of-out c =
@@ -61,5 +51,5 @@ shape_of-out c =
 pub returns : goal.returns
 returns c =
     let a = c.args in
-    to_answers a.t a.out.now _ _ _ _ (passes c.before.before.before.before.before.before.before.before.before) (omega arith)
+    to_answers a.t a.out.now _ _ _ _ (sym c.in_ok-check.ensures) (omega arith)
     c.side_of-s.ensures c.degree_of-n.ensures c.path_of.ensures c.put_digits.ensures

@@ -1,51 +1,42 @@
 -- The refusals in turn; the code of the corner's twelve weights, and its digits laid behind a and p (ToPaper). Assumes
 -- nothing.
-use mathlib.Core.Path.{◌≡◌, ◌∙◌, sym}
+use mathlib.Core.Path.{◌≡◌, sym}
 use mathlib.Core.List.{[], ◌∷◌}
-use Prim.Native.Nat.{◌≤◌}
+use Prim.Native.Nat.{ℕ, ◌≤◌}
 use native.Mathlib.Omega.{arith}
 use lib.ListN.{length-set, length-take, length-drop}
 use Rattle.frame.proofs.Answering.{refusing}
+use Rattle.frame.proofs.Told.{number_some, handed_lent}
+use Rattle.words.specs.Words.{degree_of}
+use Rattle.words.specs.declared.CornerName.{CornerName}
 use Rattle.net.specs.Refusals.{check_name}
 use Rattle.net.proofs.Canonical.{name_means}
 use Rattle.paper.proofs.ToPaper.{laid_long, name_degree, vertex_answers, vertex_same, vertex_then, weights_sum}
 use Rattle.paper.proofs.to_vertex.Goals as goal
-use Rattle.paper.proofs.to_vertex.Lts as lts
-use Rattle.paper.proofs.to_vertex.Reads as reads
-use Rattle.paper.proofs.to_vertex.Tie as tie
 
-abbrev After-degree_of-n : Type 0
-After-degree_of-n = lts.After-degree_of tie.the-claims reads.Pre reads.Post
-
-abbrev Else-f-ne0 : Type 0
-Else-f-ne0 = lts.Else1 tie.the-claims reads.Pre reads.Post
-
-pub returns-then-f-ne0 : goal.returns-then-f-ne0
-returns-then-f-ne0 c = refusing ((vertex_then _ _).first c.check_name-f.ensures c.if-f-ne0.true) c.if-f-ne0.true
-
--- the name passes
-passes : (c : Else-f-ne0) → check_name c.args.q ≡ 0
-passes c = sym c.check_name-f.ensures ∙ c.if-f-ne0.false
+pub returns-in_err-check_name : goal.returns-in_err-check_name
+returns-in_err-check_name c =
+    handed_lent _ _ _ c.from_residual.ensures ((vertex_then _ _).first c.in_err-check_name.ensures (number_some _))
 
 pub returns-then-out-lt-VERTEX_PLACES : goal.returns-then-out-lt-VERTEX_PLACES
-returns-then-out-lt-VERTEX_PLACES c = refusing ((vertex_then _ _).nine (passes c.before.before) (omega arith)) (λ e. omega arith)
+returns-then-out-lt-VERTEX_PLACES c = refusing ((vertex_then _ _).nine (sym c.in_ok-check_name.ensures) (omega arith)) (λ e. omega arith)
 
-degree-low : (c : After-degree_of-n) → c.degree_of-n.result ≤ 24
-degree-low c = omega (arith, c.degree_of-n.ensures, name_degree _ (passes c.before.before))
+degree_low : (q : CornerName) {n : ℕ} → n ≡ degree_of q.0 → 0 ≡ check_name q → n ≤ 24
+degree_low q e z = omega (arith, e, name_degree q (sym z))
 
 pub code_inside-requires : goal.code_inside-requires
-code_inside-requires c = ((name_means _).0 (passes c.before.before.before)).0
+code_inside-requires c = ((name_means _).0 (sym c.in_ok-check_name.ensures)).0
 
 pub write_corner-requires : goal.write_corner-requires
 write_corner-requires c =
-    let x = ((name_means _).0 (passes c.before.before.before.before.before)).1 in
+    let x = ((name_means _).0 (sym c.in_ok-check_name.ensures)).1 in
     (rw c.code_inside.ensures x.code.passes, x.number, omega arith)
 
 pub vertex_of-code-requires : goal.vertex_of-code-requires
 vertex_of-code-requires c =
-    let z = passes c.before.before.before.before.before.before.before.before in (
+    let z = sym c.in_ok-check_name.ensures in (
       omega (arith, c.write_corner.auto.out),
-      degree-low c.before.before.before.before.before.before,
+      degree_low c.args.q c.degree_of-n.ensures c.in_ok-check_name.ensures,
       weights_sum _ z _ c.code_inside.ensures c.write_corner.ensures c.degree_of-n.ensures,
     )
 
@@ -60,7 +51,7 @@ slice_bounds-put_digits-start c = simp length-set (omega arith)
 
 pub put_digits-requires : goal.put_digits-requires
 put_digits-requires c =
-    simp (length-take, length-drop, length-set) (omega (arith, degree-low c.before.before.before.before.before.before.before))
+    simp (length-take, length-drop, length-set) (omega (arith, degree_low c.args.q c.degree_of-n.ensures c.in_ok-check_name.ensures))
 
 pub shape_of-out : goal.shape_of-out
 shape_of-out c =
@@ -70,7 +61,7 @@ shape_of-out c =
 
 pub returns : goal.returns
 returns c =
-    let z = passes c.before.before.before.before.before.before.before.before.before.before.before.before.before in
+    let z = sym c.in_ok-check_name.ensures in
     let a = c.args in
     vertex_answers a.q a.out.now c.vertex_of-code.result c.degree_of-n.result _ z (omega arith)
     (vertex_same _ z _ c.code_inside.ensures c.write_corner.ensures c.vertex_of-code.result

@@ -1,5 +1,5 @@
 -- A pole or not, and the corner of its domain (VertexNames). Assumes nothing.
-use mathlib.Core.Path.{◌≡◌, sym, subst}
+use mathlib.Core.Path.{◌≡◌, refl, sym, subst}
 use mathlib.Core.List.{List, ◌∷◌}
 use Prim.Native.Nat.{ℕ, ◌*◌, ◌^◌, ◌≤◌, ◌<◌}
 use native.Mathlib.Omega.{arith}
@@ -23,13 +23,13 @@ pub returns-then-v-ne0 : goal.returns-then-v-ne0
 returns-then-v-ne0 c =
     polar c.if-a-eq0.true
     (not_pole c.args.p c.args.n c.args.v c.requires.1 c.requires.2 c.requires.3 c.if-v-ne0.true
-    c.no_name.ensures)
+    refl)
 
 pub returns-then-a-eq0 : goal.returns-then-a-eq0
 returns-then-a-eq0 c =
     polar c.if-a-eq0.true
     (a_pole c.args.p c.args.n c.args.v c.requires.1 c.requires.2 c.if-v-ne0.false c.power.ensures
-    c.name_at.ensures)
+    (record { number = refl; is = c.name_at.ensures }))
 
 -- what is known of the domain
 base-low : (c : After-parts_of-base) → c.parts_of-base.result.orientation ≤ 1
@@ -52,4 +52,4 @@ name_at-requires-2 c =
 pub returns : goal.returns
 returns c =
     a_ring c.args.a c.args.p c.args.n c.args.v c.parts_of-base.ensures
-    (omega (arith, c.if-a-eq0.false)) c.requires.0 c.requires.1 c.requires.2 c.name_at-2.ensures
+    (omega (arith, c.if-a-eq0.false)) c.requires.0 c.requires.1 c.requires.2 (record { number = refl; is = c.name_at-2.ensures })

@@ -1,16 +1,21 @@
 -- An exported call over a call of the grid or of a request: what it returns, that there is one answer, what a host
 -- reads. The call refuses f; the exported call refuses f and then a slice of less than `least` bytes, g in all. Assumes
 -- nothing.
-use mathlib.Core.Path.{◌≡◌, ◌∙◌, refl, sym, ap}
+use mathlib.Core.Path.{◌≡◌, ◌∙◌, refl, sym, ap, subst}
 use mathlib.Core.Logic.{⊎_elim}
 use mathlib.Core.List.{List}
 use Prim.Native.Nat.{ℕ, ◌*◌, ◌^◌, ◌≤◌, ◌<◌}
 use native.Mathlib.Omega.{arith}
 use lib.ListN.{length, get_or, drop}
+use Rattle.std.specs.Prelude.{Result, IsErr}
+use Rattle.std.specs.Result.{IsErrAnd}
+use Rattle.frame.specs.declared.Refusal.{Refusal}
+use Rattle.frame.specs.Refusals.{number, told_number}
 use Rattle.frame.specs.Answers.{over}
 use Rattle.frame.specs.Promises.{KeepsLent, together}
-use Rattle.frame.proofs.Answering.{answers_or_not, refusing, answering, answer_one, answer_some, keeps, number_is}
+use Rattle.frame.proofs.Answering.{answers_or_not, answer_one, answer_some, keeps, number_is}
 use Rattle.frame.proofs.Lengths.{ThenNine}
+use Rattle.frame.proofs.Told.{handed}
 use Rattle.golden.proofs.IntegerOrder.{le_or_lt}
 use Rattle.octets.specs.Bytes.{bytes, number_at}
 use Rattle.octets.proofs.Laying.{number_at_lem, after_bytes, as_long}
@@ -164,3 +169,8 @@ hosted {f} {least} {ms} {out} {r} {new} d fitting =
         let z = delivered_passed d e in
         ⊎_elim (λ l. omega (arith, l, (fitting z).0)) (λ l. absurd (omega (arith, e, d.short z l)))
         (le_or_lt least (length out))
+
+-- What is said of a refusal's number is said of the result that `?` hands on, and of the number that is returned.
+pub handed_number : {A : Type 0} (P : ℕ → Type 0) (e : Refusal) (r : Result A Refusal)
+    → IsErr r × IsErrAnd r (λ x. x ≡ e) → P (number e) → P (told_number r)
+handed_number P e r h = subst P (sym (ap told_number (handed r h)))

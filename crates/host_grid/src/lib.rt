@@ -4,12 +4,14 @@
 #![tactic(auto)]
 
 ghost use Rattle.std.specs.Prelude.{◌≡◌};
+ghost use Rattle.frame.specs.Refusals.{told_number};
 ghost use Rattle.words.specs.Family.{code_of};
 ghost use Rattle.words.specs.Refusals.{check_code};
 ghost use Rattle.net.specs.Corners.{name_of};
 ghost use Rattle.net.specs.Refusals.{check_name};
 ghost use Rattle.exports.specs.Answers.{CrossBytes};
 
+use frame::{Refusal, number_of};
 use grid::{CornerName, TriangleCode};
 use net::Edge;
 use octets::put8;
@@ -18,34 +20,35 @@ use octets::put8;
 pub fn grid_check_triangle(word: u64) -> u64
     ensures { result ≡ check_code (code_of word) }
 {
-    TriangleCode(word).check()
+    number_of(TriangleCode(word).check())
 }
 
 // Checking a word as a corner name.
 pub fn grid_check_name(word: u64) -> u64
     ensures { result ≡ check_name (name_of word) }
 {
-    grid::check_name(CornerName(word))
+    number_of(grid::check_name(CornerName(word)))
 }
 
-// Crossing an edge: the code and the edge's number there, in sixteen bytes. How the corners turned is not asked for, so
-// that the neighbour comes back in registers.
-pub fn grid_cross(code: u64, edge: u64, out: &mut [u8]) -> u64
-    ensures { CrossBytes (code_of code) edge out.old result out.new }
+// The code and the edge's number there, in sixteen bytes. How the corners turned is not asked for, so that the neighbour
+// comes back in registers.
+fn cross(code: TriangleCode, edge: u64, out: &mut [u8]) -> Result<(), Refusal>
+    ensures { CrossBytes code edge out.old (told_number result) out.new }
 {
-    let here = Edge {
-        code: TriangleCode(code),
-        number: edge,
-    };
-    let f = corners::refuse_numbered(TriangleCode(code), edge);
-    if f != 0 {
-        return f;
-    }
+    corners::refuse_numbered(code, edge)?;
     if out.len() < 16 {
-        return 9;
+        return Err(Refusal::ShortList);
     }
+    let here = Edge { code, number: edge };
     let there = here.neighbour();
     put8(there.code.0, out);
     put8(there.number, &mut out[8..]);
-    0
+    Ok(())
+}
+
+// Crossing an edge.
+pub fn grid_cross(code: u64, edge: u64, out: &mut [u8]) -> u64
+    ensures { CrossBytes (code_of code) edge out.old result out.new }
+{
+    number_of(cross(TriangleCode(code), edge, out))
 }

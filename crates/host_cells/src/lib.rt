@@ -27,16 +27,13 @@ fn put_two(a: u64, b: u64, out: &mut [u8])
 fn check_bytes(list: &[u8]) -> Verdict
     ensures { result ≡ checked (words_in list.now) }
 {
-    let n = list.len() / 8;
     let mut last = Reach { rank: 0, end: 0 };
-    let mut i = 0;
-    while i < n {
+    for i in 0..list.len() / 8 {
         let found = look_at(get8(&list[8 * i..]), last);
         if found.reason != 0 {
             return offence(found.reason, i);
         }
         last = found.own;
-        i += 1;
     }
     offence(0, 0)
 }

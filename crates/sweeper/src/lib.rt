@@ -29,14 +29,11 @@ fn file_each(degree: u64, dirs: &[i32], codes: &mut [u64]) -> u64
     requires { (length dirs.now % 3 ≡ 0) × (length dirs.now ≤ 3 * length codes.old) }
     ensures { CountedInto degree dirs.now codes.old result codes.new }
 {
-    let n = dirs.len() / 3;
     let mut refused = 0;
-    let mut i = 0;
-    while i < n {
+    for i in 0..dirs.len() / 3 {
         let w = file_at(degree, dirs, i);
         codes[i] = code_in(w);
         refused += refusals_in(w);
-        i += 1;
     }
     refused
 }

@@ -89,12 +89,8 @@ pub fn refusals_in(w: u64) -> u64
 pub fn first_zero(codes: &[u64]) -> usize
     ensures { result ≡ first_place is_zero codes.now }
 {
-    let mut place = 0;
-    while place < codes.len() {
-        if codes[place] == 0 {
-            return place;
-        }
-        place += 1;
-    }
-    place
+    codes
+        .iter()
+        .position(|&code| code == 0)
+        .unwrap_or(codes.len())
 }

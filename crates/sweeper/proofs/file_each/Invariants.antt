@@ -1,12 +1,7 @@
--- The loop: after i directions the list has what a sweep of them leaves (CountedParts). Assumes nothing.
-use Prim.Native.Nat.{◌-◌, ◌*◌, ◌≤◌}
-use lib.ListN.{take}
+-- After i directions the list has what a sweep of them leaves (CountedParts). Assumes nothing.
+use Rattle.std.proofs.Common.{◌*◌, take}
 use Rattle.sweeps.specs.Means.Counted.{CountedInto}
 use Rattle.sweeper.proofs.file_each.Given as goal
 
 abbrev pub invariant-loop-i : goal.invariant-loop-i
-invariant-loop-i l =
-    (l.i ≤ l.n) × CountedInto l.degree (take (3 * l.i) l.dirs) l.initial.codes l.refused l.codes
-
-abbrev pub decreases-loop-i : goal.decreases-loop-i
-decreases-loop-i l = l.n - l.i
+invariant-loop-i l = CountedInto l.degree (take (3 * l.i) l.dirs) l.initial.codes l.refused l.codes

@@ -4,11 +4,12 @@ use mathlib.Core.Bool.{Bool, true, false, not}
 use Prim.Native.Nat.{ℕ, ◌<◌, ◌≤◌, ◌^◌}
 use native.Mathlib.Omega.{arith}
 use lib.Dec.{T}
-use lib.IntN.{ℤ, pos, negsuc, nat_abs}
+use lib.IntN.{ℤ, pos, negsuc, nat_abs, neg_ℤ, ◌+ℤ◌, ◌-ℤ◌}
 use lib.Signed.{mag, lt_z, non_neg, ◌<ℤ◌, ◌≤ℤ◌, lt_z_yes, lt_z_no}
 use mir.Syntax.{w64}
 use mir.Val.{Fits, SFits, to_z, of_z}
 use mir.Facts.{to_z-of_z}
+use Rattle.golden.proofs.Magnitudes.{abs_add, abs_neg}
 
 -- z, written to 64 bits and read back
 abbrev pub again : ℤ → ℤ
@@ -31,6 +32,14 @@ again_is z h = to_z-of_z (fits z h)
 -- what a function returned, read back, where it is known to be z
 pub again_of : {r z : ℤ} → r ≡ z → nat_abs z < 2 ^ 63 → again r ≡ z
 again_of {r} {z} e h = ap again e ∙ again_is z h
+
+-- a sum and a difference of two that are small enough
+pub sum_is : (x y : ℤ) → nat_abs x < 2 ^ 61 → nat_abs y < 2 ^ 61 → again (again x +ℤ again y) ≡ x +ℤ y
+sum_is x y h k = rw (again_is x (omega arith), again_is y (omega arith)) (again_is _ (omega (arith, abs_add x y)))
+
+pub difference_is : (x y : ℤ) → nat_abs x < 2 ^ 61 → nat_abs y < 2 ^ 61 → again (again x -ℤ again y) ≡ x +ℤ neg_ℤ y
+difference_is x y h k =
+    rw (again_is x (omega arith), again_is y (omega arith)) (again_is _ (omega (arith, abs_add x (neg_ℤ y), abs_neg y)))
 
 -- the size of z, which `magnitude` takes of z as it is read back
 pub size_is : (z : ℤ) {m : ℕ} → nat_abs z < 2 ^ 63 → m ≡ nat_abs (again z) → m ≡ nat_abs z

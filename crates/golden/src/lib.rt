@@ -8,6 +8,8 @@ ghost use Rattle.golden.specs.Numbers.{Below, golden, ◌+φ◌, negφ};
 ghost use Rattle.golden.specs.Order.{NonNeg, w_of};
 ghost use Rattle.golden.specs.Drawing.{IsNearest, IsT};
 
+use std::ops::{Add, Sub};
+
 // The number u + vφ.
 #[derive(Clone, Copy)]
 pub struct Golden {
@@ -42,10 +44,7 @@ pub fn magnitude(x: i64) -> u64
     requires { nat_abs x < 2 ^ 60 }
     ensures { result ≡ nat_abs x }
 {
-    if x < 0 {
-        return (-x) as u64;
-    }
-    x as u64
+    x.unsigned_abs()
 }
 
 fn signed(x: u64) -> i64
@@ -53,28 +52,6 @@ fn signed(x: u64) -> i64
     ensures { result ≡ pos x }
 {
     x as i64
-}
-
-// 65,536x.
-fn scaled(x: i64) -> i64
-    requires { nat_abs x < 2 ^ 46 }
-    ensures { result ≡ pos 65536 *ℤ x }
-{
-    65536 * x
-}
-
-fn sum(x: i64, y: i64) -> i64
-    requires { (nat_abs x < 2 ^ 61) × (nat_abs y < 2 ^ 61) }
-    ensures { result ≡ x +ℤ y }
-{
-    x + y
-}
-
-fn difference(x: i64, y: i64) -> i64
-    requires { (nat_abs x < 2 ^ 61) × (nat_abs y < 2 ^ 61) }
-    ensures { result ≡ x +ℤ neg_ℤ y }
-{
-    x - y
 }
 
 // The fraction TOP/BOTTOM is one of Fibonacci's next below φ; HALF is half of BOTTOM.
@@ -110,7 +87,7 @@ fn nearest_multiple(m: u64) -> u64
         return q;
     }
     let over = Golden {
-        u: difference(0, signed(2 * q + 1)),
+        u: -signed(2 * q + 1),
         v: signed(2 * m),
     };
     if over.at_least_zero() {
@@ -119,33 +96,43 @@ fn nearest_multiple(m: u64) -> u64
     q
 }
 
+impl Add for Golden {
+    type Output = Golden;
+
+    ghost can_add = { λ x y. Below (2 ^ 61) x × Below (2 ^ 61) y };
+
+    ghost add_gives = { λ x y r. r ≡ x +φ y };
+
+    fn add(self, y: Golden) -> Golden {
+        Golden {
+            u: self.u + y.u,
+            v: self.v + y.v,
+        }
+    }
+}
+
+impl Sub for Golden {
+    type Output = Golden;
+
+    ghost can_sub = { λ x y. Below (2 ^ 61) x × Below (2 ^ 61) y };
+
+    ghost sub_gives = { λ x y r. r ≡ x +φ negφ y };
+
+    fn sub(self, y: Golden) -> Golden {
+        Golden {
+            u: self.u - y.u,
+            v: self.v - y.v,
+        }
+    }
+}
+
 impl Golden {
-    pub fn plus(self, y: Golden) -> Golden
-        requires { Below (2 ^ 61) self × Below (2 ^ 61) y }
-        ensures { result ≡ self +φ y }
-    {
-        Golden {
-            u: sum(self.u, y.u),
-            v: sum(self.v, y.v),
-        }
-    }
-
-    pub fn minus(self, y: Golden) -> Golden
-        requires { Below (2 ^ 61) self × Below (2 ^ 61) y }
-        ensures { result ≡ self +φ negφ y }
-    {
-        Golden {
-            u: difference(self.u, y.u),
-            v: difference(self.v, y.v),
-        }
-    }
-
     // w = 2u + v.
     fn w(self) -> i64
         requires { Below (2 ^ 57) self }
         ensures { result ≡ w_of self }
     {
-        sum(sum(self.u, self.u), self.v)
+        2 * self.u + self.v
     }
 
     // Whether u + vφ is at least 0.
@@ -175,10 +162,7 @@ impl Golden {
         ensures { IsNearest self result }
     {
         let n = signed(nearest_multiple(magnitude(self.v)));
-        if self.v < 0 {
-            return difference(self.u, n);
-        }
-        sum(self.u, n)
+        if self.v < 0 { self.u - n } else { self.u + n }
     }
 
     // The whole number nearest to 65,536·(u + vφ).
@@ -187,8 +171,8 @@ impl Golden {
         ensures { IsT self result }
     {
         let big = Golden {
-            u: scaled(self.u),
-            v: scaled(self.v),
+            u: 65536 * self.u,
+            v: 65536 * self.v,
         };
         big.nearest()
     }

@@ -44,7 +44,7 @@ fn lean(a: u64, b: u64, c: u64) -> Golden
     requires { (a ≤ 1000000000) × (b ≤ 1000000000) × (c ≤ 1000000000) }
     ensures { result ≡ lean a b c }
 {
-    of_parts(b + c, c).minus(of_parts(0, a))
+    of_parts(b + c, c) - of_parts(0, a)
 }
 
 fn determinants_beyond(a: u64, b: u64, c: u64) -> Determinants
@@ -52,8 +52,8 @@ fn determinants_beyond(a: u64, b: u64, c: u64) -> Determinants
     ensures { result ≡ roles_of 1 a b c }
 {
     Determinants {
-        d1: of_parts(c, a + c).minus(of_parts(b, 0)),
-        d2: of_parts(0, a).minus(of_parts(b + c, c)),
+        d1: of_parts(c, a + c) - of_parts(b, 0),
+        d2: of_parts(0, a) - of_parts(b + c, c),
         d3: of_parts(0, 2 * b),
     }
 }
@@ -163,7 +163,7 @@ fn part_at(x: Golden, s: Golden, g: u64) -> Part
     requires { (g ≤ 16777216) × Beside 8000000000 s x × Within g s x }
     ensures { Share 16777216 result.floor result.gap s x }
 {
-    let over = many(16777216, x).minus(many(g, s));
+    let over = many(16777216, x) - many(g, s);
     if is_zero(over) {
         return Part { floor: g, gap: 0 };
     }
@@ -219,7 +219,7 @@ pub fn stand_of(d: Direction) -> Stand
     );
     let q = divide_three(r.r1, r.r2, r.r1 + r.r2 + r.r3);
     let t = determinants_of(r.kind, n.a, n.b, n.c);
-    let s = t.d1.plus(t.d2).plus(t.d3);
+    let s = t.d1 + t.d2 + t.d3;
     let p1 = part_of(t.d1, s, q.q1, q.sum);
     let p2 = part_of(t.d2, s, q.q2, q.sum);
     let p3 = part_of(t.d3, s, q.q3, q.sum);

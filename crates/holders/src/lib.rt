@@ -18,7 +18,7 @@ use filing::Direction;
 use net::seams::of_three;
 use seats::placing::{first_at, second_at, side_at};
 use seats::{Found, Triple, dividing, placing};
-use shares::{Floors, Gaps};
+use shares::{Floors, Gaps, descent, walks, weaving};
 
 // Where a direction stands, if that is clear.
 fn find(d: Direction) -> Option<Found>
@@ -46,7 +46,7 @@ pub fn quick_word(degree: u64, d: Direction) -> Option<u64>
     ensures { IfSome result (OneWord degree d) }
 {
     let h = find(d)?;
-    let path = shares::weaving::path(degree, h.floors);
+    let path = weaving::path(degree, h.floors);
     Some(words::word_of(h.side, degree, path))
 }
 
@@ -66,21 +66,45 @@ fn at_corners(k: u64, x: u64, y: u64, z: u64) -> Triple
     }
 }
 
+fn floors_at(k: u64, f: Floors) -> Floors
+    requires { (k < 32) × (first_at k + second_at k ≤ 6) }
+    ensures { result ≡ floors_at k f }
+{
+    let t = at_corners(k, f.f1, f.f2, f.f3);
+    Floors {
+        f1: t.c1,
+        f2: t.c2,
+        f3: t.c3,
+    }
+}
+
+fn gaps_at(k: u64, g: Gaps) -> Gaps
+    requires { (k < 32) × (first_at k + second_at k ≤ 6) }
+    ensures { result ≡ gaps_at k g }
+{
+    let t = at_corners(k, g.g1, g.g2, g.g3);
+    Gaps {
+        g1: t.c1,
+        g2: t.c2,
+        g3: t.c3,
+    }
+}
+
 // The least word of the degree whose triangle holds a direction.
 pub fn exact_word(degree: u64, d: Direction) -> u64
     requires { (degree ≤ 24) × IsLevel d × IsSome d }
     ensures { IsFiled degree d (code_of result) }
 {
     let t = exact::stand_of(d);
-    let octant = t.octant;
-    let kind = t.kind;
-    let k = 4 * octant + kind;
-    let floors = t.floors;
-    let gaps = t.gaps;
-    let f = at_corners(k, floors.f1, floors.f2, floors.f3);
-    let g = at_corners(k, gaps.g1, gaps.g2, gaps.g3);
-    let path = shares::descent::descend(degree, 16777216, f.c1, f.c2, f.c3, g.c1, g.c2, g.c3, 0);
-    words::word_of(side_at(octant, kind), degree, path)
+    let k = 4 * t.octant + t.kind;
+    let path = descent::descend(
+        degree,
+        16777216,
+        floors_at(k, t.floors),
+        gaps_at(k, t.gaps),
+        0,
+    );
+    words::word_of(side_at(t.octant, t.kind), degree, path)
 }
 
 // The octant of the other side, where a direction lies on the edge between two.
@@ -115,19 +139,14 @@ fn list_side(
     ensures { Puts count (seat_words degree (4 * octant + kind) f g) out.old result out.new }
 {
     let k = 4 * octant + kind;
-    let a = at_corners(k, f.f1, f.f2, f.f3);
-    let b = at_corners(k, g.g1, g.g2, g.g3);
-    let floors = Floors {
-        f1: a.c1,
-        f2: a.c2,
-        f3: a.c3,
-    };
-    let gaps = Gaps {
-        g1: b.c1,
-        g2: b.c2,
-        g3: b.c3,
-    };
-    shares::walks::list_in(side_at(octant, kind), degree, floors, gaps, count, out)
+    walks::list_in(
+        side_at(octant, kind),
+        degree,
+        floors_at(k, f),
+        gaps_at(k, g),
+        count,
+        out,
+    )
 }
 
 // All words of the degree whose triangles hold a direction, rising.

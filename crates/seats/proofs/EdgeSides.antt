@@ -12,7 +12,7 @@ use Rattle.golden.proofs.Polynomials.{var, lit, ◌⊕◌, ◌⊗◌}
 use Rattle.golden.proofs.RingSolver.{solve}
 use Rattle.golden.proofs.GoldenRing.{φ_ring}
 use Rattle.net.specs.Sides.{IsSide, OneToThree}
-use Rattle.net.proofs.Table.{sound, three as each-of-three, below, less, same, ◌and◌}
+use Rattle.net.proofs.Table.{sound, three as each-of-three, below, less, same}
 use Rattle.filing.specs.Means.Lists.{side_words, all_words}
 use Rattle.filing.specs.Means.Sides.{side_dets, least_from}
 use Rattle.filing.specs.declared.Direction.{Direction}

@@ -4,7 +4,7 @@ use mathlib.Core.Logic.{inr, ⊎_elim}
 use mathlib.Core.List.{[], ◌∷◌}
 use Prim.Native.Nat.{ℕ, ◌+◌, ◌-◌, ◌*◌, ◌≤◌, ◌<◌}
 use native.Mathlib.Omega.{arith}
-use Rattle.golden.specs.Numbers.{whole, ◌+φ◌, negφ, ◌*φ◌}
+use Rattle.golden.specs.Numbers.{◌+φ◌, negφ, ◌*φ◌}
 use Rattle.golden.specs.Order.{NonNeg}
 use Rattle.golden.specs.declared.Golden.{Golden}
 use Rattle.golden.proofs.Polynomials.{var, lit, ◌⊕◌, ◌⊝◌, ◌⊗◌, ⊖}

@@ -8,7 +8,6 @@ use Rattle.golden.proofs.IntegerOrder.{le_or_lt}
 use Rattle.words.specs.Words.{word_of}
 use Rattle.net.specs.Sides.{IsSide}
 use Rattle.net.specs.Division.{each}
-use Rattle.filing.specs.Means.Descent.{holds}
 use Rattle.filing.specs.Means.Lists.{joined, side_words, all_words}
 use Rattle.filing.specs.Means.Sides.{side_dets}
 use Rattle.filing.specs.declared.Direction.{Direction}

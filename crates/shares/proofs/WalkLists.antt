@@ -14,7 +14,7 @@ use Rattle.filing.proofs.HolderLists.{joined_more, joined_none, each_append}
 use Rattle.shares.specs.declared.Floors.{Floors}
 use Rattle.shares.specs.declared.walks.Walk.{Walk}
 use Rattle.shares.specs.Means.Paths.{in_child, least_path, paths}
-use Rattle.shares.specs.Means.WalkWords.{floor_at, gaps_of, walk_words, corner_words, beside_words}
+use Rattle.shares.specs.Means.WalkWords.{floor_at, walk_words, corner_words, beside_words}
 use Rattle.shares.specs.Means.WalkWords.{Single, Fair, IsWalk}
 use Rattle.shares.proofs.LeastSteps.{IsLeast}
 use Rattle.shares.proofs.AllPaths.{below, others}
@@ -29,7 +29,7 @@ module _ (w : Walk) (F : Floors) (v : ℕ) where
 
   corner_some :
       (n h k : ℕ) → h ≤ floor_at k F → corner_words w n h F v k
-      ≡ walk_words w n h (in_child h k F (gaps_of w)) (4 * v + k)
+      ≡ walk_words w n h (in_child h k F w.gaps) (4 * v + k)
   unfolding corner_words
   corner_some n h k l = rw (le-leb h (floor_at k F) l) refl
 
@@ -66,7 +66,7 @@ module _ (w : Walk) (F : Floors) (v : ℕ) where
       → k ≤ 4
       → (k ≡ 4 → ⊥)
       → h ≤ floor_at k F
-      → K ≡ in_child h k F (gaps_of w)
+      → K ≡ in_child h k F w.gaps
       → beside_words w n h F v k ≡ walk_words w n h K (4 * v + k) ++ beside_words w n h F v (k + 1)
   corner_and_rest n h k K l f a e =
       beside_more n h k l f
@@ -91,13 +91,13 @@ module _ (w : Walk) (F : Floors) (v : ℕ) where
   pub one_word :
       (n p u x : ℕ)
       → IsWalk w n p F v
-      → Single p F (gaps_of w)
-      → u ≡ least_path n p F (gaps_of w) v
+      → Single p F w.gaps
+      → u ≡ least_path n p F w.gaps v
       → x ≡ word_of w.side w.degree u
       → walk_words w n p F v ≡ x ∷ []
   unfolding walk_words
   one_word n p u x i s r q =
-      let G = gaps_of w in
+      let G = w.gaps in
       let e = i.parts in
       let one : paths n p F G v ≡ least_path n p F G v ∷ [] =
       subst (λ (p : ℕ). paths n p F G v ≡ least_path n p F G v ∷ []) (sym e)
@@ -112,17 +112,17 @@ module _ (w : Walk) (F : Floors) (v : ℕ) where
   word = word_of w.side w.degree
 
   abbrev child_paths : (n h k : ℕ) → List ℕ
-  child_paths n h k = paths n h (in_child h k F (gaps_of w)) (gaps_of w) (4 * v + k)
+  child_paths n h k = paths n h (in_child h k F w.gaps) w.gaps (4 * v + k)
 
   abbrev corners : (n h : ℕ) → List ℕ
-  corners n h = others n h F (gaps_of w) v
+  corners n h = others n h F w.gaps v
 
   of_corners : (n h : ℕ) → each word (corners n h) ≡ beside_words w n h F v 1
   unfolding beside_words corner_words walk_words joined
   of_corners n h =
-      let a = below n h 1 F.f1 F (gaps_of w) v in
-      let b = below n h 2 F.f2 F (gaps_of w) v in
-      let c = below n h 3 F.f3 F (gaps_of w) v in
+      let a = below n h 1 F.f1 F w.gaps v in
+      let b = below n h 2 F.f2 F w.gaps v in
+      let c = below n h 3 F.f3 F w.gaps v in
       let ea = each_if word (leb h F.f1) (child_paths n h 1) in
       let eb = each_if word (leb h F.f2) (child_paths n h 2) in
       let ec = each_if word (leb h F.f3) (child_paths n h 3) in
@@ -132,7 +132,7 @@ module _ (w : Walk) (F : Floors) (v : ℕ) where
       ∙ (λ i. ea i ++ (eb i ++ (ec ∙ sym (append-nil _)) i))
 
   -- where d is the least child's digit, and K has the floors in it
-  module _ (n p d : ℕ) (K : Floors) (f : n ≡ 0 → ⊥) (e : IsLeast (p / 2) F (gaps_of w) d K) where
+  module _ (n p d : ℕ) (K : Floors) (f : n ≡ 0 → ⊥) (e : IsLeast (p / 2) F w.gaps d K) where
     least_first :
         walk_words w n p F v
         ≡ walk_words w (n - 1) (p / 2) K (4 * v + d) ++ cond (leb d 0) (beside_words w (n - 1) (p / 2) F v 1) []
@@ -141,7 +141,7 @@ module _ (w : Walk) (F : Floors) (v : ℕ) where
         let q : n ≡ suc (n - 1) = omega arith in
         let h = p / 2 in
         let m = n - 1 in
-        let G = gaps_of w in
+        let G = w.gaps in
         let beside = cond (leb d 0) (corners m h) [] in
         ap (λ (k : ℕ). each word (paths k p F G v)) q
         ∙ ap (λ (c : ℕ). each word (child_paths m h c ++ cond (leb c 0) (corners m h) [])) (sym e.0)

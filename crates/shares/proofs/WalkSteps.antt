@@ -8,7 +8,7 @@ use Rattle.shares.specs.declared.Floors.{Floors}
 use Rattle.shares.specs.declared.Gaps.{Gaps}
 use Rattle.shares.specs.declared.walks.Walk.{Walk}
 use Rattle.shares.specs.Means.Paths.{in_child, least_digit, least_path}
-use Rattle.shares.specs.Means.WalkWords.{floor_at, gaps_of, Fair, IsWalk}
+use Rattle.shares.specs.Means.WalkWords.{floor_at, Fair, IsWalk}
 use Rattle.shares.proofs.LeastSteps.{AtMost, IsLeast, digit_small, child_small}
 use Rattle.shares.proofs.LeastPath.{two_halves}
 use Rattle.shares.proofs.FairChildren.{fair_corner, fair_least}
@@ -51,14 +51,14 @@ module _ (w : Walk) (n p : ℕ) (F : Floors) (v : ℕ) (i : IsWalk w n p F v) wh
 
   pub walk_least :
       (u : ℕ)
-      → u ≡ least_path n p F (gaps_of w) v
+      → u ≡ least_path n p F w.gaps v
       → (w.side < 32) × (w.degree ≤ 24) × (u < 2 ^ (2 * w.degree))
   walk_least u q =
       let e : n + (w.degree - n) ≡ w.degree = omega (arith, i.above) in (
         omega (arith, i.a_side),
         i.low,
-        rw q (subst (λ (m : ℕ). least_path n p F (gaps_of w) v < 2 ^ (2 * m)) e
-            (path_small n (w.degree - n) p F (gaps_of w) v i.small)),
+        rw q (subst (λ (m : ℕ). least_path n p F w.gaps v < 2 ^ (2 * m)) e
+            (path_small n (w.degree - n) p F w.gaps v i.small)),
       )
 
   -- where the edges of its children have p / 2 parts
@@ -78,7 +78,7 @@ module _ (w : Walk) (n p : ℕ) (F : Floors) (v : ℕ) (i : IsWalk w n p F v) wh
 -- where an edge has 2h parts
 module _ (w : Walk) (n h : ℕ) (F K : Floors) (v k : ℕ) (i : IsWalk w (suc n) (h + h) F v) where
   -- to the child k, whose edge has h parts
-  walk_child : k < 4 → K ≡ in_child h k F (gaps_of w) → Fair h K (gaps_of w) → IsWalk w n h K (4 * v + k)
+  walk_child : k < 4 → K ≡ in_child h k F w.gaps → Fair h K w.gaps → IsWalk w n h K (4 * v + k)
   walk_child l e f = record {
     a_side = i.a_side;
     low = i.low;
@@ -87,7 +87,7 @@ module _ (w : Walk) (n h : ℕ) (F K : Floors) (v k : ℕ) (i : IsWalk w (suc n)
     most = omega (arith, i.most);
     rest = i.rest;
     parts = omega (arith, i.parts, two_halves n i.rest);
-    shares = rw e (child_small h F (gaps_of w) 16777216 k (omega (arith, i.most)) i.shares);
+    shares = rw e (child_small h F w.gaps 16777216 k (omega (arith, i.most)) i.shares);
     fair = f;
     small = further;
   }
@@ -99,25 +99,25 @@ module _ (w : Walk) (n h : ℕ) (F K : Floors) (v k : ℕ) (i : IsWalk w (suc n)
           rw q (one_further m v k i.small l)
 
   -- to the least, and to the child k with a share of half
-  pub walk_to_least : IsLeast h F (gaps_of w) k K → IsWalk w n h K (4 * v + k)
+  pub walk_to_least : IsLeast h F w.gaps k K → IsWalk w n h K (4 * v + k)
   walk_to_least e =
-      let G = gaps_of w in
+      let G = w.gaps in
       walk_child (rw e.0 (digit_small h F G)) e.1
       (rw (e.1, e.0) (fair_least h F G i.fair i.few))
 
-  pub walk_to_corner : 1 ≤ k → k ≤ 3 → h ≤ floor_at k F → K ≡ in_child h k F (gaps_of w)
+  pub walk_to_corner : 1 ≤ k → k ≤ 3 → h ≤ floor_at k F → K ≡ in_child h k F w.gaps
       → IsWalk w n h K (4 * v + k)
   walk_to_corner l m a e =
-      walk_child (omega arith) e (rw e (fair_corner h F (gaps_of w) i.fair k l a))
+      walk_child (omega arith) e (rw e (fair_corner h F w.gaps i.fair k l a))
 
 -- from a side
 pub walk_start :
     (w : Walk) (F : Floors)
     → w.side < 24
     → w.degree ≤ 24
-    → (w.g1 ≤ 1) × (w.g2 ≤ 1) × (w.g3 ≤ 1)
+    → (w.gaps.g1 ≤ 1) × (w.gaps.g2 ≤ 1) × (w.gaps.g3 ≤ 1)
     → AtMost 16777216 F
-    → Fair 16777216 F (gaps_of w)
+    → Fair 16777216 F w.gaps
     → IsWalk w w.degree 16777216 F 0
 walk_start w F s l g f i = record {
   a_side = s;

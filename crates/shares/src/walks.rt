@@ -6,7 +6,6 @@ ghost use Rattle.words.specs.Words.{word_of};
 ghost use Rattle.net.specs.Division.{each};
 ghost use Rattle.filing.specs.Means.Lists.{Room, Puts};
 ghost use Rattle.shares.specs.declared.Gaps.{Gaps};
-ghost use Rattle.shares.specs.Means.Shares.{floors, gaps};
 ghost use Rattle.shares.specs.Means.Paths.{in_child, paths};
 ghost use Rattle.shares.specs.Means.WalkWords.{floor_at, Straight, Single, Fair};
 ghost use Rattle.shares.specs.Means.WalkWords.{IsWalk, walk_words, beside_words};
@@ -20,120 +19,66 @@ use net::seams::of_three;
 pub struct Walk {
     pub side: u64,
     pub degree: u64,
-    pub g1: u64,
-    pub g2: u64,
-    pub g3: u64,
+    pub gaps: Gaps,
 }
 
 // Whether one share of p parts makes no fork: it is not a whole number of parts, or it is none of them, or all.
 fn runs_straight(p: u64, f: u64, g: u64) -> bool
     ensures { result ≡ true → Straight p f g }
 {
-    if g == 1 {
-        return true;
-    }
-    if f == 0 {
-        return true;
-    }
-    f == p
+    g == 1 || f == 0 || f == p
 }
 
 // Whether none of the three makes a fork, here or further down.
-fn is_single(p: u64, f1: u64, f2: u64, f3: u64, g1: u64, g2: u64, g3: u64) -> bool
-    ensures { result ≡ true → Single p (floors f1 f2 f3) (gaps g1 g2 g3) }
+fn is_single(p: u64, f: Floors, g: Gaps) -> bool
+    ensures { result ≡ true → Single p f g }
 {
-    if !runs_straight(p, f1, g1) {
-        return false;
-    }
-    if !runs_straight(p, f2, g2) {
-        return false;
-    }
-    runs_straight(p, f3, g3)
+    runs_straight(p, f.f1, g.g1) && runs_straight(p, f.f2, g.g2) && runs_straight(p, f.f3, g.g3)
 }
 
 // Whether the least child, with this digit, is the only one that holds: no other has a share of half.
-fn alone(digit: u64, h: u64, f1: u64, f2: u64, f3: u64) -> bool
-    ensures { (result ≡ true → digit ≡ 0 → (f1 < h) × (f2 < h) × (f3 < h))
-        × (result ≡ false → digit ≡ 0) }
+fn alone(digit: u64, h: u64, f: Floors) -> bool
+    ensures { (result ≡ true → digit ≡ 0 → (f.f1 < h) × (f.f2 < h) × (f.f3 < h)) × (result ≡ false → digit ≡ 0) }
 {
-    if digit != 0 {
-        return true;
-    }
-    if h <= f1 {
-        return false;
-    }
-    if h <= f2 {
-        return false;
-    }
-    f3 < h
+    digit != 0 || f.f1 < h && f.f2 < h && f.f3 < h
 }
 
 // The floors in the child at the corner k, where its share is half; they do not depend on the gaps.
-fn in_corner(h: u64, k: u64, f1: u64, f2: u64, f3: u64) -> Floors
-    requires { (1 ≤ k) × (k ≤ 3) × (h ≤ floor_at k (floors f1 f2 f3)) }
-    ensures { (G : Gaps) → result ≡ in_child h k (floors f1 f2 f3) G }
+fn in_corner(h: u64, k: u64, f: Floors) -> Floors
+    requires { (1 ≤ k) × (k ≤ 3) × (h ≤ floor_at k f) }
+    ensures { (G : Gaps) → result ≡ in_child h k f G }
 {
     match k {
-        1 => Floors { f1: f1 - h, f2, f3 },
-        2 => Floors { f1, f2: f2 - h, f3 },
-        _ => Floors { f1, f2, f3: f3 - h },
+        1 => Floors { f1: f.f1 - h, ..f },
+        2 => Floors { f2: f.f2 - h, ..f },
+        _ => Floors { f3: f.f3 - h, ..f },
     }
 }
 
 // From the triangle at the path v, n digits above those to list, whose edge has p parts: their words in the places
 // from `count` on, and the count after them.
 #[cycle(list_below_list_beside)]
-fn list_below(
-    w: Walk,
-    n: u64,
-    p: u64,
-    f1: u64,
-    f2: u64,
-    f3: u64,
-    v: u64,
-    count: usize,
-    out: &mut [u64],
-) -> usize
-    requires { IsWalk w n p (floors f1 f2 f3) v × Room count (walk_words w n p (floors f1 f2 f3) v) out.old }
-    ensures { Puts count (walk_words w n p (floors f1 f2 f3) v) out.old result out.new }
+fn list_below(w: Walk, n: u64, p: u64, f: Floors, v: u64, count: usize, out: &mut [u64]) -> usize
+    requires { IsWalk w n p f v × Room count (walk_words w n p f v) out.old }
+    ensures { Puts count (walk_words w n p f v) out.old result out.new }
 {
     if n == 0 {
         out[count] = words::word_of(w.side, w.degree, v);
         return count + 1;
     }
-    if is_single(p, f1, f2, f3, w.g1, w.g2, w.g3) {
-        let u = descend_straight(n, p, f1, f2, f3, w.g1, w.g2, w.g3, v);
+    if is_single(p, f, w.gaps) {
+        let u = descend_straight(n, p, f, w.gaps, v);
         out[count] = words::word_of(w.side, w.degree, u);
         return count + 1;
     }
     let h = p / 2;
-    let c = least_child(h, f1, f2, f3, w.g1, w.g2, w.g3);
+    let c = least_child(h, f, w.gaps);
     let u = 4 * v + c.digit;
-    if alone(c.digit, h, f1, f2, f3) {
-        return list_below(
-            w,
-            n - 1,
-            h,
-            c.floors.f1,
-            c.floors.f2,
-            c.floors.f3,
-            u,
-            count,
-            out,
-        );
+    if alone(c.digit, h, f) {
+        return list_below(w, n - 1, h, c.floors, u, count, out);
     }
-    let m = list_below(
-        w,
-        n - 1,
-        h,
-        c.floors.f1,
-        c.floors.f2,
-        c.floors.f3,
-        u,
-        count,
-        out,
-    );
-    list_beside(w, n - 1, h, f1, f2, f3, v, 1, m, out)
+    let m = list_below(w, n - 1, h, c.floors, u, count, out);
+    list_beside(w, n - 1, h, f, v, 1, m, out)
 }
 
 // The same for those of its children k to 3 with a share of half, whose edge has h parts, n digits above those to list.
@@ -142,29 +87,24 @@ fn list_beside(
     w: Walk,
     n: u64,
     h: u64,
-    f1: u64,
-    f2: u64,
-    f3: u64,
+    f: Floors,
     v: u64,
     k: u64,
     count: usize,
     out: &mut [u64],
 ) -> usize
-    requires { IsWalk w (suc n) (h + h) (floors f1 f2 f3) v
-        × (1 ≤ k)
-        × (k ≤ 4)
-        × Room count (beside_words w n h (floors f1 f2 f3) v k) out.old }
-    ensures { Puts count (beside_words w n h (floors f1 f2 f3) v k) out.old result out.new }
+    requires { IsWalk w (suc n) (h + h) f v × (1 ≤ k) × (k ≤ 4) × Room count (beside_words w n h f v k) out.old }
+    ensures { Puts count (beside_words w n h f v k) out.old result out.new }
 {
     if k == 4 {
         return count;
     }
-    if of_three(k, f1, f2, f3) < h {
-        return list_beside(w, n, h, f1, f2, f3, v, k + 1, count, out);
+    if of_three(k, f.f1, f.f2, f.f3) < h {
+        return list_beside(w, n, h, f, v, k + 1, count, out);
     }
-    let c = in_corner(h, k, f1, f2, f3);
-    let m = list_below(w, n, h, c.f1, c.f2, c.f3, 4 * v + k, count, out);
-    list_beside(w, n, h, f1, f2, f3, v, k + 1, m, out)
+    let c = in_corner(h, k, f);
+    let m = list_below(w, n, h, c, 4 * v + k, count, out);
+    list_beside(w, n, h, f, v, k + 1, m, out)
 }
 
 // The words of all triangles of a degree in a side that hold a direction with these floors and gaps there.
@@ -180,9 +120,7 @@ pub fn list_in(side: u64, degree: u64, f: Floors, g: Gaps, count: usize, out: &m
     let w = Walk {
         side,
         degree,
-        g1: g.g1,
-        g2: g.g2,
-        g3: g.g3,
+        gaps: g,
     };
-    list_below(w, degree, 16777216, f.f1, f.f2, f.f3, 0, count, out)
+    list_below(w, degree, 16777216, f, 0, count, out)
 }

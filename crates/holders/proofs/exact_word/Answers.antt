@@ -12,15 +12,7 @@ use Rattle.seats.specs.Means.Roles.{floors_at, gaps_at}
 use Rattle.seats.proofs.ExactWords.{octant_below, here_below, here_is, here_ordered, corner_floors}
 use Rattle.seats.proofs.ExactWords.{corner_gaps, exact_low, exact_filed}
 use Rattle.holders.proofs.exact_word.Goals as goal
-use Rattle.holders.proofs.exact_word.Lts as lts
-use Rattle.holders.proofs.exact_word.Reads as reads
-use Rattle.holders.proofs.exact_word.Tie as tie
-
-abbrev After-descend-path : Type 0
-After-descend-path = lts.After-descend tie.the-claims reads.Pre reads.Post
-
-abbrev After-stand_of-t : Type 0
-After-stand_of-t = lts.After-stand_of tie.the-claims reads.Pre reads.Post
+use Rattle.holders.proofs.exact_word.Goals.{After-descend-path, After-stand_of-t}
 
 pub overflow_mul-k : goal.overflow_mul-k
 overflow_mul-k c =
@@ -40,17 +32,17 @@ seat_fits c =
       here_ordered c.args.d c.requires.2 c.stand_of-t.result h,
     )
 
-pub at_corners-f-requires : goal.at_corners-f-requires
-at_corners-f-requires c = seat_fits c.before.before
+pub floors_at-requires : goal.floors_at-requires
+floors_at-requires c = seat_fits (goal.at.floors_at-requires c).After-stand_of-t
 
-pub at_corners-g-requires : goal.at_corners-g-requires
-at_corners-g-requires c = seat_fits c.before.before.before
+pub gaps_at-requires : goal.gaps_at-requires
+gaps_at-requires c = seat_fits (goal.at.gaps_at-requires c).After-stand_of-t
 
 pub descend-path-requires : goal.descend-path-requires
 descend-path-requires c =
     let f = corner_floors c.args.d c.requires.2 c.stand_of-t.result c.stand_of-t.ensures in
     let g = corner_gaps c.args.d c.requires.2 c.stand_of-t.result c.stand_of-t.ensures in
-    rw (c.at_corners-f.ensures, c.at_corners-g.ensures)
+    rw (c.floors_at.ensures, c.gaps_at.ensures)
     (c.requires.0, omega arith, f.0, f.1, f.2, g.0, g.1, g.2, pow_pos (2 * (24 - c.args.degree)))
 
 pub side_at-requires : goal.side_at-requires
@@ -68,7 +60,7 @@ path_is :
     (c : After-descend-path)
     → c.descend-path.result
     ≡ PathOf c.args.degree c.stand_of-t.result
-path_is c = rw (c.at_corners-f.ensures, c.at_corners-g.ensures) at c.descend-path.ensures
+path_is c = rw (c.floors_at.ensures, c.gaps_at.ensures) at c.descend-path.ensures
 
 pub word_of-requires : goal.word_of-requires
 word_of-requires c =
@@ -76,11 +68,11 @@ word_of-requires c =
     let h = c.stand_of-t.ensures in (
       rw c.side_at.ensures (omega (arith, (here_is c.args.d c.requires.2 r h).1)),
       c.requires.0,
-      exact_low c.args.d c.requires.2 r h c.args.degree c.descend-path.result c.requires.0 (path_is c.before),
+      exact_low c.args.d c.requires.2 r h c.args.degree c.descend-path.result c.requires.0 (path_is (goal.at.word_of-requires c).After-descend-path),
     )
 
 pub returns : goal.returns
 returns c =
     exact_filed c.args.d c.requires.2 c.stand_of-t.result c.stand_of-t.ensures c.args.degree
-    c.descend-path.result c.requires.0 (path_is c.before.before) c.word_of.result
+    c.descend-path.result c.requires.0 (path_is (goal.at.returns c).After-descend-path) c.word_of.result
     (c.word_of.ensures ∙ ap (λ (z : ℕ). word_of z c.args.degree c.descend-path.result) c.side_at.ensures)

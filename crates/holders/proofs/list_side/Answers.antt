@@ -8,7 +8,7 @@ pub list_in-requires : goal.list_in-requires
 list_in-requires c =
     let p = c.requires in
     let i = p.5.1 in
-    rw (c.side_at.ensures, c.at_corners-b.ensures, c.at_corners-a.ensures) (
+    rw (c.side_at.ensures, c.gaps_at.ensures, c.floors_at.ensures) (
       p.3,
       p.0,
       stands_floors 16777216 _ _ _ i (omega arith),
@@ -19,4 +19,4 @@ list_in-requires c =
 
 pub returns : goal.returns
 returns c =
-    rw (c.side_at.ensures, c.at_corners-b.ensures, c.at_corners-a.ensures) at c.list_in.ensures
+    rw (c.side_at.ensures, c.gaps_at.ensures, c.floors_at.ensures) at c.list_in.ensures

@@ -8,23 +8,19 @@ use Rattle.filing.specs.Means.Lists.{joined}
 use Rattle.shares.specs.declared.Floors.{Floors}
 use Rattle.shares.specs.declared.Gaps.{Gaps}
 use Rattle.shares.specs.declared.walks.Walk.{Walk}
-use Rattle.shares.specs.Means.Shares.{gaps}
 use Rattle.shares.specs.Means.Paths.{in_child, paths}
 
 -- the floor at the corner k
 abbrev pub floor_at : (k : ℕ) → Floors → ℕ
 floor_at k F = nth k F.f1 F.f2 F.f3
 
-abbrev pub gaps_of : Walk → Gaps
-gaps_of w = gaps w.g1 w.g2 w.g3
-
 -- the words of the triangles that hold, n digits below the path v of a triangle whose edge has p parts
 unfoldable pub walk_words : Walk → (n p : ℕ) → Floors → (v : ℕ) → List ℕ
-walk_words w n p F v = each (word_of w.side w.degree) (paths n p F (gaps_of w) v)
+walk_words w n p F v = each (word_of w.side w.degree) (paths n p F w.gaps v)
 
 -- of them, where its children's edges have h parts, those below the child k, if its share is half
 unfoldable pub corner_words : Walk → (n h : ℕ) → Floors → (v k : ℕ) → List ℕ
-corner_words w n h F v k = cond (leb h (floor_at k F)) (walk_words w n h (in_child h k F (gaps_of w)) (4 * v + k)) []
+corner_words w n h F v k = cond (leb h (floor_at k F)) (walk_words w n h (in_child h k F w.gaps) (4 * v + k)) []
 
 -- those below the children k to 3 with a share of half
 unfoldable pub beside_words : Walk → (n h : ℕ) → Floors → (v k : ℕ) → List ℕ
@@ -47,10 +43,10 @@ pub record IsWalk (w : Walk) (n p : ℕ) (F : Floors) (v : ℕ) : Type 0 where
   pub a_side : w.side < 24
   pub low : w.degree ≤ 24
   pub above : n ≤ w.degree
-  pub few : (w.g1 ≤ 1) × (w.g2 ≤ 1) × (w.g3 ≤ 1)
+  pub few : (w.gaps.g1 ≤ 1) × (w.gaps.g2 ≤ 1) × (w.gaps.g3 ≤ 1)
   pub most : p ≤ 16777216
   pub rest : ℕ
   pub parts : p ≡ 2 ^ (n + rest)
   pub shares : (F.f1 ≤ 16777216) × (F.f2 ≤ 16777216) × (F.f3 ≤ 16777216)
-  pub fair : Fair p F (gaps_of w)
+  pub fair : Fair p F w.gaps
   pub small : v < 2 ^ (2 * (w.degree - n))

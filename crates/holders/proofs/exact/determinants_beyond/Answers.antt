@@ -10,36 +10,36 @@ use Rattle.holders.proofs.exact.determinants_beyond.Lts as lts
 use Rattle.holders.proofs.exact.determinants_beyond.Reads as reads
 use Rattle.holders.proofs.exact.determinants_beyond.Tie as tie
 
-abbrev After-minus : Type 0
-After-minus = lts.After-minus tie.the-claims reads.Pre reads.Post
+abbrev After-sub : Type 0
+After-sub = lts.After-sub tie.the-claims reads.Pre reads.Post
 
-abbrev After-minus-2 : Type 0
-After-minus-2 = lts.After-minus2 tie.the-claims reads.Pre reads.Post
+abbrev After-sub-2 : Type 0
+After-sub-2 = lts.After-sub2 tie.the-claims reads.Pre reads.Post
 
-pub minus-requires : goal.minus-requires
-minus-requires c =
+pub sub-requires : goal.sub-requires
+sub-requires c =
     let p = c.requires in
     both_small c.of_parts.ensures c.of_parts-2.ensures (omega (arith, p)) (omega (arith, p))
 
-pub minus-requires-2 : goal.minus-requires-2
-minus-requires-2 c =
+pub sub-requires-2 : goal.sub-requires-2
+sub-requires-2 c =
     let p = c.requires in
     both_small c.of_parts-3.ensures c.of_parts-4.ensures (omega (arith, p)) (omega (arith, p))
 
-first : (c : After-minus) → let a = c.args in
-    c.minus.result ≡ outer a.a a.b a.c
+first : (c : After-sub) → let a = c.args in
+    c.sub.result ≡ outer a.a a.b a.c
 first c =
     let a = c.args in
-    less_is c.of_parts.ensures c.of_parts-2.ensures c.minus.ensures
+    less_is c.of_parts.ensures c.of_parts-2.ensures c.sub.ensures
     (outer_is a.a a.b a.c)
 
 second :
-    (c : After-minus-2)
+    (c : After-sub-2)
     → let a = c.args in
-    c.minus-2.result ≡ negφ (lean a.a a.b a.c)
+    c.sub-2.result ≡ negφ (lean a.a a.b a.c)
 second c =
     let a = c.args in
-    less_is c.of_parts-3.ensures c.of_parts-4.ensures c.minus-2.ensures
+    less_is c.of_parts-3.ensures c.of_parts-4.ensures c.sub-2.ensures
     (opposite_is a.a a.b a.c)
 
 pub returns : goal.returns

@@ -11,8 +11,8 @@ use Rattle.holders.proofs.exact.part_at.Lts as lts
 use Rattle.holders.proofs.exact.part_at.Reads as reads
 use Rattle.holders.proofs.exact.part_at.Tie as tie
 
-abbrev After-minus-over : Type 0
-After-minus-over = lts.After-minus tie.the-claims reads.Pre reads.Post
+abbrev After-sub-over : Type 0
+After-sub-over = lts.After-sub tie.the-claims reads.Pre reads.Post
 
 abbrev Start : Type 0
 Start = lts.Start tie.the-claims reads.Pre reads.Post
@@ -29,19 +29,19 @@ many-requires c = (omega arith, x_small c)
 pub many-requires-2 : goal.many-requires-2
 many-requires-2 c = (omega (arith, c.requires.0), s-small c.before)
 
-pub minus-over-requires : goal.minus-over-requires
-minus-over-requires c = (
+pub sub-over-requires : goal.sub-over-requires
+sub-over-requires c = (
   wide 16777216 c.args.x _ (omega arith) (x_small c.before.before) c.many.ensures,
   wide c.args.g c.args.s _ c.requires.0 (s-small c.before.before) c.many-2.ensures,
 )
 
 over_is :
-    (c : After-minus-over)
+    (c : After-sub-over)
     → let a = c.args in
-    c.minus-over.result ≡ times 16777216 a.x -φ times a.g a.s
-over_is c = c.minus-over.ensures ∙ (λ i. c.many.ensures i +φ negφ (c.many-2.ensures i))
+    c.sub-over.result ≡ times 16777216 a.x -φ times a.g a.s
+over_is c = c.sub-over.ensures ∙ (λ i. c.many.ensures i +φ negφ (c.many-2.ensures i))
 
-over_below : (c : After-minus-over) → Below (2 ^ 57) c.minus-over.result
+over_below : (c : After-sub-over) → Below (2 ^ 57) c.sub-over.result
 over_below c =
     over_small c.args.g c.args.s c.args.x _ c.requires.0 c.requires.1 (over_is c)
 

@@ -16,8 +16,8 @@ use Rattle.holders.proofs.exact.stand_of.Tie as tie
 abbrev After-determinants_of-t : Type 0
 After-determinants_of-t = lts.After-determinants_of tie.the-claims reads.Pre reads.Post
 
-abbrev After-plus-s : Type 0
-After-plus-s = lts.After-plus2 tie.the-claims reads.Pre reads.Post
+abbrev After-add-s : Type 0
+After-add-s = lts.After-add2 tie.the-claims reads.Pre reads.Post
 
 pub sizes_of-n-requires : goal.sizes_of-n-requires
 sizes_of-n-requires c = c.requires.0
@@ -65,22 +65,22 @@ small c =
     rw c.determinants_of-t.ensures
     (roles_small c.by_signs-r.result.kind c.sizes_of-n.result.a c.sizes_of-n.result.b c.sizes_of-n.result.c c.sizes_of-n.ensures.a_small c.sizes_of-n.ensures.b_small c.sizes_of-n.ensures.c_small)
 
-pub plus-requires : goal.plus-requires
-plus-requires c = let w = small_wide _ (small c.before.before) in (w.0, w.1)
+pub add-requires : goal.add-requires
+add-requires c = let w = small_wide _ (small c.before.before) in (w.0, w.1)
 
-pub plus-s-requires : goal.plus-s-requires
-plus-s-requires c = (two_wide _ (small c.before.before.before.before) _ c.plus.ensures, (small_wide _ (small c.before.before.before.before)).2)
+pub add-s-requires : goal.add-s-requires
+add-s-requires c = (two_wide _ (small c.before.before.before.before) _ c.add.ensures, (small_wide _ (small c.before.before.before.before)).2)
 
-sum_is : (c : After-plus-s) → c.plus-s.result ≡ total c.determinants_of-t.result
-sum_is c = c.plus-s.ensures ∙ ap (λ (x : Golden). x +φ c.determinants_of-t.result.d3) c.plus.ensures
+sum_is : (c : After-add-s) → c.add-s.result ≡ total c.determinants_of-t.result
+sum_is c = c.add-s.ensures ∙ ap (λ (x : Golden). x +φ c.determinants_of-t.result.d3) c.add.ensures
 
 -- ---- the shares
 
 measured :
-    (c : After-plus-s)
-    → Measured c.determinants_of-t.result.d1 c.plus-s.result c.divide_three-q.result.q1 c.divide_three-q.result.sum
-    × Measured c.determinants_of-t.result.d2 c.plus-s.result c.divide_three-q.result.q2 c.divide_three-q.result.sum
-    × Measured c.determinants_of-t.result.d3 c.plus-s.result c.divide_three-q.result.q3 c.divide_three-q.result.sum
+    (c : After-add-s)
+    → Measured c.determinants_of-t.result.d1 c.add-s.result c.divide_three-q.result.q1 c.divide_three-q.result.sum
+    × Measured c.determinants_of-t.result.d2 c.add-s.result c.divide_three-q.result.q2 c.divide_three-q.result.sum
+    × Measured c.determinants_of-t.result.d3 c.add-s.result c.divide_three-q.result.q3 c.divide_three-q.result.sum
 measured c =
     let d = c.args.d in
     let some = c.requires.1 in

@@ -8,15 +8,14 @@ use native.Mathlib.Omega.{arith}
 use lib.ListN.{length-set}
 use Rattle.filing.proofs.HolderLists.{puts_one, room_first, room_rest, puts_both}
 use Rattle.shares.specs.declared.Floors.{Floors}
-use Rattle.shares.specs.Means.Shares.{floors}
-use Rattle.shares.specs.Means.WalkWords.{gaps_of, IsWalk, walk_words, beside_words}
+use Rattle.shares.specs.Means.WalkWords.{IsWalk, walk_words, beside_words}
 use Rattle.shares.proofs.LeastSteps.{digit_small}
 use Rattle.shares.proofs.WalkLists.{this_word, one_word, least_alone, least_and_beside}
 use Rattle.shares.proofs.WalkSteps.{walk_short, walk_path, walk_word, walk_least, walk_half, walk_to_least}
 use mathlib.Core.List.{List, ◌++◌}
 use Prim.Native.Nat.{ℕ, suc, ◌<◌, ◌≤◌, ◌+◌, ◌*◌, ◌^◌}
 use Rattle.filing.proofs.HolderLists.{puts_none, room_first, room_rest, puts_both}
-use Rattle.shares.specs.Means.WalkWords.{gaps_of, walk_words, beside_words}
+use Rattle.shares.specs.Means.WalkWords.{walk_words, beside_words}
 use Rattle.shares.proofs.WalkLists.{no_corners, corner_passed, corner_and_rest}
 use Rattle.shares.proofs.WalkSteps.{walk_short, walk_to_corner}
 use Rattle.shares.proofs.walks.+list_below_list_beside.Goals as goal
@@ -55,7 +54,7 @@ below_calls t = (
 pub list_below-word_of-requires : goal.list_below-word_of-requires
 list_below-word_of-requires t c =
     let a = c.args in
-    walk_word a.w a.n a.p (floors a.f1 a.f2 a.f3) a.v c.requires.0 c.if-n-eq0.true
+    walk_word a.w a.n a.p a.f a.v c.requires.0 c.if-n-eq0.true
 
 -- the word, in its place
 abbrev This : ℕ → Type 0
@@ -64,10 +63,10 @@ This t = list_below_lts.After-word_of (below_calls t) (goal.list_below-at t) lis
 words_this :
     (t : ℕ) (c : This t)
     → let a = c.args in
-    walk_words a.w a.n a.p (floors a.f1 a.f2 a.f3) a.v ≡ c.word_of.result ∷ []
+    walk_words a.w a.n a.p a.f a.v ≡ c.word_of.result ∷ []
 words_this t c =
     let a = c.args in
-    this_word a.w (floors a.f1 a.f2 a.f3) a.v a.n a.p _
+    this_word a.w a.f a.v a.n a.p _
     c.if-n-eq0.true
     c.word_of.ensures
 
@@ -94,13 +93,13 @@ pub list_below-descend_straight-u-requires : goal.list_below-descend_straight-u-
 list_below-descend_straight-u-requires t c =
     let a = c.args in
     let i = c.requires.0 in
-    let l = walk_path a.w a.n a.p (floors a.f1 a.f2 a.f3) a.v i in
+    let l = walk_path a.w a.n a.p a.f a.v i in
     (omega (arith, i.above, i.low), i.most, i.shares, i.few, l, (i.rest, i.parts), i.fair)
 
 pub list_below-word_of-requires-then-is_single : goal.list_below-word_of-requires-then-is_single
 list_below-word_of-requires-then-is_single t c =
     let a = c.args in
-    let F = floors a.f1 a.f2 a.f3 in
+    let F = a.f in
     walk_least a.w a.n a.p F a.v c.requires.0 c.descend_straight-u.result c.descend_straight-u.ensures
 
 -- the word of the least, in its place
@@ -110,10 +109,10 @@ Word t = list_below_lts.After-word_of2 (below_calls t) (goal.list_below-at t) li
 words_one :
     (t : ℕ) (c : Word t)
     → let a = c.args in
-    walk_words a.w a.n a.p (floors a.f1 a.f2 a.f3) a.v ≡ c.word_of-then-is_single.result ∷ []
+    walk_words a.w a.n a.p a.f a.v ≡ c.word_of-then-is_single.result ∷ []
 words_one t c =
     let a = c.args in
-    let F = floors a.f1 a.f2 a.f3 in
+    let F = a.f in
     one_word a.w F a.v a.n a.p c.descend_straight-u.result c.word_of-then-is_single.result
     c.requires.0
     (c.is_single.ensures c.if-is_single.true)
@@ -146,12 +145,12 @@ abbrev Least : ℕ → Type 0
 Least t = list_below_lts.After-least_child (below_calls t) (goal.list_below-at t) list_below.Post (goal.the-clauses-list_below t)
 
 abbrev here : (t : ℕ) → Least t → Floors
-here t c = let a = c.args in floors a.f1 a.f2 a.f3
+here t c = let a = c.args in a.f
 
 small_digit : (t : ℕ) (c : Least t) → c.least_child-c.result.digit < 4
 small_digit t c =
     let a = c.args in
-    rw c.least_child-c.ensures.0 (digit_small (a.p / 2) (here t c) (gaps_of a.w))
+    rw c.least_child-c.ensures.0 (digit_small (a.p / 2) (here t c) a.w.gaps)
 
 short_least : (t : ℕ) (c : Least t) → c.args.v < 2 ^ 48
 short_least t c =
@@ -239,14 +238,14 @@ list_below-overflow_sub-n t c =
 pub list_below-list_below-requires : goal.list_below-list_below-requires
 list_below-list_below-requires t c =
     let f = c.if-n-eq0.false in
-    (omega (arith, c.decreases, f), (in_least t c.before.before.before.before, rw (words_alone t c.before) at c.requires.1))
+    (omega (arith, c.decreases, f), (in_least t c.before.before.before.before.before, rw (words_alone t c.before.before) at c.requires.1))
 
 pub list_below-shape_of-out-then-alone : goal.list_below-shape_of-out-then-alone
 list_below-shape_of-out-then-alone t c = c.list_below.auto.out
 
 pub list_below-returns-then-alone : goal.list_below-returns-then-alone
 list_below-returns-then-alone t c =
-    rw (words_alone t c.before.before.before.before.before) c.list_below.ensures
+    rw (words_alone t c.before.before.before.before.before.before) c.list_below.ensures
 
 pub list_below-overflow_sub-n-2 : goal.list_below-overflow_sub-n-2
 list_below-overflow_sub-n-2 t c =
@@ -256,11 +255,11 @@ pub list_below-list_below-m-requires : goal.list_below-list_below-m-requires
 list_below-list_below-m-requires t c =
     let a = c.args in
     let f = c.if-n-eq0.false in
-    let xs = least_words t c.before.before.before.before in
-    let ys = other_words t c.before.before.before.before in
-    let e = words_both t c.before in
-    let room = room_first a.count xs ys (all_words t c.before.before.before.before) a.out.now e c.requires.1 in
-    (omega (arith, c.decreases, f), (in_least t c.before.before.before.before, room))
+    let xs = least_words t c.before.before.before.before.before in
+    let ys = other_words t c.before.before.before.before.before in
+    let e = words_both t c.before.before in
+    let room = room_first a.count xs ys (all_words t c.before.before.before.before.before) a.out.now e c.requires.1 in
+    (omega (arith, c.decreases, f), (in_least t c.before.before.before.before.before, room))
 
 pub list_below-overflow_sub-n-3 : goal.list_below-overflow_sub-n-3
 list_below-overflow_sub-n-3 t c =
@@ -270,11 +269,11 @@ pub list_below-list_beside-requires : goal.list_below-list_beside-requires
 list_below-list_beside-requires t c =
     let a = c.args in
     let f = c.if-n-eq0.false in
-    let xs = least_words t c.before.before.before.before.before.before.before.before in
-    let ys = other_words t c.before.before.before.before.before.before.before.before in
+    let xs = least_words t c.before.before.before.before.before.before.before.before.before in
+    let ys = other_words t c.before.before.before.before.before.before.before.before.before in
     let told = c.list_below-m.ensures in
-    let room = room_rest a.count xs ys (all_words t c.before.before.before.before.before.before.before.before) a.out.now (words_both t c.before.before.before.before.before) c.requires.1 told in
-    (omega (arith, c.decreases, f), (beside_least t c.before.before.before.before.before.before.before.before, omega arith, omega arith, room))
+    let room = room_rest a.count xs ys (all_words t c.before.before.before.before.before.before.before.before.before) a.out.now (words_both t c.before.before.before.before.before.before) c.requires.1 told in
+    (omega (arith, c.decreases, f), (beside_least t c.before.before.before.before.before.before.before.before.before, omega arith, omega arith, room))
 
 pub list_below-shape_of-out : goal.list_below-shape_of-out
 list_below-shape_of-out t c =
@@ -284,9 +283,9 @@ list_below-shape_of-out t c =
 pub list_below-returns : goal.list_below-returns
 list_below-returns t c =
     let a = c.args in
-    let xs = least_words t c.before.before.before.before.before.before.before.before.before.before.before.before in
-    let ys = other_words t c.before.before.before.before.before.before.before.before.before.before.before.before in
-    puts_both a.count xs ys (all_words t c.before.before.before.before.before.before.before.before.before.before.before.before) a.out.now (words_both t c.before.before.before.before.before.before.before.before.before) c.requires.1
+    let xs = least_words t c.before.before.before.before.before.before.before.before.before.before.before.before.before in
+    let ys = other_words t c.before.before.before.before.before.before.before.before.before.before.before.before.before in
+    puts_both a.count xs ys (all_words t c.before.before.before.before.before.before.before.before.before.before.before.before.before) a.out.now (words_both t c.before.before.before.before.before.before.before.before.before.before) c.requires.1
     c.list_below-m.ensures
     c.list_beside.ensures
 
@@ -307,7 +306,7 @@ beside_calls t = (
 pub list_beside-returns-then-k-eq4 : goal.list_beside-returns-then-k-eq4
 list_beside-returns-then-k-eq4 t c =
     let a = c.args in
-    let e = no_corners a.w (floors a.f1 a.f2 a.f3) a.v a.n a.h a.k c.if-k-eq4.true in
+    let e = no_corners a.w a.f a.v a.n a.h a.k c.if-k-eq4.true in
     puts_none a.count _ a.out.now e
 
 pub list_beside-overflow_add-k : goal.list_beside-overflow_add-k
@@ -318,7 +317,7 @@ abbrev Floor : ℕ → Type 0
 Floor t = list_beside_lts.After-of_three (beside_calls t) (goal.list_beside-at t) list_beside.Post (goal.the-clauses-list_beside t)
 
 abbrev floors_of : (t : ℕ) → Floor t → Floors
-floors_of t c = let a = c.args in floors a.f1 a.f2 a.f3
+floors_of t c = let a = c.args in a.f
 
 abbrev words_from : (t : ℕ) → Floor t → (k : ℕ) → List ℕ
 words_from t c k = let a = c.args in beside_words a.w a.n a.h (floors_of t c) a.v k
@@ -386,7 +385,7 @@ words_here t c =
     c.requires.2
     c.if-k-eq4.false
     (rw c.of_three.ensures at c.if-of_three-h.false)
-    (c.in_corner-c.ensures (gaps_of a.w))
+    (c.in_corner-c.ensures a.w.gaps)
 
 pub list_beside-list_below-m-requires : goal.list_beside-list_below-m-requires
 list_beside-list_below-m-requires t c =
@@ -394,7 +393,7 @@ list_beside-list_below-m-requires t c =
     let p = c.requires in
     let f = c.if-k-eq4.false in
     let K = c.in_corner-c.result in
-    let e = c.in_corner-c.ensures (gaps_of a.w) in
+    let e = c.in_corner-c.ensures a.w.gaps in
     let half = rw c.of_three.ensures at c.if-of_three-h.false in
     let last : a.k ≤ 3 = omega (arith, p.2, f) in
     let walk = walk_to_corner a.w a.n a.h (floors_of t c.before.before.before) K a.v a.k p.0 p.1 last half e in

@@ -9,13 +9,7 @@ unfolding walk_words
 list_below-requires c =
     let a = c.args in
     let p = c.requires in
-    let w : Walk = record {
-      side = a.side;
-      degree = a.degree;
-      g1 = a.g.g1;
-      g2 = a.g.g2;
-      g3 = a.g.g3;
-    } in
+    let w : Walk = record { side = a.side; degree = a.degree; gaps = a.g } in
     (walk_start w a.f p.0 p.1 p.3 p.2 p.4, p.5)
 
 pub shape_of-out : goal.shape_of-out

@@ -51,6 +51,13 @@ impl<'a> Words<'a> {
     {
         run_len(self.rest, true) == self.rest.len()
     }
+
+    // What is left of the line, from its first word on.
+    pub fn rest(&self) -> &'a [u8]
+        ensures { result.now ≡ splitting.begun self.now.rest.now }
+    {
+        &self.rest[run_len(self.rest, true)..]
+    }
 }
 
 impl<'a> Iterator for Words<'a> {
@@ -63,8 +70,7 @@ impl<'a> Iterator for Words<'a> {
     ghost remaining = { λ s. at_most (length s.rest.now) };
 
     fn next(&mut self) -> Option<&'a [u8]> {
-        let line = self.rest;
-        let begun = &line[run_len(line, true)..];
+        let begun = self.rest();
         let (word, rest) = begun.split_at(run_len(begun, false));
         self.rest = rest;
         if word.is_empty() { None } else { Some(word) }

@@ -10,5 +10,5 @@ returns-then-f-ne0 c = refusing c.refuse_numbered-f.ensures c.if-f-ne0.true
 pub returns : goal.returns
 returns c =
     edge_marked _ _ (sym c.refuse_numbered-f.ensures ∙ c.if-f-ne0.false)
-    c.of_three.ensures c.drawn_of-lower.ensures
-    c.of_three-2.ensures c.drawn_of-higher.ensures
+    c.of_three.ensures c.drawn_of.ensures
+    c.of_three-2.ensures c.drawn_of-2.ensures

@@ -1,11 +1,7 @@
 -- The refusals in turn; then the two corners drawn (Marking). Assumes nothing.
 use mathlib.Core.Path.{◌∙◌, sym}
-use Rattle.frame.proofs.Answering.{refusing}
 use Rattle.marks.proofs.Marking.{edge_marked}
 use Rattle.marks.proofs.edge_mark.Goals as goal
-
-pub returns-then-f-ne0 : goal.returns-then-f-ne0
-returns-then-f-ne0 c = refusing c.refuse_numbered-f.ensures c.if-f-ne0.true
 
 pub returns : goal.returns
 returns c =

@@ -1,10 +1,7 @@
 -- By what the table has (Marking). Assumes nothing.
 use native.Mathlib.Omega.{arith}
-use Rattle.marks.proofs.Marking.{a_dot, drawn_is, mark_of_said, nothing_shown}
+use Rattle.marks.proofs.Marking.{a_dot, drawn_is, mark_of_said}
 use Rattle.marks.proofs.mark_of.Goals as goal
-
-pub returns-in-None : goal.returns-in-None
-returns-in-None c = mark_of_said c.args.t _ c.in-None.is nothing_shown
 
 pub returns-in-Some : goal.returns-in-Some
 returns-in-Some c =

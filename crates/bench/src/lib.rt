@@ -36,7 +36,6 @@ ghost use Rattle.mending.specs.declared.MendAnswer.{MendAnswer};
 
 use grid::{Coordinates, CornerName, Direction, Point, Ticks, TriangleCode};
 use marks::Mark;
-use soundings::Sounding;
 
 // ---- words
 
@@ -244,18 +243,10 @@ pub extern "C" fn bench_sweep(degree: u64, dirs: &[i32], codes: &mut [u64]) -> u
 // ---- a table of soundings
 
 // A reading, or -1.
-fn number_of(s: Sounding) -> i32 {
-    match s {
-        Sounding::Nothing => -1,
-        Sounding::Reading(x) => x,
-    }
-}
-
 #[unsafe(no_mangle)]
 pub extern "C" fn bench_get(degree: u64, code: u64, list: &[i32]) -> i32 {
     let r = soundings::get(degree, TriangleCode(code), list);
-    let s = r.sounding;
-    number_of(s)
+    r.sounding.unwrap_or(-1)
 }
 
 // ---- marks

@@ -11,10 +11,9 @@ use lib.Ieee.{binary64, fits, of_bits, to_bits}
 use Rattle.frame.specs.Refusals.{first_of}
 use Rattle.frame.specs.Lists.{some, first_place}
 use Rattle.frame.specs.Promises.{◌gives◌}
-use Rattle.frame.proofs.Answering.{answering, gives_one, no_other, refused_as, refusing}
+use Rattle.frame.proofs.Answering.{answering, gives_one, no_other, refusing}
 use Rattle.golden.specs.Numbers.{◌+φ◌, negφ, ◌*φ◌}
-use Rattle.words.specs.Words.{degree_of, first_digits, path, word_in}
-use Rattle.words.specs.Refusals.{check_code}
+use Rattle.words.specs.Words.{first_digits, path, word_in}
 use Rattle.words.specs.Counting.{place_of}
 use Rattle.words.specs.Family.{code_of}
 use Rattle.words.specs.Writing.{decimals, written, zero_digits}
@@ -35,9 +34,9 @@ use Rattle.std.specs.Prelude.{None, Some}
 use Rattle.marks.specs.declared.Mark.{Mark}
 use Rattle.marks.specs.declared.Mark.TheVariants.{Nothing, Dot, Segment}
 use Rattle.marks.specs.declared.MarkAnswer.{MarkAnswer}
-use Rattle.marks.specs.Marks.{number_of, points_of, DrawnAt}
+use Rattle.marks.specs.Marks.{number_of, DrawnAt}
 use Rattle.marks.specs.Answers.{mark_answer, no_edge_mark, no_mark, TableMarkAnswer, EdgeMarkAnswer}
-use Rattle.marks.specs.Examples.{at, v00, v10, v40, v41, v50, first, second, Examples, Bounds, Mistakes}
+use Rattle.marks.specs.Examples.{at, v00, v40, v41, v50, first, second, Examples, Bounds, Mistakes}
 use Rattle.marks.proofs.Marking.{a_dot, a_segment, edge_mark_one, mark_of_said, nothing_shown, table_one, with_mark}
 
 -- ---- how an example is shown

@@ -5,9 +5,8 @@ use mathlib.Core.List.{List, [], ◌∷◌}
 use Prim.Native.Nat.{ℕ}
 use native.Mathlib.Omega.{arith}
 use lib.IntN.{ℤ}
-use Rattle.frame.proofs.Answering.{answers_or_not, good, keeps, number_is, passed}
+use Rattle.frame.proofs.Answering.{answers_or_not, keeps, passed}
 use Rattle.words.specs.Words.{degree_of}
-use Rattle.words.specs.Refusals.{IsCode, check_code}
 use Rattle.words.specs.declared.TriangleCode.{TriangleCode}
 use Rattle.net.specs.Sides.{OneToThree}
 use Rattle.net.specs.Corners.{corner}
@@ -32,13 +31,12 @@ use Rattle.tables.specs.Answers.{GetAnswer}
 use Rattle.std.specs.Prelude.{None, Some}
 use Rattle.tables.specs.declared.SoundingAnswer.{SoundingAnswer}
 use Rattle.marks.specs.declared.Mark.{Mark}
-use Rattle.marks.specs.declared.Mark.TheVariants.{Nothing}
 use Rattle.marks.specs.declared.MarkAnswer.{MarkAnswer}
 use Rattle.marks.specs.Marks.{number_of, Shows, DrawnAt, IsMark, IsEdgeMark}
-use Rattle.marks.specs.Answers.{Marked, no_mark, no_edge_mark, mark_answer, TableMarkAnswer, EdgeMarkAnswer}
+use Rattle.marks.specs.Answers.{TableMarkAnswer, EdgeMarkAnswer}
 use Rattle.marks.specs.Promises.{OneAnswer, OfTable, AsDrawn, OneLine}
-use Rattle.marks.proofs.Marking.{drawn_is, edge_mark_one, edge_mark_some, got_number, nothing_shown}
-use Rattle.marks.proofs.Marking.{mark_of_said, table_code, table_one, table_refused, table_some}
+use Rattle.marks.proofs.Marking.{drawn_is, edge_mark_one, edge_mark_some, nothing_shown}
+use Rattle.marks.proofs.Marking.{mark_of_said, table_code, table_one, table_some}
 
 pub one_answer : OneAnswer
 one_answer = record {

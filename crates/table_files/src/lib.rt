@@ -14,6 +14,9 @@ ghost use Rattle.table_files.specs.Refusals.{refuse_table};
 use octets::{get8, put8};
 use tables::TableAnswer;
 
+// The largest reading, in millimetres.
+const MOST: u64 = 100000;
+
 // All bits set: -1 in a file.
 const ALL: u64 = 0xFFFF_FFFF_FFFF_FFFF;
 
@@ -47,7 +50,7 @@ impl Filed for i32 {
 
     fn from_word(w: u64) -> i32 {
         match w {
-            0..=100000 => w as i32,
+            0..=MOST => w as i32,
             ALL => -1,
             _ => -2,
         }

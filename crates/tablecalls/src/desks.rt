@@ -190,8 +190,8 @@ fn put_sounding(s: Sounding, out: &mut [u8]) -> usize
     ensures { result ≤ 16000 }
 {
     match s {
-        Sounding::Nothing => lines::put_bytes(b"no reading", out, 0),
-        Sounding::Reading(x) => items::put_millimetres(x, out, 0),
+        None => lines::put_bytes(b"no reading", out, 0),
+        Some(x) => items::put_millimetres(x, out, 0),
     }
 }
 

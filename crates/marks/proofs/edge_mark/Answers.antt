@@ -1,14 +1,10 @@
 -- The refusals in turn; then the two corners drawn (Marking). Assumes nothing.
 use mathlib.Core.Path.{◌∙◌, sym}
-use Rattle.frame.proofs.Answering.{refusing}
 use Rattle.marks.proofs.Marking.{edge_marked}
 use Rattle.marks.proofs.edge_mark.Goals as goal
-
-pub returns-then-f-ne0 : goal.returns-then-f-ne0
-returns-then-f-ne0 c = refusing c.refuse_numbered-f.ensures c.if-f-ne0.true
 
 pub returns : goal.returns
 returns c =
     edge_marked _ _ (sym c.refuse_numbered-f.ensures ∙ c.if-f-ne0.false)
-    c.of_three.ensures c.drawn_of-lower.ensures
-    c.of_three-2.ensures c.drawn_of-higher.ensures
+    c.of_three.ensures c.drawn_of.ensures
+    c.of_three-2.ensures c.drawn_of-2.ensures

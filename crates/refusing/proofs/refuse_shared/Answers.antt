@@ -1,17 +1,15 @@
 -- The desk, the list of owners, the triangle's owner (tables' Deeds, OwnerLists). Assumes nothing.
-use mathlib.Core.Path.{◌≡◌, refl, sym, ◌∙◌, ap}
+use mathlib.Core.Path.{◌≡◌, sym, ◌∙◌, ap}
 use mathlib.Core.Bool.{true, false}
 use native.Mathlib.Omega.{arith}
-use Prim.Native.Nat.{ℕ, ◌≤◌, ◌<◌}
+use Prim.Native.Nat.{ℕ, ◌<◌}
 use lib.ListN.{length, get_or}
 use Rattle.frame.specs.Refusals.{first_of}
 use Rattle.words.specs.Counting.{place_of}
 use Rattle.words.proofs.CodeCount.{place_below}
 use Rattle.tables.specs.Tables.{places}
-use Rattle.tables.specs.Owners.{nobody, is_desk, is_other, any_other}
+use Rattle.tables.specs.Owners.{nobody, is_desk, any_other}
 use Rattle.tables.specs.Refusals.{desk_order, owner_rows}
-use Rattle.frame.proofs.Scanning.{none_at}
-use Rattle.tables.proofs.Numbers.{owner_most}
 use Rattle.tables.proofs.Deeds.{not_a_desk, owners_then}
 use Rattle.refusing.proofs.OwnerLists.{owners_passed, owners_first}
 use Rattle.refusing.proofs.refuse_shared.Goals as goal
@@ -39,9 +37,6 @@ good : (c : Else-f-ne0) → (let a = c.args in
     (length a.owners.now ≡ places a.degree) × (any_other a.owners.now ≡ false))
 good c = owners_passed _ _ (sym c.refuse_owners-f.ensures ∙ c.if-f-ne0.false)
 
-pub refuse_owners-f-requires : goal.refuse_owners-f-requires
-refuse_owners-f-requires c = c.requires.0
-
 pub returns-then-f-ne0 : goal.returns-then-f-ne0
 returns-then-f-ne0 c =
     let a = c.args in
@@ -54,13 +49,6 @@ bounds-owners-i c =
     omega (arith, l, c.place_of-i.ensures)
 
 -- an owner is at most 2
-pub overflow_cast-owners : goal.overflow_cast-owners
-overflow_cast-owners c =
-    let owners = c.args.owners.now in
-    let x = get_or owners c.place_of-i.result nobody in
-    let l : x ≤ 2 = owner_most x (none_at is_other nobody refl owners c.place_of-i.result (good c.before.before.before).1) in
-    omega (arith, l)
-
 pub returns : goal.returns
 returns c =
     let a = c.args in

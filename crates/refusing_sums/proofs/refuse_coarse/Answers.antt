@@ -51,10 +51,6 @@ returns-then-degree-eq0 c =
       total = λ some. absurd (some c.if-degree-eq0.true);
     })
 
-pub parent_place-p-requires : goal.parent_place-p-requires
-parent_place-p-requires c =
-    (c.requires.1.passes, omega (arith, c.if-degree-eq0.false, c.requires.1.degree_is))
-
 -- the parent's place
 up : (c : After-parent_place-p) → (let a = c.args in
     Above a.degree a.t a.list.now c.parent_place-p.result)

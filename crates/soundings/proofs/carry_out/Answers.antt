@@ -6,8 +6,8 @@ use lib.ListN.{length}
 use Rattle.tables.specs.Owners.{Shared, shared}
 use Rattle.tables.proofs.Numbers.{desk_most}
 use Rattle.tables.proofs.Holding.{after_long}
-use Rattle.tables.proofs.Answering.{checked, lent_refused, lent_written}
-use Rattle.coarse.specs.Sums.{coarse, chart, coarse_after, chart_after}
+use Rattle.tables.proofs.Answering.{checked}
+use Rattle.coarse.specs.Sums.{coarse, chart}
 use Rattle.coarse.proofs.Refused.{Kept, kept_known}
 use Rattle.soundings.proofs.carry_out.Goals as goal
 use Rattle.soundings.proofs.carry_out.Lts as lts
@@ -28,13 +28,6 @@ known c =
     (chart (shared list a.owners.now) (coarse a.counts.now a.sums.now))
     (sym (checked list _ _ c.refuse_kept-checked.ensures) ∙ c.if-checked-ne0.false)
 
-pub returns-then-checked-ne0 : goal.returns-then-checked-ne0
-returns-then-checked-ne0 c =
-    let a = c.args in
-    let old = chart (shared a.list.now a.owners.now) (coarse a.counts.now a.sums.now) in
-    lent_refused a.list.now _ (chart_after a.deed a.desk a.degree a.t old) old _
-    c.refuse_kept-checked.ensures c.if-checked-ne0.true
-
 pub overflow_cast-desk : goal.overflow_cast-desk
 overflow_cast-desk c =
     let d = c.args.desk in
@@ -54,13 +47,3 @@ keep-requires c =
     ∙ after_long a.deed a.desk a.t (shared a.list.now a.owners.now) in
     let p = g.owned.passed in
     (p.degree, p.code, long ∙ p.long, g.lists.counts_long, g.lists.sums_long)
-
-pub returns : goal.returns
-returns c =
-    let a = c.args in
-    let sums = coarse a.counts.now a.sums.now in
-    let old = chart (shared a.list.now a.owners.now) sums in
-    let s = c.write.ensures in
-    let then = c.keep.ensures ∙ ap (λ (x : Shared). coarse_after a.degree a.t x.readings sums) s in
-    lent_written a.list.now _ (chart_after a.deed a.desk a.degree a.t old) old _
-    c.refuse_kept-checked.ensures c.if-checked-ne0.false (λ i. chart (s i) (then i))

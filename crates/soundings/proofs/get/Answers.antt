@@ -11,7 +11,7 @@ use Rattle.tables.specs.Tables.{none, said}
 use Rattle.frame.proofs.Scanning.{in_range}
 use Rattle.words.proofs.CodeCount.{place_fits}
 use Rattle.tables.proofs.Refused.{Passed, call_passed}
-use Rattle.tables.proofs.Answering.{checked, get_refused, get_found}
+use Rattle.tables.proofs.Answering.{checked, get_found}
 use Rattle.soundings.proofs.get.Goals as goal
 use Rattle.soundings.proofs.get.Lts as lts
 use Rattle.soundings.proofs.get.Reads as reads
@@ -25,11 +25,6 @@ known c =
     let a = c.args in
     (call_passed a.degree a.t a.list.now false
     (sym (checked a.list.now _ _ c.refuse_call-a.ensures) ∙ c.if-a-ne0.false)).0
-
-pub returns-then-a-ne0 : goal.returns-then-a-ne0
-returns-then-a-ne0 c =
-    let a = c.args in
-    get_refused a.degree a.t a.list.now _ c.refuse_call-a.ensures c.if-a-ne0.true
 
 pub place_of-i-requires : goal.place_of-i-requires
 place_of-i-requires c = (known c).code.passes

@@ -2,7 +2,7 @@
 use mathlib.Core.Path.{sym, ◌∙◌}
 use lib.ListN.{length}
 use Rattle.net.specs.Division.{sum}
-use Rattle.tables.proofs.Answering.{checked, lent_refused, lent_written}
+use Rattle.tables.proofs.Answering.{checked, lent_written}
 use Rattle.coarse.specs.Sums.{coarse, true_coarse}
 use Rattle.coarse.proofs.Children.{four_each, every_parent_lem}
 use Rattle.coarse.proofs.Refused.{WorkedOut, work_out_passed}
@@ -20,12 +20,6 @@ known c =
     let a = c.args in
     work_out_passed a.degree a.list.now (coarse a.counts.now a.sums.now)
     (sym (checked a.list.now _ _ c.refuse_work_out-answered.ensures) ∙ c.if-answered-ne0.false)
-
-pub returns-then-answered-ne0 : goal.returns-then-answered-ne0
-returns-then-answered-ne0 c =
-    let a = c.args in
-    lent_refused a.list.now _ (true_coarse a.degree a.list.now) (coarse a.counts.now a.sums.now) _
-    c.refuse_work_out-answered.ensures c.if-answered-ne0.true
 
 pub store_all-requires : goal.store_all-requires
 store_all-requires c =

@@ -29,10 +29,10 @@ ghost use Rattle.tables.specs.declared.TableAnswer.{TableAnswer};
 ghost use Rattle.coarse.specs.Sums.{coarse, chart};
 ghost use Rattle.coarse.specs.Answers.{TakeAnswer, SetAnswer, ClearAnswer, GiveAnswer, WorkOutAnswer};
 ghost use Rattle.cells.specs.Checking.{checked};
-ghost use Rattle.cells.specs.declared.Verdict.{Verdict};
+ghost use Rattle.cells.specs.Checking.{Verdict};
 ghost use Rattle.verdicts.specs.Program.{line};
 ghost use Rattle.mending.specs.Answers.{lists, MendResult};
-ghost use Rattle.mending.specs.declared.MendAnswer.{MendAnswer};
+ghost use Rattle.mending.specs.Answers.{MendAnswer};
 
 use grid::{Coordinates, CornerName, Direction, Point, Ticks, TriangleCode};
 use marks::Mark;

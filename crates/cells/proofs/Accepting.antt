@@ -20,7 +20,7 @@ use Rattle.cells.specs.Order.{valid, less_than, inside_of}
 use Rattle.cells.specs.Checking.{reason_at, reasons, offends, verdict, accepted, checked, Accepted}
 use Rattle.cells.specs.Promises.{OneAnswer, FirstOffence, Checks, LastDecides}
 use Rattle.cells.specs.Means.Ranks.{ClearTo}
-use Rattle.cells.specs.declared.Verdict.{Verdict}
+use Rattle.cells.specs.Checking.{Verdict}
 use Rattle.cells.proofs.Dictionary.{known, clash}
 use Rattle.cells.proofs.Spelling.{less_self, less_trans, less_ne, less_one_way, above, inside_between}
 use Rattle.cells.proofs.Spelling.{not_inside}

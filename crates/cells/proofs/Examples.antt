@@ -12,7 +12,7 @@ use Rattle.words.specs.Writing.{decimals, written}
 use Rattle.cells.specs.Order.{spelled, sooner, begins, less_than, inside_of}
 use Rattle.cells.specs.Checking.{reason_at, checked}
 use Rattle.cells.specs.Examples.{Examples, Orders, Mistakes}
-use Rattle.cells.specs.declared.Verdict.{Verdict}
+use Rattle.cells.specs.Checking.{Verdict}
 
 pub examples : Examples
 unfolding first_of some first_place below first_digits path word_in check_code decimals written spelled sooner begins

@@ -12,6 +12,8 @@ use lib.ListN.{length, get_or, take}
 use lib.Pow.{pow-add, pow_mono}
 use lib.Seq.{get_or-take, length-take-le}
 use borrow.Author.Tests.{eqb-false, le-ltb, ne_eqb}
+use Rattle.std.specs.Prelude.{Result, Ok, Err, IsErr}
+use Rattle.std.specs.Result.{IsErrAnd}
 use Rattle.frame.specs.Refusals.{◌when◌, first_of}
 use Rattle.frame.specs.Lists.{some}
 use Rattle.frame.proofs.Scanning.{none_each, none_there}
@@ -20,7 +22,9 @@ use Rattle.words.proofs.WordLayout.{side_top, tail_is}
 use Rattle.words.proofs.Digits.{digits_are, path_lt, large_roomy}
 use Rattle.words.proofs.Codes.{code_side, code_word}
 use Rattle.cells.specs.Order.{valid, less_than, inside_of}
-use Rattle.cells.specs.Checking.{reason_at, verdict, accepted, checked}
+use Rattle.cells.specs.Checking.{reason_at, reason_number, verdict, accepted, checked}
+use Rattle.cells.specs.declared.Reason.{Reason}
+use Rattle.cells.specs.declared.Reason.TheVariants.{Invalid, Less, Equal, Inside}
 use Rattle.cells.specs.Means.Ranks.{start, width, rank, end, reach, reach_before, reason_by, reason_after}
 use Rattle.cells.specs.Means.Ranks.{ClearTo}
 use Rattle.cells.specs.declared.Reach.{Reach}
@@ -102,6 +106,19 @@ reason_invalid : (ws : List ℕ) (i : ℕ) → valid (get_or ws i 0) ≡ false �
 unfolding reason_at first_of
 reason_invalid ws zero e = rw e
 reason_invalid ws (suc i) e = rw e
+
+-- ---- reasons
+
+pub reason_some : (r : Reason) → reason_number r ≡ 0 → ⊥
+reason_some Invalid e = omega (arith, e)
+reason_some Less e = omega (arith, e)
+reason_some Equal e = omega (arith, e)
+reason_some Inside e = omega (arith, e)
+
+-- what `?` hands on
+pub handed : {A : Type 0} {f : Reason} (r : Result A Reason) → IsErr r × IsErrAnd r (λ e. e ≡ f) → r ≡ Err f
+handed (Ok a) h = absurd h.1
+handed (Err e) h = ap Err h.1
 
 -- any word
 pub after_reach : (ws : List ℕ) (i : ℕ) → i < length ws → ClearTo ws i

@@ -1,10 +1,12 @@
 -- Document 02, 2026-09: when a list of cells is accepted, and else its first offending place with the reason: what the
 -- contract cites. Assumes nothing.
-use Rattle.std.specs.Prelude.{◌≡◌, Bool, true, false, not, cond, List, [], ◌∷◌, ◌++◌, ℕ, zero, suc, ◌<◌, eqb, length, get_or, take}
+use Rattle.std.specs.Prelude.{◌≡◌, Bool, true, false, not, cond, List, [], ◌∷◌, ◌++◌, ℕ, zero, suc, ◌<◌, eqb, length, get_or, take, Result, Ok, Err}
 use Rattle.frame.specs.Refusals.{Row, ◌when◌, first_of}
 use Rattle.frame.specs.Lists.{some, first_place, below}
 use Rattle.cells.specs.Order.{valid, less_than, inside_of}
-use Rattle.cells.specs.declared.Verdict.{Verdict}
+use Rattle.cells.specs.declared.Offence.{Offence}
+use Rattle.cells.specs.declared.Reason.{Reason}
+use Rattle.cells.specs.declared.Reason.TheVariants.{Invalid, Less, Equal, Inside}
 
 -- "2 less than the word before, 3 equal to it": the word at the first place has none before it
 abbrev pub before_rows : (ws : List ℕ) (place : ℕ) → List Row
@@ -28,11 +30,31 @@ reasons ws = below (length ws) (reason_at ws)
 abbrev pub offends : (reason : ℕ) → Bool
 offends r = not (eqb r 0)
 
+-- reason 0 and place 0 where the list is accepted
+pub record Verdict : Type 0 where
+  pub reason : ℕ
+  pub place : ℕ
+
 abbrev pub verdict : (reason place : ℕ) → Verdict
 verdict r i = record { reason = r; place = i }
 
 abbrev pub accepted : Verdict
 accepted = verdict 0 0
+
+-- "If the answer is an enum, a definition provides this paper's number and values for each of its cases"
+abbrev pub reason_number : Reason → ℕ
+reason_number Invalid = 1
+reason_number Less = 2
+reason_number Equal = 3
+reason_number Inside = 4
+
+abbrev pub reason_told : {A : Type 0} → Result A Reason → ℕ
+reason_told (Ok a) = 0
+reason_told (Err r) = reason_number r
+
+abbrev pub verdict_told : Result (Unit {0}) Offence → Verdict
+verdict_told (Ok a) = accepted
+verdict_told (Err o) = verdict (reason_number o.reason) o.place
 
 -- "The first offending place, from 0, and its reason are answered": the complete answer for every list
 unfoldable pub checked : List ℕ → Verdict

@@ -5,7 +5,7 @@ use Rattle.words.specs.Words.{degree_of}
 use Rattle.words.specs.Family.{code_of, refuse_parent, parent_of}
 use Rattle.cells.specs.Order.{valid, less_than, inside_of}
 use Rattle.cells.specs.Checking.{reason_at, accepted, checked, Accepted}
-use Rattle.cells.specs.declared.Verdict.{Verdict}
+use Rattle.cells.specs.Checking.{Verdict}
 
 -- "Show that any two results meeting a statement are equal": on any list, of any length
 pub record OneAnswer : Type 0 where

@@ -2,24 +2,45 @@
 // tree.
 #![tactic(auto)]
 
-ghost use Rattle.std.specs.Prelude.{◌≡◌, true, ◌*◌};
+ghost use Rattle.std.specs.Prelude.{◌≡◌, true, ◌*◌, IfOk};
 ghost use Rattle.cells.specs.Order.{valid};
-ghost use Rattle.cells.specs.Checking.{verdict, checked};
+ghost use Rattle.cells.specs.Checking.{reason_number, reason_told, verdict_told, checked};
 ghost use Rattle.cells.specs.Means.Ranks.{start, reach, reason_by, reason_after};
 
 use words::TriangleCode;
 
-// What checking a list answers: the first offending place, from 0, and its reason, 1 to 4; reason 0 and place 0 where
-// the list is accepted.
-#[derive(Clone, Copy)]
-pub struct Verdict {
-    pub reason: u64,
+// Why a word offends, by the number that the document has for it.
+#[derive(Clone, Copy, Debug, PartialEq, Eq, Hash)]
+pub enum Reason {
+    Invalid,
+    Less,
+    Equal,
+    Inside,
+}
+
+impl From<Reason> for u64 {
+    ghost from_gives = { λ r n. n ≡ reason_number r };
+
+    fn from(r: Reason) -> u64 {
+        match r {
+            Reason::Invalid => 1,
+            Reason::Less => 2,
+            Reason::Equal => 3,
+            Reason::Inside => 4,
+        }
+    }
+}
+
+// The first offending place of a list, from 0, and its reason.
+#[derive(Clone, Copy, Debug, PartialEq, Eq, Hash)]
+pub struct Offence {
+    pub reason: Reason,
     pub place: u64,
 }
 
 // Where a triangle stands in the order of the tree: its rank is below that of each triangle inside it, these are below
 // its end, and those of all that follow are not.
-#[derive(Clone, Copy)]
+#[derive(Clone, Copy, Debug, PartialEq, Eq, Hash)]
 pub struct Reach {
     pub rank: u64,
     pub end: u64,
@@ -45,66 +66,51 @@ pub fn reach_of(w: u64) -> Reach
     }
 }
 
-// The reason of a code after the word before it: 2, 3, 4 or none.
-fn reason_after(last: Reach, own: Reach) -> u64
-    ensures { result ≡ reason_by last own.rank }
+// Whether a code offends after the word before it.
+fn reason_after(last: Reach, own: Reach) -> Result<(), Reason>
+    ensures { reason_told result ≡ reason_by last own.rank }
 {
     if own.rank < last.rank {
-        return 2;
+        return Err(Reason::Less);
     }
     if own.rank == last.rank {
-        return 3;
+        return Err(Reason::Equal);
     }
     if own.rank < last.end {
-        return 4;
+        return Err(Reason::Inside);
     }
-    0
+    Ok(())
 }
 
-// What a word is after the words before it: its reason, 0 where it offends in nothing; and then its own reach.
-#[derive(Clone, Copy)]
-pub struct Found {
-    pub reason: u64,
-    pub own: Reach,
-}
-
-// Looks at a word after words that offend in nothing, of which the last one has this reach.
-pub fn look_at(w: u64, last: Reach) -> Found
-    ensures { (result.reason ≡ reason_after last w) × (result.reason ≡ 0 → result.own ≡ reach w) }
+// Looks at a word after words that offend in nothing, of which the last one has this reach: its own reach, or why it
+// offends.
+pub fn look_at(w: u64, last: Reach) -> Result<Reach, Reason>
+    ensures reason { reason_told result ≡ reason_after last w }
+    ensures own { IfOk result (λ own. own ≡ reach w) }
 {
     if TriangleCode(w).check().is_err() {
-        return Found {
-            reason: 1,
-            own: last,
-        };
+        return Err(Reason::Invalid);
     }
     let own = reach_of(w);
-    Found {
-        reason: reason_after(last, own),
-        own,
-    }
-}
-
-pub fn offence(reason: u64, place: usize) -> Verdict
-    ensures { result ≡ verdict reason place }
-{
-    Verdict {
-        reason,
-        place: place as u64,
-    }
+    reason_after(last, own)?;
+    Ok(own)
 }
 
 // Checks a list in one pass: where the words so far are accepted, the last of them decides.
-pub fn check(words: &[u64]) -> Verdict
-    ensures { result ≡ checked words.now }
+pub fn check(words: &[u64]) -> Result<(), Offence>
+    ensures { verdict_told result ≡ checked words.now }
 {
     let mut last = Reach { rank: 0, end: 0 };
     for (i, &w) in words.iter().enumerate() {
-        let found = look_at(w, last);
-        if found.reason != 0 {
-            return offence(found.reason, i);
+        match look_at(w, last) {
+            Ok(own) => last = own,
+            Err(reason) => {
+                return Err(Offence {
+                    reason,
+                    place: i as u64,
+                });
+            }
         }
-        last = found.own;
     }
-    offence(0, 0)
+    Ok(())
 }

@@ -5,7 +5,7 @@ use contract.Lifetimes.{Lfts}
 use Rattle.frame.specs.Promises.{Says}
 use Rattle.grid.specs.CallContracts.{Slice}
 use Rattle.cells.specs.Checking.{checked}
-use Rattle.cells.specs.declared.Verdict.{Verdict}
+use Rattle.cells.specs.Checking.{Verdict}
 use Rattle.cells.proofs.check.Reads as check_call
 
 -- For any list, left with any contents, and any result.

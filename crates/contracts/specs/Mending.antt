@@ -4,7 +4,7 @@ use contract.Lifetimes.{Lfts}
 use Rattle.frame.specs.Promises.{Says}
 use Rattle.grid.specs.CallContracts.{Slice, Room}
 use Rattle.mending.specs.Answers.{lists, MendResult}
-use Rattle.mending.specs.declared.MendAnswer.{MendAnswer}
+use Rattle.mending.specs.Answers.{MendAnswer}
 use Rattle.mender.proofs.mend.Reads as mend_call
 
 -- For any four lists, left with any contents, and any result.

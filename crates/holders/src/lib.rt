@@ -97,13 +97,9 @@ pub fn exact_word(degree: u64, d: Direction) -> u64
 {
     let t = exact::stand_of(d);
     let k = 4 * t.octant + t.kind;
-    let path = descent::descend(
-        degree,
-        16777216,
-        floors_at(k, t.floors),
-        gaps_at(k, t.gaps),
-        0,
-    );
+    let f = floors_at(k, t.floors);
+    let g = gaps_at(k, t.gaps);
+    let path = descent::descend(degree, 16777216, f.f1, f.f2, f.f3, g.g1, g.g2, g.g3, 0);
     words::word_of(side_at(t.octant, t.kind), degree, path)
 }
 

@@ -1,5 +1,5 @@
 -- What the call on words leaves in lists of 4,096 places: the fronts that are written out as bytes. Assumes nothing.
-use mathlib.Core.Path.{◌≡◌, ◌∙◌, sym, ap, subst}
+use mathlib.Core.Path.{◌≡◌, ◌∙◌, refl, sym, ap, subst}
 use mathlib.Core.List.{List}
 use Prim.Native.Nat.{ℕ, ◌/◌, ◌≤◌}
 use native.Mathlib.Omega.{arith}
@@ -8,8 +8,12 @@ use lib.Seq.{take_at}
 use Rattle.octets.specs.Bytes.{words_in}
 use Rattle.frame.specs.Answers.{over}
 use Rattle.mending.specs.Mending.{mended, changes}
-use Rattle.mending.specs.Answers.{Lists, lists, words_of, reasons_of, mend_out, MendResult}
-use Rattle.mending.specs.declared.MendAnswer.{MendAnswer}
+use Rattle.std.specs.Prelude.{Result, Ok, Err, IsOk}
+use Rattle.frame.specs.declared.Refusal.{Refusal}
+use Rattle.frame.proofs.Told.{number_some}
+use Rattle.mending.specs.declared.Written.{Written}
+use Rattle.mending.specs.Answers.{Lists, lists, words_of, reasons_of, mend_out, mend_told, MendResult}
+use Rattle.mending.specs.Answers.{MendAnswer}
 use Rattle.mending.proofs.Again.{fits}
 use Rattle.mender.proofs.Refusals.{refuse_none}
 use Rattle.host_cells.proofs.CellBytes.{words_long}
@@ -55,3 +59,18 @@ left list ws new a e few m =
           (ap (λ (x : MendAnswer × Lists). x.1.reasons) is);
       few = (omega (arith, count, f.0), omega (arith, many, f.1));
     }
+
+-- nothing is refused
+pub answered : (list ws : List ℕ) (new : Lists) (r : Result Written Refusal) → ws ≡ words_in list → length list / 8 ≤ 4096
+    → MendResult ws (lists zeros zeros zeros) (mend_told r) new → IsOk r
+answered list ws new r e few m =
+    let us = words_in list in
+    let n : length us ≤ 4096 = omega (arith, few, words_long list) in
+    let o : length us ≤ length zeros = omega (arith, n, length-replicate {A = ℕ} 4096 0) in
+    let is = (subst (λ (x : List ℕ). MendResult x (lists zeros zeros zeros) (mend_told r) new) e m).answered
+    (sym (refuse_none us (lists zeros zeros zeros) n o o o)) in
+    go r (ap (λ (x : MendAnswer × Lists). x.0.refusal) is)
+  where
+    go : (s : Result Written Refusal) → (mend_told s).refusal ≡ 0 → IsOk s
+    go (Ok a) z = refl
+    go (Err f) z = absurd (number_some f z)

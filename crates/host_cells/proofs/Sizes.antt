@@ -14,7 +14,7 @@ use Rattle.octets.specs.Bytes.{read_on, read_each, numbers}
 use Rattle.words.proofs.Codes.{code_below}
 use Rattle.cells.specs.Order.{valid}
 use Rattle.cells.specs.Checking.{reason_at, checked}
-use Rattle.cells.specs.declared.Verdict.{Verdict}
+use Rattle.cells.specs.Checking.{Verdict}
 use Rattle.cells.proofs.Spelling.{valid_code}
 use Rattle.cells.proofs.Accepting.{checks, reason_none}
 use Rattle.mending.specs.Mending.{change, drop_reason, judged, dropped, merges_at, replaced, merges_below, sound}

@@ -3,7 +3,7 @@ use Rattle.std.specs.Prelude.{◌≡◌, ◌⊎◌, List, [], ◌∷◌, ℕ, �
 use Rattle.frame.specs.Promises.{KeepsLent}
 use Rattle.octets.specs.Bytes.{number_at, words_in}
 use Rattle.cells.specs.Checking.{checked}
-use Rattle.cells.specs.declared.Verdict.{Verdict}
+use Rattle.cells.specs.Checking.{Verdict}
 use Rattle.mending.specs.Mending.{Change, mended, changes}
 use Rattle.mending.specs.Answers.{Lists, words_of, reasons_of}
 use Rattle.host_cells.specs.Refusals.{refuse_check, refuse_mend}

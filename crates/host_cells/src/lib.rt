@@ -6,11 +6,13 @@
 ghost use Rattle.std.specs.Prelude.{◌≡◌, [], ◌∷◌, ◌/◌, ◌%◌, ◌≤◌, length};
 ghost use Rattle.frame.specs.Answers.{over};
 ghost use Rattle.octets.specs.Bytes.{bytes, words_in};
-ghost use Rattle.cells.specs.Checking.{checked};
+ghost use Rattle.frame.specs.Refusals.{told_number};
+ghost use Rattle.cells.specs.Checking.{verdict_told, checked};
 ghost use Rattle.mending.specs.Answers.{lists};
 ghost use Rattle.host_cells.specs.Answers.{CheckBytes, mend_out, MendBytes};
 
-use cells::{Reach, Verdict, look_at, offence};
+use cells::{Offence, Reach, look_at};
+use frame::{Refusal, number_of};
 use octets::{get8, put8, read_words, write_words};
 
 // Two numbers, eight bytes each, over the front of out.
@@ -24,33 +26,46 @@ fn put_two(a: u64, b: u64, out: &mut [u8])
 
 // Checks the words of the bytes in one pass, as cells::check does a list of words: any number of them takes the same
 // room.
-fn check_bytes(list: &[u8]) -> Verdict
-    ensures { result ≡ checked (words_in list.now) }
+fn check_bytes(list: &[u8]) -> Result<(), Offence>
+    ensures { verdict_told result ≡ checked (words_in list.now) }
 {
     let mut last = Reach { rank: 0, end: 0 };
     for i in 0..list.len() / 8 {
-        let found = look_at(get8(&list[8 * i..]), last);
-        if found.reason != 0 {
-            return offence(found.reason, i);
+        match look_at(get8(&list[8 * i..]), last) {
+            Ok(own) => last = own,
+            Err(reason) => {
+                return Err(Offence {
+                    reason,
+                    place: i as u64,
+                });
+            }
         }
-        last = found.own;
     }
-    offence(0, 0)
+    Ok(())
 }
 
-// Checking a list: the reason and the place of its first offence, in sixteen bytes.
+// The reason and the place of a list's first offence, in sixteen bytes.
+fn check(list: &[u8], out: &mut [u8]) -> Result<(), Refusal>
+    ensures { CheckBytes list.now out.old (told_number result) out.new }
+{
+    if list.len() % 8 != 0 {
+        return Err(Refusal::ShortList);
+    }
+    if out.len() < 16 {
+        return Err(Refusal::ShortList);
+    }
+    match check_bytes(list) {
+        Ok(()) => put_two(0, 0, out),
+        Err(o) => put_two(u64::from(o.reason), o.place, out),
+    }
+    Ok(())
+}
+
+// Checking a list.
 pub fn grid_check_cells(list: &[u8], out: &mut [u8]) -> u64
     ensures { CheckBytes list.now out.old result out.new }
 {
-    if list.len() % 8 != 0 {
-        return 9;
-    }
-    if out.len() < 16 {
-        return 9;
-    }
-    let v = check_bytes(list);
-    put_two(v.reason, v.place, out);
-    0
+    number_of(check(list, out))
 }
 
 // Mending, where nothing is refused: by lists of words, for which there is room here.
@@ -68,14 +83,49 @@ fn mend_bytes(list: &[u8], mended: &mut [u8], words: &mut [u8], reasons: &mut [u
     let mut changed = [0u64; 4096];
     let mut whys = [0u64; 4096];
     read_words(list, n, &mut input);
-    let a = mender::mend(&input[..n], &mut codes, &mut changed, &mut whys);
+    let a = mender::mend(&input[..n], &mut codes, &mut changed, &mut whys).unwrap();
     write_words(&codes, a.count as usize, mended);
     write_words(&changed, a.changes as usize, words);
     write_words(&whys, a.changes as usize, reasons);
     put_two(a.count, a.changes, out);
 }
 
-// Mending a list: its codes; for each change its word and its reason, in two lists; and both counts, in sixteen bytes.
+// A list's codes; for each change its word and its reason, in two lists; and both counts, in sixteen bytes.
+fn mend(
+    list: &[u8],
+    mended: &mut [u8],
+    words: &mut [u8],
+    reasons: &mut [u8],
+    out: &mut [u8],
+) -> Result<(), Refusal>
+    ensures { MendBytes list.now (lists mended.old words.old reasons.old)
+        out.old (told_number result)
+        (lists mended.new words.new reasons.new, out.new) }
+{
+    let n = list.len();
+    if 4096 < n / 8 {
+        return Err(Refusal::LongList);
+    }
+    if n % 8 != 0 {
+        return Err(Refusal::ShortList);
+    }
+    if mended.len() < n {
+        return Err(Refusal::ShortList);
+    }
+    if words.len() < n {
+        return Err(Refusal::ShortList);
+    }
+    if reasons.len() < n {
+        return Err(Refusal::ShortList);
+    }
+    if out.len() < 16 {
+        return Err(Refusal::ShortList);
+    }
+    mend_bytes(list, mended, words, reasons, out);
+    Ok(())
+}
+
+// Mending a list.
 pub fn grid_mend_cells(
     list: &[u8],
     mended: &mut [u8],
@@ -87,25 +137,5 @@ pub fn grid_mend_cells(
         out.old result
         (lists mended.new words.new reasons.new, out.new) }
 {
-    let n = list.len();
-    if 4096 < n / 8 {
-        return 32;
-    }
-    if n % 8 != 0 {
-        return 9;
-    }
-    if mended.len() < n {
-        return 9;
-    }
-    if words.len() < n {
-        return 9;
-    }
-    if reasons.len() < n {
-        return 9;
-    }
-    if out.len() < 16 {
-        return 9;
-    }
-    mend_bytes(list, mended, words, reasons, out);
-    0
+    number_of(mend(list, mended, words, reasons, out))
 }

@@ -33,14 +33,11 @@ fn file_each_byte(degree: u64, dirs: &[u8], codes: &mut [u8]) -> u64
     requires { (length dirs.now % 12 ≡ 0) × (8 * (length dirs.now / 12) ≤ length codes.old) }
     ensures { CountedBytes degree (directions_in dirs.now) codes.old result codes.new }
 {
-    let n = dirs.len() / 12;
     let mut refused = 0;
-    let mut i = 0;
-    while i < n {
+    for i in 0..dirs.len() / 12 {
         let w = file_byte_at(degree, dirs, i);
         put8(code_in(w), &mut codes[8 * i..]);
         refused += refusals_in(w);
-        i += 1;
     }
     refused
 }
@@ -50,14 +47,12 @@ fn first_zero_code(codes: &[u8], n: usize) -> usize
     requires { 8 * n ≤ length codes.now }
     ensures { result ≡ first_place is_zero (first_bytes n codes.now) }
 {
-    let mut place = 0;
-    while place < n {
+    for place in 0..n {
         if codes[8 * place] == 0 {
             return place;
         }
-        place += 1;
     }
-    place
+    n
 }
 
 // Three numbers, eight bytes each, over the front of out.

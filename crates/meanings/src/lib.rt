@@ -16,30 +16,21 @@ const MOST: i32 = 100000;
 pub fn is_reading(x: i32) -> bool
     ensures { result ≡ is_reading x }
 {
-    if x < 0 {
-        return false;
-    }
-    x <= MOST
+    (0..=MOST).contains(&x)
 }
 
 // Whether a number is neither a reading nor -1.
 pub fn is_bad(x: i32) -> bool
     ensures { result ≡ is_bad x }
 {
-    if x < -1 {
-        return true;
-    }
-    MOST < x
+    x < -1 || MOST < x
 }
 
 // Whether a number is a desk.
 pub fn is_desk(desk: u64) -> bool
     ensures { result ≡ is_desk desk }
 {
-    if desk == 1 {
-        return true;
-    }
-    desk == 2
+    matches!(desk, 1 | 2)
 }
 
 // Whether a number is neither nobody nor a desk.

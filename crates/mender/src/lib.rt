@@ -6,9 +6,10 @@ ghost use Rattle.std.specs.Prelude.{◌≡◌, [], map, ◌≤◌, length, take}
 ghost use Rattle.frame.specs.Answers.{over};
 ghost use Rattle.cells.specs.Means.Ranks.{rank};
 ghost use Rattle.mending.specs.Mending.{judged, sound, mended, changes};
-ghost use Rattle.mending.specs.Answers.{lists, mend_answer, no_mend, words_of, reasons_of, MendResult};
+ghost use Rattle.mending.specs.Answers.{lists, mend_answer, mend_told, words_of, reasons_of, MendResult};
 
-use mending::MendAnswer;
+use frame::Refusal;
+use mending::Written;
 use merging::Counts;
 
 // What is left to do when a list is judged: `why` has the reason of each of its words, and the first `count` of `kept`
@@ -39,21 +40,12 @@ pub fn finish(
     z
 }
 
-fn refused(f: u64) -> MendAnswer
-    ensures { result ≡ no_mend f }
-{
-    MendAnswer {
-        refusal: f,
-        count: 0,
-        changes: 0,
-    }
-}
-
 // Where no list is too short or too long.
-fn mend_all(input: &[u64], out: &mut [u64], words: &mut [u64], reasons: &mut [u64]) -> MendAnswer
+fn mend_all(input: &[u64], out: &mut [u64], words: &mut [u64], reasons: &mut [u64]) -> Written
     requires { (length input.now ≤ 4096) × (length input.now ≤ length out.old)
         × (length input.now ≤ length words.old) × (length input.now ≤ length reasons.old) }
-    ensures { (result ≡ mend_answer 0 (length (mended input.now)) (length (changes input.now)))
+    ensures { (mend_answer 0 result.count result.changes
+        ≡ mend_answer 0 (length (mended input.now)) (length (changes input.now)))
         × (out.new ≡ over (mended input.now) out.old)
         × (words.new ≡ over (words_of (changes input.now)) words.old)
         × (reasons.new ≡ over (reasons_of (changes input.now)) reasons.old) }
@@ -62,8 +54,7 @@ fn mend_all(input: &[u64], out: &mut [u64], words: &mut [u64], reasons: &mut [u6
     let mut kept = [0u64; 4096];
     let count = judging::judge(input, &mut why, &mut kept);
     let z = finish(input, &why, &mut kept, count, out, words, reasons);
-    MendAnswer {
-        refusal: 0,
+    Written {
         count: z.count as u64,
         changes: z.changes as u64,
     }
@@ -72,22 +63,27 @@ fn mend_all(input: &[u64], out: &mut [u64], words: &mut [u64], reasons: &mut [u6
 // The mended list over the front of `out`, and what was changed over the fronts of `words` and `reasons`: each dropped
 // word in the order of the input, 1 invalid, 3 equal to an earlier word, 4 inside another word; then each merge, as its
 // parent with reason 5, the deepest first and rising within one degree.
-pub fn mend(input: &[u64], out: &mut [u64], words: &mut [u64], reasons: &mut [u64]) -> MendAnswer
-    ensures { MendResult input.now (lists out.old words.old reasons.old) result
+pub fn mend(
+    input: &[u64],
+    out: &mut [u64],
+    words: &mut [u64],
+    reasons: &mut [u64],
+) -> Result<Written, Refusal>
+    ensures { MendResult input.now (lists out.old words.old reasons.old) (mend_told result)
         (lists out.new words.new reasons.new) }
 {
     let n = input.len();
     if 4096 < n {
-        return refused(32);
+        return Err(Refusal::LongList);
     }
     if out.len() < n {
-        return refused(9);
+        return Err(Refusal::ShortList);
     }
     if words.len() < n {
-        return refused(9);
+        return Err(Refusal::ShortList);
     }
     if reasons.len() < n {
-        return refused(9);
+        return Err(Refusal::ShortList);
     }
-    mend_all(input, out, words, reasons)
+    Ok(mend_all(input, out, words, reasons))
 }

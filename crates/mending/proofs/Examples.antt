@@ -21,7 +21,7 @@ use Rattle.mending.specs.Mending.{member, drop_reason, Change, judged, kept, dro
 use Rattle.mending.specs.Mending.{whole_in, parents, merges_at, replaced, merged_below, merges_below, mended, changes}
 use Rattle.mending.specs.Answers.{Lists, lists, refuse_mend, mend_answer, MendResult, words_of, reasons_of}
 use Rattle.mending.specs.Examples.{lent, Examples, Mistakes}
-use Rattle.mending.specs.declared.MendAnswer.{MendAnswer}
+use Rattle.mending.specs.Answers.{MendAnswer}
 
 long_refused : (ws : List ℕ) (l : Lists) → length ws ≡ 4097 → refuse_mend ws l ≡ 32
 unfolding refuse_mend first_of

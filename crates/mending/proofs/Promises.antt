@@ -3,7 +3,7 @@ use mathlib.Core.Path.{refl}
 use Rattle.frame.proofs.Answering.{keeps_known}
 use Rattle.mending.specs.Answers.{Lists, refuse_mend, no_mend, mend_out}
 use Rattle.mending.specs.Promises.{OneAnswer, Mends}
-use Rattle.mending.specs.declared.MendAnswer.{MendAnswer}
+use Rattle.mending.specs.Answers.{MendAnswer}
 use Rattle.mending.proofs.Mended.{passes, covers, no_four_lem}
 use Rattle.mending.proofs.Shortest.{mended_shortest, mended_only}
 use Rattle.mending.proofs.Again.{again, fits}

@@ -2,10 +2,9 @@
 // (specs/), with the laws of it (proofs/). The call is in the crate mender.
 #![tactic(auto)]
 
-// How many places of the result and of the change lists were written; or a refusal's number, with zeros.
-#[derive(Clone, Copy)]
-pub struct MendAnswer {
-    pub refusal: u64,
+// How many places of the result and of the change lists were written.
+#[derive(Clone, Copy, Debug, PartialEq, Eq, Hash)]
+pub struct Written {
     pub count: u64,
     pub changes: u64,
 }

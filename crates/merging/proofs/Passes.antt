@@ -5,17 +5,17 @@ use mathlib.Core.List.{List, [], ◌∷◌, ◌++◌}
 use Prim.Native.Nat.{ℕ, suc, ◌+◌, ◌-◌, ◌^◌, ◌≤◌, ◌<◌}
 use native.Mathlib.Omega.{arith}
 use lib.ListN.{length, get_or, take, drop}
-use lib.Seq.{length-take-le, get_or-take, drop-drop}
+use lib.Seq.{length-take-le, get_or-take, get_or-drop, drop-drop}
+use Rattle.std.proofs.lemmas.List.{drop-take}
 use Rattle.mending.specs.Means.InRows.{joined, joins}
 use Rattle.merging.specs.Means.Joining.{Small, in_ranks, before, joined_at, joins_at}
-use Rattle.mending.specs.Means.InRows.{joined, joins}
 use Rattle.merging.specs.Means.Joining.{joined_below, joins_below, starts_four}
 use Rattle.merging.proofs.Written.{Shrinking, rest_length, no_place, at_rest, unread_head}
 use Rattle.merging.proofs.Rows.{row_some, joined_true, joined_false, joins_true, joins_false}
 
 -- ---- the first of a list
 
-short : (d : ℕ) (xs : List ℕ) → length xs < 4 → false ≡ starts_four d xs
+pub short : (d : ℕ) (xs : List ℕ) → length xs < 4 → false ≡ starts_four d xs
 unfolding starts_four
 short d [] l = refl
 short d (a ∷ []) l = refl
@@ -23,7 +23,7 @@ short d (a ∷ b ∷ []) l = refl
 short d (a ∷ b ∷ c ∷ []) l = refl
 short d (a ∷ b ∷ c ∷ e ∷ ws) l = absurd (omega arith)
 
-long : (d : ℕ) (xs : List ℕ) → 4 ≤ length xs
+pub long : (d : ℕ) (xs : List ℕ) → 4 ≤ length xs
     → in_ranks d (get_or xs 0 0) (get_or xs 1 0) (get_or xs 2 0) (get_or xs 3 0) ≡ starts_four d xs
 unfolding starts_four
 long d [] l = absurd (omega arith)
@@ -65,21 +65,11 @@ begins d (a ∷ b ∷ c ∷ e ∷ ws) h = record {
 
 -- ---- from place i on
 
-module _ (d : ℕ) (rs : List ℕ) (m i : ℕ) (h : m ≤ length rs) where
-  pub four_short : m - i < 4 → false ≡ starts_four d (drop i (take m rs))
-  four_short l = short d (drop i (take m rs)) (omega (arith, rest_length rs m h i))
-
-  pub four_long : i < m → 4 ≤ m - i
-      → in_ranks d (get_or rs i 0) (get_or rs (i + 1) 0) (get_or rs (i + 2) 0) (get_or rs (i + 3) 0)
-      ≡ starts_four d (drop i (take m rs))
-  four_long l k =
-      let z : i + 0 ≡ i = omega arith in
-      (λ j. in_ranks d ((ap (λ (n : ℕ). get_or rs n 0) (sym z) ∙ at 0 (omega arith)) j) (at 1 (omega arith) j)
-      (at 2 (omega arith) j) (at 3 (omega arith) j))
-      ∙ long d (drop i (take m rs)) (omega (arith, rest_length rs m h i))
-    where
-      at : (n : ℕ) → i + n < m → get_or rs (i + n) 0 ≡ get_or (drop i (take m rs)) n 0
-      at n q = sym (at_rest rs 0 m i n q)
+-- as a part of the list
+part : (rs : List ℕ) (m i : ℕ) → i < m → take (m - i) (drop i rs) ≡ drop i (take m rs)
+part rs m i l =
+    let e : i + (m - i) ≡ m = omega arith in
+    sym (drop-take i (m - i) rs) ∙ ap (λ (n : ℕ). drop i (take n rs)) e
 
 module _ (d : ℕ) {old new : List ℕ} {m i j : ℕ} {left whole : List ℕ} (g : Shrinking old new m i j left whole)
     (h : m ≤ length old) where
@@ -91,13 +81,24 @@ module _ (d : ℕ) {old new : List ℕ} {m i j : ℕ} {left whole : List ℕ} (g
       sym (at_rest old 0 m i 0 (omega arith) ∙ ap (λ (n : ℕ). get_or old n 0) k) ∙ unread_head g l in
       omega (arith, s i z, get_or-take m old i 0 l, e)
 
+  pub small_first : i < m → Small (take m old) → get_or (take (m - i) (drop i new)) 0 0 < 2 ^ 59
+  small_first l s =
+      let z : i + 0 ≡ i = omega arith in
+      omega (
+        arith,
+        get_or-take (m - i) (drop i new) 0 0 (omega arith),
+        get_or-drop i new 0 0,
+        ap (λ (n : ℕ). get_or new n 0) z,
+        small_next l s,
+      )
+
   -- none begins here
-  pub skip : i < m → starts_four d (drop i (take m new)) ≡ false
+  pub skip : i < m → starts_four d (take (m - i) (drop i new)) ≡ false
       → (joined_at d (drop i (take m old)) ≡ get_or new i 0 ∷ joined_at d (drop (i + 1) (take m old)))
       × (joins_at d (drop i (take m old)) ≡ joins_at d (drop (i + 1) (take m old)))
   skip l q =
       let s = skips d (drop i (take m old)) (omega (arith, rest_length old m h i))
-      (ap (starts_four d) (sym g.unread) ∙ q) in (
+      (ap (starts_four d) (sym g.unread ∙ sym (part new m i l)) ∙ q) in (
         s.0 ∙ (λ k. unread_head g l k ∷ joined_at d (drop-drop 1 i (take m old) k)),
         s.1 ∙ ap (joins_at d) (drop-drop 1 i (take m old)),
       )
@@ -109,9 +110,9 @@ module _ (d : ℕ) {old new : List ℕ} {m i j : ℕ} {left whole : List ℕ} (g
     pub list : joined_at d (drop i (take m old)) ≡ (get_or new i 0 - 1) ∷ joined_at d (drop (i + 4) (take m old))
     pub merges : joins_at d (drop i (take m old)) ≡ (get_or new i 0 - 1) ∷ joins_at d (drop (i + 4) (take m old))
 
-  pub a_four : i < m → starts_four d (drop i (take m new)) ≡ true → Four
+  pub a_four : i < m → starts_four d (take (m - i) (drop i new)) ≡ true → Four
   a_four l q =
-      let s = begins d (drop i (take m old)) (ap (starts_four d) (sym g.unread) ∙ q) in
+      let s = begins d (drop i (take m old)) (ap (starts_four d) (sym g.unread ∙ sym (part new m i l)) ∙ q) in
       let e = unread_head g l in
       record {
         inside = omega (arith, s.long, rest_length old m h i);

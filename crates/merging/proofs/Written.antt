@@ -31,11 +31,6 @@ module _ {A : Type 0} where
     pub rest_length : (i : ℕ) → length (drop i (take m xs)) ≡ m - i
     rest_length i = length-drop i (take m xs) ∙ ap (λ (n : ℕ). n - i) (length-take-le m xs h)
 
-    pub next_place : (d : A) (i : ℕ) → i < m → drop i (take m xs) ≡ get_or xs i d ∷ drop (i + 1) (take m xs)
-    next_place d i l =
-        next_of (take m xs) d i (omega (arith, length-take-le m xs h))
-        ∙ ap (λ (x : A). x ∷ drop (i + 1) (take m xs)) (get_or-take m xs i d l)
-
     pub no_place : (i : ℕ) → i ≡ m → drop i (take m xs) ≡ []
     no_place i e =
         ap (λ (j : ℕ). drop j (take m xs)) (e ∙ sym (length-take-le m xs h)) ∙ drop-length (take m xs)

@@ -79,15 +79,15 @@ fn in_row(d: u64, a: u64, b: u64, c: u64, e: u64) -> bool
     e == a + 3 * unit
 }
 
-// Whether four such ranks stand from place i on.
-fn four(d: u64, ranks: &[u64], count: usize, i: usize) -> bool
-    requires { (d < 24) × (count ≤ length ranks.now) × (i < count) × (get_or ranks.now i 0 < 2 ^ 59) }
-    ensures { result ≡ starts_four d (drop i (take count ranks.now)) }
+// Whether a list begins with four such ranks.
+fn four(d: u64, ranks: &[u64]) -> bool
+    requires { (d < 24) × (get_or ranks.now 0 0 < 2 ^ 59) }
+    ensures { result ≡ starts_four d ranks.now }
 {
-    if count - i < 4 {
-        return false;
+    match ranks {
+        [a, b, c, e, ..] => in_row(d, *a, *b, *c, *e),
+        _ => false,
     }
-    in_row(d, ranks[i], ranks[i + 1], ranks[i + 2], ranks[i + 3])
 }
 
 // How many codes there are, and how many changes.
@@ -121,7 +121,7 @@ fn merge_at(
     // A pass takes one place or four, so no for counts them.
     while i < count {
         let mut rank = ranks[i];
-        if four(d, ranks, count, i) {
+        if four(d, &ranks[i..count]) {
             rank -= 1;
             changed[c] = word_at(rank);
             reasons[c] = 5;

@@ -74,21 +74,12 @@ pub fn is_clear(rest: u64, s: u64) -> bool
     requires { (rest ≤ s) × (s < 4503599627370496) }
     ensures { Decides result (Away s rest) }
 {
-    if rest < MARGIN {
-        return false;
-    }
-    rest + MARGIN <= s
+    MARGIN <= rest && rest + MARGIN <= s
 }
 
 pub fn all_clear(a: u64, b: u64, c: u64, s: u64) -> bool
     requires { (a ≤ s) × (b ≤ s) × (c ≤ s) × (s < 4503599627370496) }
     ensures { Decides result (Away s a × Away s b × Away s c) }
 {
-    if !is_clear(a, s) {
-        return false;
-    }
-    if !is_clear(b, s) {
-        return false;
-    }
-    is_clear(c, s)
+    is_clear(a, s) && is_clear(b, s) && is_clear(c, s)
 }

@@ -1,6 +1,7 @@
 // The descent by floors and gaps: the digits of the least triangle that holds a direction.
 ghost use Rattle.std.specs.Prelude.{◌≡◌};
 ghost use Prim.Native.Nat.{◌+◌, ◌-◌, ◌*◌, ◌/◌, ◌^◌, ◌<◌, ◌≤◌};
+ghost use Rattle.shares.specs.Means.Shares.{floors, gaps};
 ghost use Rattle.shares.specs.Means.Paths.{in_child, least_digit, least_path};
 ghost use Rattle.shares.specs.Means.WalkWords.{Fair};
 
@@ -49,18 +50,29 @@ pub fn least_child(h: u64, f: Floors, g: Gaps) -> Child
     }
 }
 
-// From the path v of a triangle whose edge has p parts, n digits further down by the least child each time.
-pub fn descend(n: u64, p: u64, f: Floors, g: Gaps, v: u64) -> u64
-    requires { (n ≤ 24) × (p ≤ 16777216) × (f.f1 ≤ 16777216) × (f.f2 ≤ 16777216) × (f.f3 ≤ 16777216)
-        × (g.g1 ≤ 1) × (g.g2 ≤ 1) × (g.g3 ≤ 1) × (v < 2 ^ (2 * (24 - n))) }
-    ensures { result ≡ least_path n p f g v }
+// From the path v of a triangle whose edge has p parts, n digits further down by the least child each time. (The floors
+// and gaps are plain numbers here, which stay in registers: as Floors and Gaps they took 23 instructions a digit more.)
+pub fn descend(n: u64, p: u64, f1: u64, f2: u64, f3: u64, g1: u64, g2: u64, g3: u64, v: u64) -> u64
+    requires { (n ≤ 24) × (p ≤ 16777216) × (f1 ≤ 16777216) × (f2 ≤ 16777216) × (f3 ≤ 16777216)
+        × (g1 ≤ 1) × (g2 ≤ 1) × (g3 ≤ 1) × (v < 2 ^ (2 * (24 - n))) }
+    ensures { result ≡ least_path n p (floors f1 f2 f3) (gaps g1 g2 g3) v }
 {
     if n == 0 {
         return v;
     }
     let h = p / 2;
-    let c = least_child(h, f, g);
-    descend(n - 1, h, c.floors, g, 4 * v + c.digit)
+    let c = least_child(h, Floors { f1, f2, f3 }, Gaps { g1, g2, g3 });
+    descend(
+        n - 1,
+        h,
+        c.floors.f1,
+        c.floors.f2,
+        c.floors.f3,
+        g1,
+        g2,
+        g3,
+        4 * v + c.digit,
+    )
 }
 
 // Into a corner every digit is the corner's: n of them below the path v.
@@ -92,5 +104,5 @@ pub fn descend_straight(n: u64, p: u64, f: Floors, g: Gaps, v: u64) -> u64
     if f.f3 == p {
         return into_corner(n, 3, v);
     }
-    descend(n, p, f, g, v)
+    descend(n, p, f.f1, f.f2, f.f3, g.g1, g.g2, g.g3, v)
 }

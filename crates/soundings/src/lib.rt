@@ -44,6 +44,9 @@ pub fn get(degree: u64, t: TriangleCode, list: &[i32]) -> SoundingAnswer
 
 // ---- take, set, clear and give
 
+// The four lists are lent one by one: of a struct of them a contract would say what is left by nested pairs, as
+// `self.exit.1.1.0.now` for the counts, which is no plainer than `counts.new`.
+
 // All refusals.
 fn refuse_kept(
     deed: Deed,

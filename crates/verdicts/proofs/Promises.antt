@@ -13,7 +13,7 @@ use Rattle.octets.proofs.Laying.{bytes_long, read_long, numbers_back}
 use Rattle.lines.specs.Writing.{decimal}
 use Rattle.cells.specs.Checking.{checked, Accepted}
 use Rattle.cells.specs.Promises.{FirstOffence}
-use Rattle.cells.specs.declared.Verdict.{Verdict}
+use Rattle.cells.specs.Checking.{Verdict}
 use Rattle.cells.proofs.Dictionary.{known}
 use Rattle.cells.proofs.Accepting.{checks, reason_none}
 use Rattle.verdicts.specs.Program.{accepted_text, bad_length_text, too_long_text, place_text, reason_text}

@@ -3,7 +3,7 @@ use mathlib.Core.Path.{◌≡◌}
 use mathlib.Core.List.{◌++◌}
 use borrow.Author.Tests.{eq-eqb, ne_eqb}
 use Rattle.lines.specs.Writing.{decimal}
-use Rattle.cells.specs.declared.Verdict.{Verdict}
+use Rattle.cells.specs.Checking.{Verdict}
 use Rattle.verdicts.specs.Program.{accepted_text, place_text, reason_text, verdict_text}
 
 pub text_accepted : (v : Verdict) → v.reason ≡ 0 → accepted_text ≡ verdict_text v

@@ -3,7 +3,7 @@ use Rattle.std.specs.Prelude.{not, cond, List, [], ◌∷◌, ◌++◌, ℕ, ◌
 use Rattle.octets.specs.Bytes.{words_in}
 use Rattle.lines.specs.Writing.{decimal}
 use Rattle.cells.specs.Checking.{checked}
-use Rattle.cells.specs.declared.Verdict.{Verdict}
+use Rattle.cells.specs.Checking.{Verdict}
 
 -- "accepted"   "bad length"   "too long"   "place "   " reason "
 abbrev pub accepted_text : List ℕ

@@ -4,7 +4,7 @@ use Rattle.octets.specs.Bytes.{bytes, words_in}
 use Rattle.lines.specs.Writing.{decimal}
 use Rattle.cells.specs.Checking.{Accepted}
 use Rattle.cells.specs.Promises.{FirstOffence}
-use Rattle.cells.specs.declared.Verdict.{Verdict}
+use Rattle.cells.specs.Checking.{Verdict}
 use Rattle.verdicts.specs.Program.{accepted_text, bad_length_text, too_long_text, place_text, reason_text}
 use Rattle.verdicts.specs.Program.{text, line}
 use Rattle.verdicts.specs.Files.{Holds}

@@ -32,17 +32,17 @@ seat_fits c =
       here_ordered c.args.d c.requires.2 c.stand_of-t.result h,
     )
 
-pub floors_at-requires : goal.floors_at-requires
-floors_at-requires c = seat_fits (goal.at.floors_at-requires c).After-stand_of-t
+pub floors_at-f-requires : goal.floors_at-f-requires
+floors_at-f-requires c = seat_fits (goal.at.floors_at-f-requires c).After-stand_of-t
 
-pub gaps_at-requires : goal.gaps_at-requires
-gaps_at-requires c = seat_fits (goal.at.gaps_at-requires c).After-stand_of-t
+pub gaps_at-g-requires : goal.gaps_at-g-requires
+gaps_at-g-requires c = seat_fits (goal.at.gaps_at-g-requires c).After-stand_of-t
 
 pub descend-path-requires : goal.descend-path-requires
 descend-path-requires c =
     let f = corner_floors c.args.d c.requires.2 c.stand_of-t.result c.stand_of-t.ensures in
     let g = corner_gaps c.args.d c.requires.2 c.stand_of-t.result c.stand_of-t.ensures in
-    rw (c.floors_at.ensures, c.gaps_at.ensures)
+    rw (c.floors_at-f.ensures, c.gaps_at-g.ensures)
     (c.requires.0, omega arith, f.0, f.1, f.2, g.0, g.1, g.2, pow_pos (2 * (24 - c.args.degree)))
 
 pub side_at-requires : goal.side_at-requires
@@ -60,7 +60,7 @@ path_is :
     (c : After-descend-path)
     → c.descend-path.result
     ≡ PathOf c.args.degree c.stand_of-t.result
-path_is c = rw (c.floors_at.ensures, c.gaps_at.ensures) at c.descend-path.ensures
+path_is c = rw (c.floors_at-f.ensures, c.gaps_at-g.ensures) at c.descend-path.ensures
 
 pub word_of-requires : goal.word_of-requires
 word_of-requires c =

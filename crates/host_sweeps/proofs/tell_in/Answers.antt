@@ -1,4 +1,4 @@
--- `host_sweeps::tell_in` meets its contract. Assumes nothing.
+-- Assumes nothing.
 use mathlib.Core.Path.{refl, subst}
 use Prim.Native.Nat.{ℕ, ◌+◌, ◌*◌, ◌<◌}
 use native.Mathlib.Omega.{arith}
@@ -11,21 +11,6 @@ use Rattle.sweeps.specs.Promises.{direction_at}
 use Rattle.host_sweeps.specs.Answers.{directions_in}
 use Rattle.host_sweeps.proofs.FirstCodes.{direction_in_lem}
 use Rattle.host_sweeps.proofs.tell_in.Goals as goal
-use Rattle.host_sweeps.proofs.tell_in.Lts as lts
-use Rattle.host_sweeps.proofs.tell_in.Reads as reads
-use Rattle.host_sweeps.proofs.tell_in.Tie as tie
-
-abbrev After-first_zero_code-place : Type 0
-After-first_zero_code-place = lts.After-first_zero_code tie.the-claims reads.Pre reads.Post
-
--- the place found is one of the directions
-inside : (c : After-first_zero_code-place)
-    → 12 * c.first_zero_code-place.result + 11 < length c.args.dirs.now
-inside c =
-    omega (arith, c.first_zero_code-place.ensures, c.requires.2 c.if-refused-eq0.false)
-
-pub file_byte_at-first-requires : goal.file_byte_at-first-requires
-file_byte_at-first-requires c = inside c.before
 
 pub returns-then-refused-eq0 : goal.returns-then-refused-eq0
 returns-then-refused-eq0 c =
@@ -39,11 +24,15 @@ pub returns-else-refused-eq0 : goal.returns-else-refused-eq0
 returns-else-refused-eq0 c =
     let dirs = c.args.dirs.now in
     let w = c.file_byte_at-first.result in
-    let is : FileAnswer c.args.degree (direction_at (directions_in dirs) c.first_zero_code-place.result) (answer_for w) =
+    let place = c.first_zero_code-place.result in
+    -- it is one of the directions
+    let inside : 12 * place + 11 < length dirs =
+    omega (arith, c.first_zero_code-place.ensures, c.requires.2 c.if-refused-eq0.false) in
+    let is : FileAnswer c.args.degree (direction_at (directions_in dirs) place) (answer_for w) =
     subst (λ (d : Direction). FileAnswer c.args.degree d (answer_for w))
-    (direction_in_lem dirs c.first_zero_code-place.result (inside c.before.before.before.before.before.before)) c.file_byte_at-first.ensures in
+    (direction_in_lem dirs place inside) c.file_byte_at-first.ensures in
     record {
-      told = sweep_answer 0 c.args.refused c.first_zero_code-place.result w;
+      told = sweep_answer 0 c.args.refused place w;
       tells = record {
         none = λ z. absurd (c.if-refused-eq0.false z);
         some = λ k. (

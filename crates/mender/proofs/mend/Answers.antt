@@ -7,20 +7,18 @@ use Rattle.mender.proofs.Refusals.{refuse_long, refuse_out, refuse_words, refuse
 use Rattle.mender.proofs.mend.Goals as goal
 
 pub returns-then-n-gt4096 : goal.returns-then-n-gt4096
-returns-then-n-gt4096 c = rw c.refused.ensures (refusing (refuse_long _ _ (omega arith)) (λ z. omega (arith, z)))
+returns-then-n-gt4096 c = refusing (refuse_long _ _ (omega arith)) (λ z. omega (arith, z))
 
 pub returns-then-out-n : goal.returns-then-out-n
-returns-then-out-n c = rw c.refused-then-out-n.ensures (refusing (refuse_out _ _ (omega arith) (omega arith)) (λ z. omega (arith, z)))
+returns-then-out-n c = refusing (refuse_out _ _ (omega arith) (omega arith)) (λ z. omega (arith, z))
 
 pub returns-then-words-n : goal.returns-then-words-n
 returns-then-words-n c =
-    rw c.refused-then-words-n.ensures
-    (refusing (refuse_words _ _ (omega arith) (omega arith) (omega arith)) (λ z. omega (arith, z)))
+    refusing (refuse_words _ _ (omega arith) (omega arith) (omega arith)) (λ z. omega (arith, z))
 
 pub returns-then-reasons-n : goal.returns-then-reasons-n
 returns-then-reasons-n c =
-    rw c.refused-then-reasons-n.ensures
-    (refusing (refuse_reasons _ _ (omega arith) (omega arith) (omega arith) (omega arith)) (λ z. omega (arith, z)))
+    refusing (refuse_reasons _ _ (omega arith) (omega arith) (omega arith) (omega arith)) (λ z. omega (arith, z))
 
 pub returns : goal.returns
 returns c =

@@ -5,7 +5,7 @@ use Rattle.std.proofs.lemmas.List.{length-map}
 use Rattle.merging.specs.Means.Joining.{word_at, joins_at, fives}
 use Rattle.merging.proofs.Written.{writing_none, writing_as, writing_room, writing_more, writing_all}
 use Rattle.merging.proofs.Written.{shrinking_none, shrinking_more, shrinking_all}
-use Rattle.merging.proofs.Passes.{small_next, skip, a_four, nothing_left}
+use Rattle.merging.proofs.Passes.{small_next, small_first, skip, a_four, nothing_left}
 use Rattle.merging.proofs.merge_at.Goals as goal
 use Rattle.merging.proofs.merge_at.Goals.{then-four, else-four}
 
@@ -16,7 +16,7 @@ pub four-requires : goal.four-requires
 four-requires c =
     let v = c.loop-i.invariant in
     let t = c.loop-i-test.true in
-    (c.requires.0, omega (arith, c.requires.1), t, small_next c.args.d v.0 c.requires.1 t c.requires.2)
+    (c.requires.0, small_first c.args.d v.0 c.requires.1 t c.requires.2)
 
 pub overflow_sub-rank : goal.overflow_sub-rank
 overflow_sub-rank c =

@@ -158,7 +158,7 @@ def rt_names(text):
     names, owner = Names(), None
     for line in text.splitlines():
         line = re.sub(r"//.*", "", line).rstrip()
-        if m := re.match(r"(?:pub )?(?:extern \"C\" )?(?:fn|const) (\w+)", line):
+        if m := re.match(r"(?:pub )?(?:extern \"C\" )?(?:fn|const|type) (\w+)", line):
             names.tops.add(m[1])
         elif m := re.match(r"(?:pub )?(struct|enum|impl) (\w+)", line):
             if m[1] != "impl":
@@ -167,7 +167,7 @@ def rt_names(text):
             owner = (m[2], "." if m[1] == "struct" else "::") if line.endswith("{") else None
         elif line == "}":
             owner = None
-        elif owner and (m := re.match(r"    (?:pub )?(?:fn )?(\w+)[:(,]", line)):
+        elif owner and (m := re.match(r"    (?:pub )?(?:fn )?(\w+)[:(,<]", line)):
             names.parts[owner[0]].add((owner[1], m[1]))
     return names
 

@@ -12,8 +12,6 @@ use lib.ListN.{length, get_or, take}
 use lib.Pow.{pow-add, pow_mono}
 use lib.Seq.{get_or-take, length-take-le}
 use borrow.Author.Tests.{eqb-false, le-ltb, ne_eqb}
-use Rattle.std.specs.Prelude.{Result, Ok, Err, IsErr}
-use Rattle.std.specs.Result.{IsErrAnd}
 use Rattle.frame.specs.Refusals.{◌when◌, first_of}
 use Rattle.frame.specs.Lists.{some}
 use Rattle.frame.proofs.Scanning.{none_each, none_there}
@@ -114,11 +112,6 @@ reason_some Invalid e = omega (arith, e)
 reason_some Less e = omega (arith, e)
 reason_some Equal e = omega (arith, e)
 reason_some Inside e = omega (arith, e)
-
--- what `?` hands on
-pub handed : {A : Type 0} {f : Reason} (r : Result A Reason) → IsErr r × IsErrAnd r (λ e. e ≡ f) → r ≡ Err f
-handed (Ok a) h = absurd h.1
-handed (Err e) h = ap Err h.1
 
 -- any word
 pub after_reach : (ws : List ℕ) (i : ℕ) → i < length ws → ClearTo ws i

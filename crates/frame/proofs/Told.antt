@@ -106,9 +106,9 @@ back PaperCode = refl
 pub number_one : (f g : Refusal) → number f ≡ number g → f ≡ g
 number_one f g e = sym (back f) ∙ ap refusal_of e ∙ back g
 
--- ---- what `?` hands on
+-- ---- what `?` hands on, of a refusal or of any other error
 
-pub handed : {A : Type 0} {f : Refusal} (r : Result A Refusal) → IsErr r × IsErrAnd r (λ e. e ≡ f) → r ≡ Err f
+pub handed : {A E : Type 0} {f : E} (r : Result A E) → IsErr r × IsErrAnd r (λ e. e ≡ f) → r ≡ Err f
 handed (Ok a) h = absurd h.1
 handed (Err e) h = ap Err h.1
 

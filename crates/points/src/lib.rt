@@ -1,4 +1,6 @@
-// The calls of document 01 for a corner's place: exact coordinates, t, drawn coordinates.
+// The calls of document 01 for a corner's place: exact coordinates, t, drawn coordinates. Each comes twice, for a code with
+// a corner number and for a name: a trait over the two, with its laws, would be longer than these six bodies of a line or
+// two, which it could not do without.
 #![tactic(auto)]
 
 ghost use Rattle.points.specs.Answers.{place_told, ticks_told, point_told};

@@ -12,7 +12,7 @@ use words::{CornerName, TriangleCode};
 // The places that a list of weights must have.
 const WEIGHTS: usize = 12;
 
-// ---- weights
+// ---- weights: of a code with a corner number and of a name, as in points, two calls that share all but their refusals
 
 // The twelve weights of a corner of a triangle, into a list of at least twelve places.
 pub fn weights_of(t: TriangleCode, corner: u64, out: &mut [u64]) -> Result<(), Refusal>

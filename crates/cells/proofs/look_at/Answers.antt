@@ -3,11 +3,11 @@ use mathlib.Core.Path.{◌≡◌, ◌∙◌, sym, ap}
 use mathlib.Core.Bool.{true}
 use Prim.Native.Nat.{ℕ}
 use borrow.Author.Tests.{eq-eqb, ne_eqb}
-use Rattle.frame.proofs.Told.{some_told, none_told}
+use Rattle.frame.proofs.Told.{some_told, none_told, handed}
 use Rattle.cells.specs.Order.{valid}
 use Rattle.cells.specs.Means.Ranks.{reach, reason_by, reason_after}
 use Rattle.cells.specs.declared.Reach.{Reach}
-use Rattle.cells.proofs.OnePass.{handed, after_invalid, after_valid}
+use Rattle.cells.proofs.OnePass.{after_invalid, after_valid}
 use Rattle.cells.proofs.look_at.Goals as goal
 
 pub returns-then-is_err : goal.returns-then-is_err

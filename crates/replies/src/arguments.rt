@@ -1,7 +1,7 @@
 // Reading the arguments of a call: each is the next word of its line, and None where that is no such argument.
 ghost use Rattle.std.specs.Prelude.{◌≤◌, length, IfSome};
 
-use grid::Direction;
+use grid::{CornerName, Direction, TriangleCode};
 use lines::Words;
 
 // That no word follows.
@@ -31,6 +31,38 @@ pub fn towards(words: &mut Words<'_>) -> Option<Direction> {
     let z = signed(words)?;
     Some(Direction { x, y, z })
 }
+
+// ---- all arguments of a call
+
+// A code alone.
+pub fn one_code(mut words: Words<'_>) -> Option<TriangleCode> {
+    let w = code(&mut words)?;
+    end(&words)?;
+    Some(TriangleCode(w))
+}
+
+// A corner name alone.
+pub fn one_name(mut words: Words<'_>) -> Option<CornerName> {
+    let w = name(&mut words)?;
+    end(&words)?;
+    Some(CornerName(w))
+}
+
+pub fn code_and_number(mut words: Words<'_>) -> Option<(TriangleCode, u64)> {
+    let w = code(&mut words)?;
+    let n = number(&mut words)?;
+    end(&words)?;
+    Some((TriangleCode(w), n))
+}
+
+pub fn degree_and_direction(mut words: Words<'_>) -> Option<(u64, Direction)> {
+    let degree = number(&mut words)?;
+    let d = towards(&mut words)?;
+    end(&words)?;
+    Some((degree, d))
+}
+
+// ---- lent lists, and lists
 
 // How many places a lent list has: at most so many.
 pub fn room(words: &mut Words<'_>, most: usize) -> Option<usize>

@@ -25,8 +25,8 @@ fn put_reason<const N: usize>(w: u64, reason: u64, out: &mut Text<N>)
     requires { length out.old + 202 ≤ N }
     ensures { length out.new ≤ length out.old + 202 }
 {
-    if reason == 1 {
-        telling::put_invalid(TriangleCode(w).check(), out);
+    if let Err(f) = TriangleCode(w).check() {
+        telling::put_invalid(f, out);
     } else {
         put_why(reason, out);
     }
@@ -39,7 +39,7 @@ fn put_shown<const N: usize>(w: u64, out: &mut Text<N>)
     requires { length out.old + 46 ≤ N }
     ensures { length out.new ≤ length out.old + 46 }
 {
-    if TriangleCode(w).check() != 0 {
+    if TriangleCode(w).check().is_err() {
         out.push_word(w);
     } else {
         texts::put_code(w, out);

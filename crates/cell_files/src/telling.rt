@@ -2,6 +2,7 @@
 ghost use Rattle.std.specs.Prelude.{◌+◌, ◌*◌, ◌≤◌, length};
 
 use crate::Held;
+use frame::Refusal;
 use lines::Text;
 use octets::get8;
 use words::TriangleCode;
@@ -17,17 +18,17 @@ fn word_at(bytes: &[u8], i: u64) -> u64
 }
 
 // That a word is invalid, and why.
-pub fn put_invalid<const N: usize>(refusal: u64, out: &mut Text<N>)
+pub fn put_invalid<const N: usize>(refusal: Refusal, out: &mut Text<N>)
     requires { length out.old + 202 ≤ N }
     ensures { length out.new ≤ length out.old + 202 }
 {
     texts::put_offence(1, out);
     out.push_bytes(b": ");
-    texts::put_reason(refusal, out);
+    texts::put_reason(u64::from(refusal), out);
 }
 
 // A word that is no code, and why.
-fn put_no_code<const N: usize>(w: u64, refusal: u64, out: &mut Text<N>)
+fn put_no_code<const N: usize>(w: u64, refusal: Refusal, out: &mut Text<N>)
     requires { length out.old + 250 ≤ N }
     ensures { length out.new ≤ length out.old + 250 }
 {
@@ -54,9 +55,8 @@ fn put_at_place<const N: usize>(bytes: &[u8], place: u64, reason: u64, out: &mut
     ensures { length out.new ≤ length out.old + 250 }
 {
     let w = word_at(bytes, place);
-    let refusal = TriangleCode(w).check();
-    if refusal != 0 {
-        put_no_code(w, refusal, out);
+    if let Err(f) = TriangleCode(w).check() {
+        put_no_code(w, f, out);
     } else if 0 < place {
         // Only the word at the first place has none before it, and that offends by 1 alone.
         put_misplaced(w, reason, word_at(bytes, place - 1), out);
@@ -77,10 +77,9 @@ fn put_told<const N: usize>(held: &Held, out: &mut Text<N>)
         out.push_bytes(b"  it has more than 4096 words");
         return;
     }
-    let v = verdicts::check_words(&held.head, count);
-    if v.reason != 0 {
+    if let Err(o) = verdicts::check_words(&held.head, count) {
         out.push_bytes(b"  ");
-        put_at_place(&held.head, v.place, v.reason, out);
+        put_at_place(&held.head, o.place, u64::from(o.reason), out);
     }
 }
 

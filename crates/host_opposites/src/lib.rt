@@ -3,41 +3,54 @@
 #![tactic(auto)]
 
 ghost use Rattle.std.specs.Prelude.{[], ◌∷◌};
+ghost use Rattle.frame.specs.Refusals.{told_number};
 ghost use Rattle.octets.specs.Bytes.{bytes};
 ghost use Rattle.words.specs.Family.{code_of};
 ghost use Rattle.net.specs.Corners.{name_of};
 ghost use Rattle.exports.specs.Promises.{Delivered};
 ghost use Rattle.host_opposites.specs.Answers.{OppositeBytes, OppositeNameBytes};
 
+use frame::{Refusal, number_of};
 use octets::put8;
 use words::{CornerName, TriangleCode};
 
-// Hands a call's refusal on; else 9, where there are fewer than eight bytes; else its word, in eight.
-fn hand_on(refusal: u64, word: u64, out: &mut [u8]) -> u64
-    ensures { Delivered refusal (bytes 8 (word ∷ [])) 8 out.old result out.new }
+// A word in eight bytes; else 9, where there are fewer.
+fn put_word(word: u64, out: &mut [u8]) -> Result<(), Refusal>
+    ensures { Delivered 0 (bytes 8 (word ∷ [])) 8 out.old (told_number result) out.new }
 {
-    if refusal != 0 {
-        return refusal;
-    }
     if out.len() < 8 {
-        return 9;
+        return Err(Refusal::ShortList);
     }
     put8(word, out);
-    0
+    Ok(())
 }
 
-// The opposite of a triangle: its code, in eight bytes.
+// The code of the opposite triangle, in eight bytes.
+fn opposite(code: TriangleCode, out: &mut [u8]) -> Result<(), Refusal>
+    ensures { OppositeBytes code out.old (told_number result) out.new }
+{
+    let there = opposites::opposite(code)?;
+    put_word(there.0, out)
+}
+
+// The opposite of a triangle.
 pub fn grid_opposite(code: u64, out: &mut [u8]) -> u64
     ensures { OppositeBytes (code_of code) out.old result out.new }
 {
-    let a = opposites::opposite(TriangleCode(code));
-    hand_on(a.refusal, a.code.0, out)
+    number_of(opposite(TriangleCode(code), out))
 }
 
-// The opposite of a corner: its name, in eight bytes.
+// The name of the opposite corner, in eight bytes.
+fn opposite_name(name: CornerName, out: &mut [u8]) -> Result<(), Refusal>
+    ensures { OppositeNameBytes name out.old (told_number result) out.new }
+{
+    let there = opposites::opposite_name(name)?;
+    put_word(there.0, out)
+}
+
+// The opposite of a corner.
 pub fn grid_opposite_name(name: u64, out: &mut [u8]) -> u64
     ensures { OppositeNameBytes (name_of name) out.old result out.new }
 {
-    let a = opposites::opposite_name(CornerName(name));
-    hand_on(a.refusal, a.name.0, out)
+    number_of(opposite_name(CornerName(name), out))
 }

@@ -5,23 +5,26 @@
 
 ghost use Rattle.std.specs.Prelude.{◌≡◌, ◌+◌, ◌*◌, ◌%◌, ◌≤◌, ◌<◌, length};
 ghost use Rattle.frame.specs.Lists.{first_place};
+ghost use Rattle.words.specs.Family.{code_told};
 ghost use Rattle.directions.specs.Answers.{FileAnswer};
-ghost use Rattle.directions.specs.Means.Numbers.{answer_for};
-ghost use Rattle.sweeps.specs.Answers.{SweepResult};
+ghost use Rattle.sweeps.specs.Answers.{SweepResult, sweep_told, unfiled_told};
 ghost use Rattle.sweeps.specs.Promises.{direction_at};
 ghost use Rattle.sweeps.specs.Means.Counted.{CountedInto, is_zero, Tells};
 
-use sweeps::{SweepAnswer, code_in, first_zero, none_refused, refusals_in};
+use filing::Direction;
+use frame::Refusal;
+use sweeps::{Unfiled, first_zero};
+use words::TriangleCode;
 
-// Files direction i: the word of its code, or the number of its refusal, in one number.
-fn file_at(degree: u64, dirs: &[i32], i: usize) -> u64
+// Files direction i.
+fn file_at(degree: u64, dirs: &[i32], i: usize) -> Result<TriangleCode, Refusal>
     requires { 3 * i + 2 < length dirs.now }
-    ensures { FileAnswer degree (direction_at dirs.now i) (answer_for result) }
+    ensures { FileAnswer degree (direction_at dirs.now i) (code_told result) }
 {
     let x = dirs[3 * i];
     let y = dirs[3 * i + 1];
     let z = dirs[3 * i + 2];
-    directions::file_word(degree, x, y, z)
+    directions::file(degree, Direction { x, y, z })
 }
 
 // Files one direction after the other, and answers how many are refused.
@@ -31,9 +34,13 @@ fn file_each(degree: u64, dirs: &[i32], codes: &mut [u64]) -> u64
 {
     let mut refused = 0;
     for i in 0..dirs.len() / 3 {
-        let w = file_at(degree, dirs, i);
-        codes[i] = code_in(w);
-        refused += refusals_in(w);
+        match file_at(degree, dirs, i) {
+            Ok(code) => codes[i] = code.0,
+            Err(_) => {
+                codes[i] = 0;
+                refused += 1;
+            }
+        }
     }
     refused
 }
@@ -57,41 +64,41 @@ fn file_halves(degree: u64, dirs: &[i32], codes: &mut [u64]) -> u64
 
 // The answer, where so many are refused: the first is the first with the code 0, and is asked once more for its
 // refusal.
-fn tell(degree: u64, dirs: &[i32], codes: &[u64], refused: u64) -> SweepAnswer
+fn tell(degree: u64, dirs: &[i32], codes: &[u64], refused: u64) -> Option<Unfiled>
     requires { (refused ≡ 0 → ⊥) → 3 * first_place is_zero codes.now + 2 < length dirs.now }
-    ensures { Tells degree dirs.now (first_place is_zero codes.now) refused result }
+    ensures { Tells degree dirs.now (first_place is_zero codes.now) refused (unfiled_told result) }
 {
     if refused == 0 {
-        return none_refused(0);
+        return None;
     }
     let place = first_zero(codes);
-    SweepAnswer {
-        refusal: 0,
-        refused,
+    let refusal = file_at(degree, dirs, place).err()?;
+    Some(Unfiled {
+        count: refused,
         place: place as u64,
-        first: file_at(degree, dirs, place),
-    }
+        refusal,
+    })
 }
 
-// Filing many directions, each as the single call files it. A refused one writes 0 in its own place, and the sweep goes
-// on. (A short sweep takes the short way, which costs no more than its single calls.)
-pub fn sweep(degree: u64, dirs: &[i32], codes: &mut [u64]) -> SweepAnswer
-    ensures { SweepResult degree dirs.now codes.old result codes.new }
+// Filing many directions, each as the single call files it, and what is not filed. A refused one writes 0 in its own
+// place, and the sweep goes on. (A short sweep takes the short way, which costs no more than its single calls.)
+pub fn sweep(degree: u64, dirs: &[i32], codes: &mut [u64]) -> Result<Option<Unfiled>, Refusal>
+    ensures { SweepResult degree dirs.now codes.old (sweep_told result) codes.new }
 {
     if 24 < degree {
-        return none_refused(1);
+        return Err(Refusal::Degree);
     }
     if dirs.len() % 3 != 0 {
-        return none_refused(9);
+        return Err(Refusal::ShortList);
     }
     let n = dirs.len() / 3;
     if codes.len() < n {
-        return none_refused(9);
+        return Err(Refusal::ShortList);
     }
     if n <= 64 {
         let refused = file_each(degree, dirs, codes);
-        return tell(degree, dirs, codes, refused);
+        return Ok(tell(degree, dirs, codes, refused));
     }
     let refused = file_halves(degree, dirs, codes);
-    tell(degree, dirs, codes, refused)
+    Ok(tell(degree, dirs, codes, refused))
 }

@@ -13,15 +13,13 @@ use Rattle.frame.proofs.Lengths.{two_parts, over_next, over_long}
 use Rattle.words.specs.Family.{CodeAnswer}
 use Rattle.net.specs.Steps.{non_zeros}
 use Rattle.directions.specs.Answers.{FileAnswer}
-use Rattle.directions.specs.Means.Numbers.{answer_for}
-use Rattle.directions.proofs.FilingCalls.{number_refused, filed_code, refused_code}
+use Rattle.directions.proofs.FilingCalls.{filed_code, refused_code}
 use Rattle.grid.specs.Writing.{towards}
-use Rattle.sweeps.specs.Sweeps.{Singles, done, then, codes_of, refusals_of, sweep_answer, first_refused}
+use Rattle.sweeps.specs.Sweeps.{SweepAnswer, Singles, done, then, codes_of, refusals_of, sweep_answer, first_refused}
 use Rattle.sweeps.specs.Sweeps.{told, Swept}
 use Rattle.sweeps.specs.Answers.{SweptInto}
 use Rattle.sweeps.specs.Promises.{direction_at}
 use Rattle.sweeps.specs.Means.Counted.{Counted, CountedInto, is_zero, Tells}
-use Rattle.sweeps.specs.declared.SweepAnswer.{SweepAnswer}
 use Rattle.sweeps.proofs.SingleCalls.{singles_append, singles_long, codes_append, refusals_append, codes_long}
 use Rattle.sweeps.proofs.SingleCalls.{refusals_long, many, refusal_at}
 use Rattle.sweeps.proofs.Told.{non_append, non_most, told_none, told_some, first_refused_lem}
@@ -178,16 +176,13 @@ module _ {n : ℕ} {dirs : List ℤ} {m : ℕ} {cs : List ℕ} (rest : List ℕ)
       go zero e = t.none e ∙ sym (told_none fs (sym x.count ∙ e))
       go (suc k) e =
           let s = t.some (λ z. omega (arith, e, z)) in
-          let w = s.0 in
           let p = place e in
           let q = sym x.count ∙ e in
-          let f : FileAnswer n (direction_at dirs (first_refused fs)) (answer_for w) =
-          subst (λ (i : ℕ). FileAnswer n (direction_at dirs i) (answer_for w)) p s.1 in
-          let g : get_or fs (first_refused fs) 0 ≡ (answer_for w).refusal =
-          refusal_at x.each (first_refused fs) (answer_for w) (inside e) f in
-          let h : w ≡ get_or fs (first_refused fs) 0 =
-          sym (g ∙ number_refused w (λ z. (first_refused_lem fs k q).1 (g ∙ z))) in
-          s.2 ∙ (λ i. sweep_answer 0 (e i) (p i) (h i)) ∙ sym (told_some fs k q)
+          let f : FileAnswer n (direction_at dirs (first_refused fs)) s.0 =
+          subst (λ (i : ℕ). FileAnswer n (direction_at dirs i) s.0) p s.1 in
+          let g : get_or fs (first_refused fs) 0 ≡ s.0.refusal = refusal_at x.each (first_refused fs) s.0 (inside e) f in
+          s.2 (λ z. (first_refused_lem fs k q).1 (g ∙ z)) ∙ (λ i. sweep_answer 0 (e i) (p i) (sym g i))
+          ∙ sym (told_some fs k q)
 
 -- the same in a list
 pub tells_into : {n : ℕ} {dirs : List ℤ} {out new : List ℕ} {m : ℕ} {r : SweepAnswer}

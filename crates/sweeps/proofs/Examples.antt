@@ -19,11 +19,10 @@ use Rattle.directions.specs.Answers.{FileAnswer}
 use Rattle.words.specs.Writing.{decimals, written}
 use Rattle.grid.specs.Writing.{towards}
 use Rattle.grid.proofs.Examples as grid
-use Rattle.sweeps.specs.Sweeps.{Singles, done, then, codes_of, refusals_of, no_sweep, told}
+use Rattle.sweeps.specs.Sweeps.{SweepAnswer, Singles, done, then, codes_of, refusals_of, no_sweep, told}
 use Rattle.sweeps.specs.Refusals.{refuse_sweep}
 use Rattle.sweeps.specs.Answers.{SweepResult}
 use Rattle.sweeps.specs.Examples.{four, Examples, Bounds, Mistakes}
-use Rattle.sweeps.specs.declared.SweepAnswer.{SweepAnswer}
 use Rattle.sweeps.proofs.OneSweep.{sweep_one}
 
 -- what the single calls answer is what is left

@@ -7,10 +7,9 @@ use lib.ListN.{length}
 use Rattle.frame.specs.Answers.{over}
 use Rattle.frame.specs.Promises.{KeepsLent, together}
 use Rattle.frame.proofs.Answering.{answer_one, answer_some, keeps}
-use Rattle.sweeps.specs.Sweeps.{codes_of, refusals_of, no_sweep, told, Swept}
+use Rattle.sweeps.specs.Sweeps.{SweepAnswer, codes_of, refusals_of, no_sweep, told, Swept}
 use Rattle.sweeps.specs.Refusals.{refuse_sweep}
 use Rattle.sweeps.specs.Answers.{SweptInto, SweepResult}
-use Rattle.sweeps.specs.declared.SweepAnswer.{SweepAnswer}
 use Rattle.sweeps.proofs.SingleCalls.{singles_one, singles_some}
 use Rattle.sweeps.proofs.Told.{told_0}
 use Rattle.sweeps.proofs.Refused.{fine}

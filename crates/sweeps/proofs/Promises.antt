@@ -11,7 +11,7 @@ use Rattle.frame.proofs.Answering.{answers_or_not, answering}
 use Rattle.sweeps.specs.Refusals.{refuse_sweep}
 use Rattle.sweeps.specs.Answers.{SweepResult}
 use Rattle.sweeps.specs.Promises.{OneAnswer, Places, Parts}
-use Rattle.sweeps.specs.declared.SweepAnswer.{SweepAnswer}
+use Rattle.sweeps.specs.Sweeps.{SweepAnswer}
 use Rattle.sweeps.proofs.Refused.{fine, refuse_none}
 use Rattle.sweeps.proofs.OneSweep.{sweep_keeps}
 use Rattle.sweeps.proofs.SweptParts.{into_none, into_long}

@@ -6,10 +6,9 @@ use native.Mathlib.Omega.{arith}
 use lib.IntN.{ℤ}
 use lib.ListN.{length, get_or}
 use Rattle.frame.proofs.Lengths.{over_long}
-use Rattle.sweeps.specs.Sweeps.{done, refusals_of, no_sweep, told, Swept}
+use Rattle.sweeps.specs.Sweeps.{SweepAnswer, done, refusals_of, no_sweep, told, Swept}
 use Rattle.sweeps.specs.Answers.{SweptInto}
 use Rattle.sweeps.specs.Promises.{joined}
-use Rattle.sweeps.specs.declared.SweepAnswer.{SweepAnswer}
 use Rattle.sweeps.proofs.SingleCalls.{singles_append, singles_long, codes_append, refusals_append, codes_long}
 use Rattle.sweeps.proofs.SingleCalls.{refusals_long, codes_small, refusals_small}
 use Rattle.sweeps.proofs.Told.{by_told, told_append, told_most}

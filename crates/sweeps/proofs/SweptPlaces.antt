@@ -11,10 +11,9 @@ use Rattle.words.specs.Family.{CodeAnswer}
 use Rattle.directions.specs.Answers.{FileAnswer}
 use Rattle.net.specs.Steps.{non_zeros}
 use Rattle.grid.specs.Writing.{towards}
-use Rattle.sweeps.specs.Sweeps.{done, then, refusals_of, sweep_answer, no_sweep, told, Swept}
+use Rattle.sweeps.specs.Sweeps.{SweepAnswer, done, then, refusals_of, sweep_answer, no_sweep, told, Swept}
 use Rattle.sweeps.specs.Answers.{SweptInto}
 use Rattle.sweeps.specs.Promises.{direction_at, Found, joined}
-use Rattle.sweeps.specs.declared.SweepAnswer.{SweepAnswer}
 use Rattle.sweeps.proofs.Told.{by_told, first_refused_lem, none_earlier, all_zero, told_none, told_one}
 use Rattle.sweeps.proofs.SingleCalls.{singles_one, many, refusals_long, code_at_lem, refusal_at}
 use Rattle.sweeps.proofs.SweptParts.{swept_long, swept_append}

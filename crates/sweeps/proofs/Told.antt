@@ -6,12 +6,14 @@ use mathlib.Core.List.{List, [], ◌∷◌, ◌++◌}
 use Prim.Native.Nat.{ℕ, zero, suc, ◌+◌, ◌≤◌, ◌<◌}
 use native.Mathlib.Omega.{arith}
 use lib.ListN.{length, get_or}
+use Rattle.frame.specs.declared.Refusal.{Refusal}
+use Rattle.frame.specs.Refusals.{number}
 use Rattle.frame.specs.Lists.{some, first_place}
+use Rattle.frame.proofs.Told.{number_some}
 use Rattle.frame.proofs.Scanning.{first_there, none_before}
 use Rattle.net.specs.Steps.{non_zeros}
-use Rattle.sweeps.specs.Sweeps.{is_refusal, sweep_answer, no_sweep, first_refused, told_of, told}
+use Rattle.sweeps.specs.Sweeps.{SweepAnswer, is_refusal, sweep_answer, no_sweep, first_refused, told_of, told}
 use Rattle.sweeps.specs.Promises.{joined_by, joined}
-use Rattle.sweeps.specs.declared.SweepAnswer.{SweepAnswer}
 
 -- ---- none is refused, or some are
 
@@ -136,34 +138,17 @@ unfolding told first_place
 told_one zero k = absurd (k refl)
 told_one (suc f) k = refl
 
--- ---- the answers of two parts by the program's tests
+-- ---- one more
 
-module _ (h : ℕ) (a b : SweepAnswer) where
-  pub join_here : (a.refused ≡ 0 → ⊥)
-      → sweep_answer 0 (a.refused + b.refused) a.place a.first ≡ joined h a b
-  join_here = go a.refused b.refused
-    where
-      go : (m k : ℕ) → (m ≡ 0 → ⊥) → sweep_answer 0 (m + k) a.place a.first ≡ joined_by m k h a b
-      go zero k e = absurd (e refl)
-      go (suc m) k e = refl
+pub none_more : (m : ℕ) → m + non_zeros (0 ∷ []) ≡ m
+none_more m = omega arith
 
-  pub join_later : a.refused ≡ 0 → (b.refused ≡ 0 → ⊥)
-      → sweep_answer 0 b.refused (h + b.place) b.first ≡ joined h a b
-  join_later = go a.refused b.refused
-    where
-      go : (m k : ℕ) → m ≡ 0 → (k ≡ 0 → ⊥)
-          → sweep_answer 0 k (h + b.place) b.first ≡ joined_by m k h a b
-      go zero zero e f = absurd (f refl)
-      go zero (suc k) e f = refl
-      go (suc m) k e f = absurd (omega (arith, e))
-
-  pub join_none : a.refused ≡ 0 → b.refused ≡ 0 → no_sweep 0 ≡ joined h a b
-  join_none = go a.refused b.refused
-    where
-      go : (m k : ℕ) → m ≡ 0 → k ≡ 0 → no_sweep 0 ≡ joined_by m k h a b
-      go zero zero e f = refl
-      go zero (suc k) e f = absurd (omega (arith, f))
-      go (suc m) k e f = absurd (omega (arith, e))
+pub one_more : (m : ℕ) (f : Refusal) → m + non_zeros (number f ∷ []) ≡ m + 1
+one_more m f = go (number f) (number_some f)
+  where
+    go : (k : ℕ) → (k ≡ 0 → ⊥) → m + non_zeros (k ∷ []) ≡ m + 1
+    go zero some = absurd (some refl)
+    go (suc k) some = omega arith
 
 -- ---- sizes
 

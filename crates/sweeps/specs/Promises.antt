@@ -5,10 +5,9 @@ use Rattle.words.specs.Family.{CodeAnswer}
 use Rattle.filing.specs.declared.Direction.{Direction}
 use Rattle.directions.specs.Answers.{FileAnswer}
 use Rattle.grid.specs.Writing.{towards}
-use Rattle.sweeps.specs.Sweeps.{sweep_answer, no_sweep}
+use Rattle.sweeps.specs.Sweeps.{SweepAnswer, sweep_answer, no_sweep}
 use Rattle.sweeps.specs.Refusals.{refuse_sweep}
 use Rattle.sweeps.specs.Answers.{SweepResult}
-use Rattle.sweeps.specs.declared.SweepAnswer.{SweepAnswer}
 
 -- Demand 1, of this call: exactly one answer for every input, a refusal by its number, with zeros, "writing nothing".
 pub record OneAnswer : Type 0 where

@@ -5,7 +5,6 @@ use Rattle.words.specs.Family.{CodeAnswer}
 use Rattle.net.specs.Steps.{non_zeros}
 use Rattle.directions.specs.Answers.{FileAnswer}
 use Rattle.grid.specs.Writing.{towards}
-use Rattle.sweeps.specs.declared.SweepAnswer.{SweepAnswer}
 
 -- "File a lent list of directions (three signed numbers each)"; "Each result equals the single call's.": rs are the
 -- answers of the single call, one for each three numbers in turn
@@ -28,6 +27,14 @@ is_refusal zero = false
 is_refusal (suc f) = true
 
 -- ---- the answer
+
+-- The refusal of the whole call, or 0; how many directions were refused, and the first one's place, from 0, and
+-- refusal.
+pub record SweepAnswer : Type 0 where
+  pub refusal : ℕ
+  pub refused : ℕ
+  pub place : ℕ
+  pub first : ℕ
 
 abbrev pub sweep_answer : (refusal refused place first : ℕ) → SweepAnswer
 sweep_answer f m p g = record { refusal = f; refused = m; place = p; first = g }

@@ -4,11 +4,11 @@
 
 ghost use Rattle.std.specs.Prelude.{◌≡◌, List, ℕ, [], ◌∷◌, ◌++◌, ◌+◌, ◌*◌, ◌%◌, ◌≤◌, length};
 ghost use Rattle.octets.specs.Bytes.{numbers};
-ghost use Rattle.cells.specs.Checking.{checked};
+ghost use Rattle.cells.specs.Checking.{verdict_told, checked};
 ghost use Rattle.verdicts.specs.Program.{verdict_text, text, line};
 ghost use Rattle.verdicts.specs.Files.{Holds, TakesIn, WritesOf};
 
-use cells::Verdict;
+use cells::Offence;
 use lines::Text;
 use octets::read_words;
 
@@ -37,9 +37,9 @@ pub fn take_in(next: &[u8], head: &mut [u8], size: usize) -> usize
 }
 
 // Checks the first words of the bytes.
-pub fn check_words(bytes: &[u8], count: usize) -> Verdict
+pub fn check_words(bytes: &[u8], count: usize) -> Result<(), Offence>
     requires { (8 * count ≤ length bytes.now) × (count ≤ 4096) }
-    ensures { result ≡ checked (numbers 8 count bytes.now) }
+    ensures { verdict_told result ≡ checked (numbers 8 count bytes.now) }
 {
     let mut words = [0u64; 4096];
     read_words(bytes, count, &mut words);
@@ -47,19 +47,20 @@ pub fn check_words(bytes: &[u8], count: usize) -> Verdict
 }
 
 // A verdict as text.
-pub fn put_verdict<const N: usize>(v: Verdict, out: &mut Text<N>)
+pub fn put_verdict<const N: usize>(v: Result<(), Offence>, out: &mut Text<N>)
     requires { length out.old + 54 ≤ N }
-    ensures text { out.new ≡ out.old ++ verdict_text v }
+    ensures text { out.new ≡ out.old ++ verdict_text (verdict_told v) }
     ensures within { length out.new ≤ length out.old + 54 }
 {
-    if v.reason == 0 {
-        out.push_bytes(b"accepted");
-        return;
+    match v {
+        Ok(()) => out.push_bytes(b"accepted"),
+        Err(o) => {
+            out.push_bytes(b"place ");
+            out.push_decimal(o.place);
+            out.push_bytes(b" reason ");
+            out.push_decimal(u64::from(o.reason));
+        }
     }
-    out.push_bytes(b"place ");
-    out.push_decimal(v.place);
-    out.push_bytes(b" reason ");
-    out.push_decimal(v.reason);
 }
 
 // The line without its end.

@@ -1,12 +1,12 @@
 -- After i directions the list has what a sweep of them leaves (CountedParts). Assumes nothing.
-use Rattle.std.proofs.Common.{subst, ◌+◌, ◌*◌, ◌<◌, List, [], ◌∷◌, length, length-take-le, add-one, arith}
+use Rattle.std.proofs.Common.{subst, ◌+◌, ◌*◌, ◌<◌, List, length, length-take-le, add-one, arith}
 use lib.IntN.{ℤ}
 use lib.Seq.{take_all}
-use Rattle.directions.specs.Means.Numbers.{answer_for}
 use Rattle.sweeps.specs.Means.Counted.{CountedInto}
 use Rattle.sweeps.proofs.CountedParts.{counted_most, into_none, into_next}
-use Rattle.sweeps.proofs.Told.{non_most}
+use Rattle.sweeps.proofs.Told.{none_more, one_more}
 use Rattle.sweeper.proofs.file_each.Goals as goal
+use Rattle.sweeper.proofs.file_each.Goals.{in-Ok, in-Err}
 
 pub loop-i-init : goal.loop-i-init
 loop-i-init c = into_none c.args.dirs.now c.args.codes.now
@@ -20,8 +20,6 @@ overflow_add-refused c =
       g.1,
       counted_most c.loop-i.invariant.counted,
       length-take-le (3 * c.loop-i.i) c.args.dirs.now (omega arith),
-      c.refusals_in-refused.ensures,
-      non_most ((answer_for c.file_at-w.result).refusal ∷ []),
     )
 
 pub loop-i-preserved : goal.loop-i-preserved
@@ -29,8 +27,14 @@ loop-i-preserved c =
     let l = c.loop-i in
     let dirs = c.args.dirs.now in
     let inside : 3 * l.i + 2 < length dirs = omega (arith, c.requires.0) in
-    rw (add-one l.i, c.code_in.ensures, c.refusals_in-refused.ensures)
-    (into_next l.i dirs (answer_for c.file_at-w.result) inside c.requires.1 l.invariant c.file_at-w.ensures)
+    elim c.match-file_at.branch [
+      | in-Ok w ↦
+          rw (add-one l.i, w.codes-is, w.refused-is)
+          (rw (none_more l.refused) at (into_next l.i dirs _ inside c.requires.1 l.invariant w.in-Ok.ensures))
+      | in-Err w ↦
+          rw (add-one l.i, w.codes-is, w.refused-is)
+          (rw (one_more l.refused w.in-Err.field-0) at (into_next l.i dirs _ inside c.requires.1 l.invariant w.in-Err.ensures))
+    ]
 
 pub returns : goal.returns
 returns c =

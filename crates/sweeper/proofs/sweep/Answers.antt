@@ -8,17 +8,14 @@ use Rattle.sweeps.proofs.CountedParts.{zero_in, tells_into}
 use Rattle.sweeper.proofs.sweep.Goals as goal
 
 pub returns-then-degree-gt24 : goal.returns-then-degree-gt24
-returns-then-degree-gt24 c =
-    rw c.none_refused.ensures (refusing (refuse_degree _ _ _ (omega arith)) (λ z. omega (arith, z)))
+returns-then-degree-gt24 c = refusing (refuse_degree _ _ _ (omega arith)) (λ z. omega (arith, z))
 
 pub returns-then-dirs-ne0 : goal.returns-then-dirs-ne0
 returns-then-dirs-ne0 c =
-    rw c.none_refused-then-dirs-ne0.ensures
-    (refusing (refuse_threes _ _ _ (omega arith) (λ z. omega (arith, z))) (λ z. omega (arith, z)))
+    refusing (refuse_threes _ _ _ (omega arith) (λ z. omega (arith, z))) (λ z. omega (arith, z))
 
 pub returns-then-codes-n : goal.returns-then-codes-n
-returns-then-codes-n c =
-    rw c.none_refused-then-codes-n.ensures (refusing (refuse_short _ _ _ (omega arith) (omega arith)) (λ z. omega (arith, z)))
+returns-then-codes-n c = refusing (refuse_short _ _ _ (omega arith) (omega arith)) (λ z. omega (arith, z))
 
 pub tell-requires : goal.tell-requires
 tell-requires c = zero_in c.file_each-refused.ensures

@@ -5,10 +5,8 @@ use Rattle.frame.specs.Answers.{over}
 use Rattle.words.specs.Family.{CodeAnswer}
 use Rattle.net.specs.Steps.{non_zeros}
 use Rattle.directions.specs.Answers.{FileAnswer}
-use Rattle.directions.specs.Means.Numbers.{answer_for}
-use Rattle.sweeps.specs.Sweeps.{Singles, codes_of, refusals_of, sweep_answer, no_sweep}
+use Rattle.sweeps.specs.Sweeps.{SweepAnswer, Singles, codes_of, refusals_of, sweep_answer, no_sweep}
 use Rattle.sweeps.specs.Promises.{direction_at}
-use Rattle.sweeps.specs.declared.SweepAnswer.{SweepAnswer}
 
 -- the directions come to these codes, and m of them are refused
 pub record Counted (degree : ℕ) (dirs : List ℤ) (m : ℕ) (codes : List ℕ) : Type 0 where
@@ -31,4 +29,5 @@ is_zero (suc w) = false
 pub record Tells (degree : ℕ) (dirs : List ℤ) (place m : ℕ) (r : SweepAnswer) : Type 0 where
   pub none : m ≡ 0 → r ≡ no_sweep 0
   pub some : (m ≡ 0 → ⊥)
-      → (w : ℕ) × FileAnswer degree (direction_at dirs place) (answer_for w) × (r ≡ sweep_answer 0 m place w)
+      → (s : CodeAnswer) × FileAnswer degree (direction_at dirs place) s
+      × ((s.refusal ≡ 0 → ⊥) → r ≡ sweep_answer 0 m place s.refusal)

@@ -158,7 +158,7 @@ def rt_names(text):
     names, owner = Names(), None
     for line in text.splitlines():
         line = re.sub(r"//.*", "", line).rstrip()
-        if m := re.match(r"(?:pub )?(?:extern \"C\" )?(?:fn|const) (\w+)", line):
+        if m := re.match(r"(?:pub )?(?:extern \"C\" )?(?:fn|const|type) (\w+)", line):
             names.tops.add(m[1])
         elif m := re.match(r"(?:pub )?(struct|enum|impl) (\w+)", line):
             if m[1] != "impl":
@@ -167,7 +167,7 @@ def rt_names(text):
             owner = (m[2], "." if m[1] == "struct" else "::") if line.endswith("{") else None
         elif line == "}":
             owner = None
-        elif owner and (m := re.match(r"    (?:pub )?(?:fn )?(\w+)[:(,]", line)):
+        elif owner and (m := re.match(r"    (?:pub )?(?:fn )?(\w+)[:(,<]", line)):
             names.parts[owner[0]].add((owner[1], m[1]))
     return names
 
@@ -234,7 +234,7 @@ def of_sweep():
 def on_list(crate):
     """The functions of a crate that others can call on any list of words: nothing is asked of it."""
     lib = (CRATES / crate / "src/lib.rt").read_text(encoding="utf-8")
-    return re.findall(r"^pub fn (\w+)\(\w+: &\[u64\][^{]*\n    ensures ", lib, re.MULTILINE)
+    return re.findall(r"^pub fn (\w+)\(\s*\w+: &\[u64\][^{]*\n    ensures ", lib, re.MULTILINE)
 
 
 @functools.cache
@@ -553,7 +553,7 @@ ROWS = (
     ("a method without its type", "Document 01", "`golden/src/lib.rt: at_least_zero`", "no at_least_zero"),
     ("another type's method", "Document 01", "`words/src/lib.rt: CornerName::parent`", "CornerName has no parent"),
     ("a local of a function", "Document 01", "`knots/src/back.rt: left`", "no left"),
-    ("another struct's field", "Document 01", "`corners/src/lib.rt: NameAnswer.edge`", "NameAnswer has no edge"),
+    ("another struct's field", "Document 01", "`corners/src/lib.rt: Step.number`", "Step has no number"),
     ("a clause that a demand has not", ASKED, "`Demand3`: `one_other, all_distinct`", "all_distinct"),
     ("a demand that there is not", ASKED, "`Demand4`", "`Demand4`"),
     ("a mistake that there is not", WRONG_ANSWERS, "`edge_lost` | `corners/cross_itself`", "Mistakes has no edge_lost"),
@@ -609,7 +609,7 @@ RIGHT = (
     ("Document 01", "`grid/specs/Examples.antt: Bounds.word_0, word_0_name, Points`"),
     ("Document 01", "`words/src/lib.rt: TriangleCode::check, parent, power`"),
     ("Document 01", "`frame/proofs/Answering.antt: refusing, answer_one`"),
-    ("Document 01", "`corners/src/lib.rt: StepAnswer.first, second, cross`"),
+    ("Document 01", "`corners/src/lib.rt: Step.first, second, cross`"),
     ("Document 01", "`net/specs/Steps.antt: Across`; `Turn`"),
     ("Document 01", "`net/specs/Steps.antt`: `Across`, `Turn`"),
     ("Document 01", "`golden/specs/Numbers.antt: ◌*φ◌`"),

@@ -5,12 +5,9 @@ use mathlib.Core.Logic.{⊎_elim}
 use Prim.Native.Nat.{ℕ, zero, suc, ◌+◌, ◌^◌, ◌≤◌, ◌<◌}
 use native.Mathlib.Omega.{arith}
 use lib.ListN.{length, length-append}
-use borrow.Author.Tests.{lt-ltb, le-ltb}
-use Rattle.frame.proofs.Answering.{answers_or_not, refusing, answering}
+use Rattle.frame.proofs.Answering.{answers_or_not, answering}
 use Rattle.words.specs.Words.{word_of}
-use Rattle.golden.proofs.IntegerOrder.{le_or_lt}
-use Rattle.words.specs.Family.{code_of, code_answer, no_code}
-use Rattle.words.specs.Family.{CodeAnswer}
+use Rattle.words.specs.Family.{CodeAnswer, code_of}
 use Rattle.words.proofs.Codes.{code_fields, code_below}
 use Rattle.corners.specs.Answers.{count_answer}
 use Rattle.directions.specs.Answers.{FileAnswer, ListAnswer}
@@ -21,7 +18,6 @@ use Rattle.filing.specs.Means.Descent.{holders}
 use Rattle.filing.specs.Means.Sides.{side_dets}
 use Rattle.filing.specs.Means.Lists.{joined, Puts, side_words, all_words}
 use Rattle.filing.specs.declared.Direction.{Direction}
-use Rattle.directions.specs.Means.Numbers.{answer_for}
 use Rattle.directions.proofs.Refused.{allowed, list_then, refuse_small}
 use Rattle.filing.proofs.AtMostSix.{sum_sides, at_most_six}
 use Rattle.filing.proofs.NoVertex.{zero_direction}
@@ -32,31 +28,6 @@ use Rattle.filing.proofs.AllHolders.{all_holders}
 pub filed_answer : (n : ℕ) (d : Direction) (w : ℕ) → refuse_file n d ≡ 0 → IsFiled n d (code_of w)
     → FileAnswer n d (record { refusal = 0; code = code_of w })
 filed_answer n d w z h = answering z (record { number = refl; is = h })
-
--- in one number: a refusal's, which is small, or the word of a code, which is not
-
-pub refused_number : (n : ℕ) (d : Direction) (f : ℕ) → f ≡ refuse_file n d → (f ≡ 0 → ⊥)
-    → FileAnswer n d (answer_for f)
-unfolding answer_for
-refused_number n d f e k = rw (lt-ltb f 12 (omega (arith, e, refuse_small n d))) (refusing e k)
-
-pub filed_number : (n : ℕ) (d : Direction) (w : ℕ) → refuse_file n d ≡ 0 → IsFiled n d (code_of w)
-    → FileAnswer n d (answer_for w)
-unfolding answer_for
-filed_number n d w z h = rw (le-ltb w 12 (omega (arith, (code_fields h.code).a_low))) (filed_answer n d w z h)
-
-pub small_number : (w : ℕ) → w < 12 → answer_for w ≡ no_code w
-unfolding answer_for
-small_number w l = rw (lt-ltb w 12 l)
-
-pub large_number : (w : ℕ) → 12 ≤ w → answer_for w ≡ code_answer 0 (code_of w)
-unfolding answer_for
-large_number w l = rw (le-ltb w 12 l)
-
--- a number that is a refusal's is that refusal
-pub number_refused : (w : ℕ) → ((answer_for w).refusal ≡ 0 → ⊥) → (answer_for w).refusal ≡ w
-number_refused w k = ⊎_elim (λ l. absurd (k (ap (λ (a : CodeAnswer). a.refusal) (large_number w l))))
-    (λ l. ap (λ (a : CodeAnswer). a.refusal) (small_number w l)) (le_or_lt 12 w)
 
 -- the code of an answer is 0 just where it refuses
 pub filed_code : (n : ℕ) (d : Direction) (s : CodeAnswer) → FileAnswer n d s → s.refusal ≡ 0 → 0 < s.code.0

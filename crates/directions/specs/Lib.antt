@@ -1,5 +1,3 @@
 -- What a reader must believe: document 01's calls on directions.
 pub mod Refusals
 pub mod Answers
--- What the code is proved by, and no promise: see there.
-pub mod Means

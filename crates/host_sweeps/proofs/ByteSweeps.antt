@@ -15,7 +15,7 @@ use Rattle.frame.specs.Answers.{over}
 use Rattle.frame.proofs.Refusing.{refuse_first, here, next, nothing, none_so}
 use Rattle.frame.proofs.Lengths.{two_parts}
 use Rattle.octets.specs.Bytes.{bytes_of, bytes, number_at, read_each, signed, signed_numbers}
-use Rattle.octets.proofs.Laying.{read_long, read_next, bytes_long, as_long}
+use Rattle.octets.proofs.Laying.{read_long, read_next, bytes_long}
 use Rattle.octets.proofs.WordLists.{bytes_more}
 use Rattle.words.specs.Refusals.{degree_rows}
 use Rattle.words.specs.Family.{CodeAnswer}
@@ -43,9 +43,6 @@ module _ {n : ℕ} {ds : List ℤ} {codes new : List ℕ} {m : ℕ} (x : Counted
   -- their bytes
   pub eight_each : length (bytes 8 x.written) ≡ 8 * i
   eight_each = bytes_long 8 x.written ∙ ap (λ (j : ℕ). 8 * j) written_long
-
-  pub new_long : 8 * i ≤ length codes → length new ≡ length codes
-  new_long l = ap length x.put ∙ as_long 8 x.written codes (omega (arith, l, written_long))
 
 -- as the loop goes: i directions are filed, and `mid` is what stands in the bytes
 

@@ -20,10 +20,9 @@ use Rattle.directions.specs.Answers.{FileAnswer}
 use Rattle.directions.proofs.FilingCalls.{answer_small}
 use Rattle.directions.specs.Refusals.{refuse_file}
 use Rattle.grid.specs.Writing.{towards}
-use Rattle.sweeps.specs.Sweeps.{Singles, done, then, codes_of}
+use Rattle.sweeps.specs.Sweeps.{SweepAnswer, Singles, done, then, codes_of}
 use Rattle.sweeps.specs.Promises.{direction_at}
 use Rattle.sweeps.specs.Means.Counted.{is_zero, Tells}
-use Rattle.sweeps.specs.declared.SweepAnswer.{SweepAnswer}
 use Rattle.sweeps.proofs.CountedParts.{is_zero_lem, not_zero, zero_inside, tells_swept}
 use Rattle.host_sweeps.specs.Means.CountedBytes.{direction_in, CountedBytes, first_bytes}
 use Rattle.host_sweeps.specs.Answers.{directions_in, SweptBytes}

@@ -12,7 +12,7 @@ use Rattle.octets.specs.Bytes.{bytes, number_at}
 use Rattle.octets.proofs.Laying.{number_at_lem, after_bytes, as_long}
 use Rattle.golden.proofs.IntegerOrder.{le_or_lt}
 use Rattle.sweeps.specs.Answers.{SweptInto, SweepResult}
-use Rattle.sweeps.specs.declared.SweepAnswer.{SweepAnswer}
+use Rattle.sweeps.specs.Sweeps.{SweepAnswer}
 use Rattle.sweeps.proofs.Refused as numbers
 use Rattle.sweeps.proofs.OneSweep.{swept_one, swept_some, sweep_keeps as Numbers-keep}
 use Rattle.sweeps.specs.Refusals.{refuse_sweep as numbers-refusal}

@@ -3,8 +3,7 @@
 use Rattle.std.specs.Prelude.{◌≡◌, List, [], ◌∷◌, ℕ, ◌/◌, ℤ, length}
 use Rattle.frame.specs.Answers.{Lent, over}
 use Rattle.octets.specs.Bytes.{bytes, signed_numbers}
-use Rattle.sweeps.specs.Sweeps.{Swept}
-use Rattle.sweeps.specs.declared.SweepAnswer.{SweepAnswer}
+use Rattle.sweeps.specs.Sweeps.{SweepAnswer, Swept}
 use Rattle.host_sweeps.specs.Refusals.{refuse_sweep}
 
 -- "three signed numbers each": four bytes for each number, most significant first

@@ -3,7 +3,7 @@ use Rattle.std.specs.Prelude.{◌≡◌, List, [], ◌∷◌, ℕ, ◌*◌, ◌/
 use Rattle.frame.specs.Promises.{KeepsLent}
 use Rattle.octets.specs.Bytes.{number_at}
 use Rattle.sweeps.specs.Answers.{SweepResult}
-use Rattle.sweeps.specs.declared.SweepAnswer.{SweepAnswer}
+use Rattle.sweeps.specs.Sweeps.{SweepAnswer}
 use Rattle.host_sweeps.specs.Refusals.{refuse_sweep}
 use Rattle.host_sweeps.specs.Answers.{directions_in, SweepBytes}
 

@@ -5,26 +5,29 @@
 ghost use Rattle.std.specs.Prelude.{◌≡◌, [], ◌∷◌, ◌+◌, ◌*◌, ◌/◌, ◌%◌, ◌≤◌, ◌<◌, length};
 ghost use Rattle.frame.specs.Answers.{over};
 ghost use Rattle.frame.specs.Lists.{first_place};
+ghost use Rattle.frame.specs.Refusals.{told_number};
 ghost use Rattle.octets.specs.Bytes.{bytes};
+ghost use Rattle.words.specs.Family.{code_told};
 ghost use Rattle.directions.specs.Answers.{FileAnswer};
-ghost use Rattle.directions.specs.Means.Numbers.{answer_for};
 ghost use Rattle.sweeps.specs.Means.Counted.{is_zero};
 ghost use Rattle.host_sweeps.specs.Answers.{directions_in, SweepBytes};
 ghost use Rattle.host_sweeps.specs.Means.CountedBytes.{direction_in, CountedBytes, first_bytes, ToldBytes};
 
+use filing::Direction;
+use frame::{Refusal, number_of};
 use octets::{get_signed4, put8};
-use sweeps::{code_in, refusals_in};
+use words::TriangleCode;
 
-// Files direction i, twelve bytes each: the word of its code, or the number of its refusal, in one number.
-fn file_byte_at(degree: u64, dirs: &[u8], i: usize) -> u64
+// Files direction i, twelve bytes each.
+fn file_byte_at(degree: u64, dirs: &[u8], i: usize) -> Result<TriangleCode, Refusal>
     requires { 12 * i + 11 < length dirs.now }
-    ensures { FileAnswer degree (direction_in dirs.now i) (answer_for result) }
+    ensures { FileAnswer degree (direction_in dirs.now i) (code_told result) }
 {
     let k = 12 * i;
     let x = get_signed4(&dirs[k..]);
     let y = get_signed4(&dirs[k + 4..]);
     let z = get_signed4(&dirs[k + 8..]);
-    directions::file_word(degree, x, y, z)
+    directions::file(degree, Direction { x, y, z })
 }
 
 // Files one direction after the other, and answers how many are refused. Each code goes to the part of the bytes that
@@ -35,9 +38,14 @@ fn file_each_byte(degree: u64, dirs: &[u8], codes: &mut [u8]) -> u64
 {
     let mut refused = 0;
     for i in 0..dirs.len() / 12 {
-        let w = file_byte_at(degree, dirs, i);
-        put8(code_in(w), &mut codes[8 * i..]);
-        refused += refusals_in(w);
+        let code = match file_byte_at(degree, dirs, i) {
+            Ok(code) => code.0,
+            Err(_) => {
+                refused += 1;
+                0
+            }
+        };
+        put8(code, &mut codes[8 * i..]);
     }
     refused
 }
@@ -79,30 +87,38 @@ fn tell_in(degree: u64, dirs: &[u8], codes: &[u8], refused: u64, out: &mut [u8])
         put_three(0, 0, 0, out);
     } else {
         let place = first_zero_code(codes, dirs.len() / 12);
-        let first = file_byte_at(degree, dirs, place);
-        put_three(refused, place as u64, first, out);
+        let first = file_byte_at(degree, dirs, place).and(Ok(()));
+        put_three(refused, place as u64, number_of(first), out);
     }
 }
 
-// A sweep: twelve bytes a direction, eight a code, and in twenty-four bytes how many directions are refused, the first
-// one's place and its refusal.
+// The codes, eight bytes each, and in twenty-four bytes how many directions are refused, the first one's place and its
+// refusal.
+fn sweep(degree: u64, dirs: &[u8], codes: &mut [u8], out: &mut [u8]) -> Result<(), Refusal>
+    ensures { SweepBytes degree dirs.now codes.old out.old (told_number result)
+        (codes.new, out.new) }
+{
+    if 24 < degree {
+        return Err(Refusal::Degree);
+    }
+    if dirs.len() % 12 != 0 {
+        return Err(Refusal::ShortList);
+    }
+    if codes.len() < 8 * (dirs.len() / 12) {
+        return Err(Refusal::ShortList);
+    }
+    if out.len() < 24 {
+        return Err(Refusal::ShortList);
+    }
+    let refused = file_each_byte(degree, dirs, codes);
+    tell_in(degree, dirs, codes, refused, out);
+    Ok(())
+}
+
+// A sweep, of twelve bytes a direction.
 pub fn grid_sweep(degree: u64, dirs: &[u8], codes: &mut [u8], out: &mut [u8]) -> u64
     ensures { SweepBytes degree dirs.now codes.old out.old result
         (codes.new, out.new) }
 {
-    if 24 < degree {
-        return 1;
-    }
-    if dirs.len() % 12 != 0 {
-        return 9;
-    }
-    if codes.len() < 8 * (dirs.len() / 12) {
-        return 9;
-    }
-    if out.len() < 24 {
-        return 9;
-    }
-    let refused = file_each_byte(degree, dirs, codes);
-    tell_in(degree, dirs, codes, refused, out);
-    0
+    number_of(sweep(degree, dirs, codes, out))
 }

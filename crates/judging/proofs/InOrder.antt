@@ -364,21 +364,7 @@ module _ (ks ps : List ℕ) (t : InTurn ks ps) where
           reach j q (inr l) m a y =
               absurd (omega (arith, g.reached j q l m (omega (arith, a, last_low)) y, other.1, a))
 
-  -- ---- none, and all
-
-  pub judged_none : (old : List ℕ) → JudgedTo ks ps old 0 0 0 old []
-  judged_none old = record {
-    reasons = λ j l. absurd (omega (arith, l));
-    others = λ p n. refl;
-    last_is = λ j e. absurd (omega (arith, e));
-    none = λ e. refl;
-    reached = λ j q l. absurd (omega (arith, l));
-    holder = inl refl;
-    rise = λ a b l m. absurd (omega (arith, m));
-    low = λ a l. absurd (omega (arith, l));
-    from = λ a l. absurd (omega (arith, l));
-    all = λ j l. absurd (omega (arith, l));
-  }
+  -- ---- all
 
   module _ (old why kept : List ℕ) (last end : ℕ) (g : JudgedTo ks ps old (length ps) last end why kept) where
     pub judged_all : Judged ks old why

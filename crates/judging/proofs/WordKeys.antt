@@ -1,5 +1,5 @@
 -- The key of a word, and the places of the codes in a list. Assumes nothing.
-use mathlib.Core.Path.{◌≡◌, ◌∙◌, refl, sym, ap}
+use mathlib.Core.Path.{◌≡◌, ◌∙◌, sym, ap}
 use mathlib.Core.Bool.{true, false, not, ◌&&◌}
 use mathlib.Core.Logic.{◌⊎◌, inl, inr, ⊎_elim}
 use mathlib.Core.List.{List, [], ◌∷◌, ◌++◌, map, append_assoc, append-nil}
@@ -38,14 +38,6 @@ unfolding end_of
 end_is k e = ap (λ (x : ℕ). k - k % 64 + x) e
 
 -- ---- the keys of a list
-
-pub numbered_none : (ks keys places why : List ℕ) → NumberedTo ks 0 keys places why 0
-numbered_none ks keys places why = record {
-  few = omega arith;
-  keys_are = refl;
-  places_are = refl;
-  invalid = λ p l. absurd (omega (arith, l));
-}
 
 module _ (ks : List ℕ) (i : ℕ) (keys places why : List ℕ) (codes k : ℕ) (l : i < length ks) (in-keys : i < length keys)
     (is : k ≡ get_or ks i 0) (g : NumberedTo ks i keys places why codes) where

@@ -1,206 +1,211 @@
-// Writing the answers of the calls, in a buffer from its start, and their parts at a place.
+// Writing the answers of the calls, and their parts.
 ghost use Rattle.std.specs.Prelude.{◌+◌, ◌≤◌, length};
 
-use grid::{
-    CodeAnswer, CoordinatesAnswer, Golden, NameAnswer, Point, PointAnswer, StepAnswer, TicksAnswer,
-};
-use texts::{put_code, put_digits};
+use grid::{Coordinates, CornerName, Golden, Point, Refusal, Step, Ticks, TriangleCode};
+use lines::Text;
+use texts::{Call, put_code, put_digits};
 
 // ---- what is not answered
 
-// How a call is written, by its row of CALLS.
-pub fn put_usage(call: u64, out: &mut [u8]) -> usize
-    requires { 16384 ≤ length out.old }
-    ensures { result ≤ 200 }
+// How a call is written.
+pub fn put_usage<const N: usize>(call: Call, out: &mut Text<N>)
+    requires { length out.old + 200 ≤ N }
+    ensures { length out.new ≤ length out.old + 200 }
 {
-    let at = lines::put_bytes(b"error: write it as ", out, 0);
-    texts::put_form(call, out, at)
+    out.push_bytes(b"error: write it as ");
+    texts::put_form(call, out);
 }
 
-pub fn refused(f: u64, out: &mut [u8]) -> usize
-    requires { 16384 ≤ length out.old }
-    ensures { result ≤ 130 }
+pub fn refused<const N: usize>(f: Refusal, out: &mut Text<N>)
+    requires { length out.old + 130 ≤ N }
+    ensures { length out.new ≤ length out.old + 130 }
 {
-    let number = lines::put_bytes(b"refused ", out, 0);
-    let colon = lines::put_decimal(f, out, number);
-    let space = lines::put_byte(b':', out, colon);
-    let reason = lines::put_byte(b' ', out, space);
-    texts::put_reason(f, out, reason)
+    out.push_bytes(b"refused ");
+    out.push_decimal(u64::from(f));
+    out.push_bytes(b": ");
+    texts::put_reason(u64::from(f), out);
 }
 
 // ---- names
 
 // A name: its word, the corner's number and the triangle.
-fn put_name(w: u64, out: &mut [u8]) -> usize
-    requires { 16384 ≤ length out.old }
-    ensures { result ≤ 200 }
+fn put_name<const N: usize>(w: u64, out: &mut Text<N>)
+    requires { length out.old + 200 ≤ N }
+    ensures { length out.new ≤ length out.old + 200 }
 {
-    let corner = lines::put_word(w, out, 0);
-    let number = lines::put_bytes(b" corner ", out, corner);
-    let of = lines::put_decimal(w % 4, out, number);
-    let code = lines::put_bytes(b" of ", out, of);
-    put_digits(w - w % 4, out, code)
+    out.push_word(w);
+    out.push_bytes(b" corner ");
+    out.push_decimal(w % 4);
+    out.push_bytes(b" of ");
+    put_digits(w - w % 4, out);
 }
 
 // ---- the answers
 
-pub fn check(f: u64, out: &mut [u8]) -> usize
-    requires { 16384 ≤ length out.old }
-    ensures { result ≤ 200 }
+pub fn check<const N: usize>(answer: Result<(), Refusal>, out: &mut Text<N>)
+    requires { length out.old + 200 ≤ N }
+    ensures { length out.new ≤ length out.old + 200 }
 {
-    if f != 0 {
-        return refused(f, out);
+    match answer {
+        Ok(()) => out.push_bytes(b"ok"),
+        Err(f) => refused(f, out),
     }
-    lines::put_bytes(b"ok", out, 0)
 }
 
-pub fn code(r: CodeAnswer, out: &mut [u8]) -> usize
-    requires { 16384 ≤ length out.old }
-    ensures { result ≤ 200 }
+pub fn code<const N: usize>(answer: Result<TriangleCode, Refusal>, out: &mut Text<N>)
+    requires { length out.old + 200 ≤ N }
+    ensures { length out.new ≤ length out.old + 200 }
 {
-    if r.refusal != 0 {
-        return refused(r.refusal, out);
+    match answer {
+        Ok(t) => put_code(t.0, out),
+        Err(f) => refused(f, out),
     }
-    put_code(r.code.0, out, 0)
 }
 
 // What stands after a neighbour's code: the edge's number there, and those of its corners.
-pub fn put_shared(edge: u64, first: u64, second: u64, out: &mut [u8], at: usize) -> usize
-    requires { at + 100 ≤ length out.old }
-    ensures { result ≤ at + 100 }
+pub fn put_shared<const N: usize>(edge: u64, first: u64, second: u64, out: &mut Text<N>)
+    requires { length out.old + 100 ≤ N }
+    ensures { length out.new ≤ length out.old + 100 }
 {
-    let number = lines::put_bytes(b" edge ", out, at);
-    let corners = lines::put_decimal(edge, out, number);
-    let lower = lines::put_bytes(b" corners ", out, corners);
-    let space = lines::put_decimal(first, out, lower);
-    let higher = lines::put_byte(b' ', out, space);
-    lines::put_decimal(second, out, higher)
+    out.push_bytes(b" edge ");
+    out.push_decimal(edge);
+    out.push_bytes(b" corners ");
+    out.push_decimal(first);
+    out.push(b' ');
+    out.push_decimal(second);
 }
 
-pub fn step(r: StepAnswer, out: &mut [u8]) -> usize
-    requires { 16384 ≤ length out.old }
-    ensures { result ≤ 200 }
+pub fn step<const N: usize>(answer: Result<Step, Refusal>, out: &mut Text<N>)
+    requires { length out.old + 200 ≤ N }
+    ensures { length out.new ≤ length out.old + 200 }
 {
-    if r.refusal != 0 {
-        return refused(r.refusal, out);
+    match answer {
+        Ok(s) => {
+            put_code(s.code.0, out);
+            put_shared(s.edge, s.first, s.second, out);
+        },
+        Err(f) => refused(f, out),
     }
-    let edge = put_code(r.code.0, out, 0);
-    put_shared(r.edge, r.first, r.second, out, edge)
 }
 
-pub fn name(r: NameAnswer, out: &mut [u8]) -> usize
-    requires { 16384 ≤ length out.old }
-    ensures { result ≤ 200 }
+pub fn name<const N: usize>(answer: Result<CornerName, Refusal>, out: &mut Text<N>)
+    requires { length out.old + 200 ≤ N }
+    ensures { length out.new ≤ length out.old + 200 }
 {
-    if r.refusal != 0 {
-        return refused(r.refusal, out);
+    match answer {
+        Ok(q) => put_name(q.0, out),
+        Err(f) => refused(f, out),
     }
-    put_name(r.name.0, out)
 }
 
 // ---- three axes
 
-// The name of an axis, after a space but at the start.
-fn put_axis(axis: u8, out: &mut [u8], at: usize) -> usize
-    requires { at + 3 ≤ length out.old }
-    ensures { result ≤ at + 3 }
+// The name of an axis, after a space but at the first.
+fn put_axis<const N: usize>(axis: u8, out: &mut Text<N>)
+    requires { length out.old + 3 ≤ N }
+    ensures { length out.new ≤ length out.old + 3 }
 {
-    if at == 0 {
-        let space = lines::put_byte(axis, out, at);
-        return lines::put_byte(b' ', out, space);
+    if axis != b'x' {
+        out.push(b' ');
     }
-    let name = lines::put_byte(b' ', out, at);
-    let space = lines::put_byte(axis, out, name);
-    lines::put_byte(b' ', out, space)
+    out.push(axis);
+    out.push(b' ');
 }
 
-fn put_golden(axis: u8, a: Golden, out: &mut [u8], at: usize) -> usize
-    requires { at + 50 ≤ length out.old }
-    ensures { result ≤ at + 50 }
+fn put_golden<const N: usize>(axis: u8, a: Golden, out: &mut Text<N>)
+    requires { length out.old + 50 ≤ N }
+    ensures { length out.new ≤ length out.old + 50 }
 {
-    let u = put_axis(axis, out, at);
-    let space = lines::put_signed(a.u, out, u);
-    let v = lines::put_byte(b' ', out, space);
-    lines::put_signed(a.v, out, v)
+    put_axis(axis, out);
+    out.push_signed(a.u);
+    out.push(b' ');
+    out.push_signed(a.v);
 }
 
-pub fn coordinates(r: CoordinatesAnswer, out: &mut [u8]) -> usize
-    requires { 16384 ≤ length out.old }
-    ensures { result ≤ 200 }
+pub fn coordinates<const N: usize>(answer: Result<Coordinates, Refusal>, out: &mut Text<N>)
+    requires { length out.old + 200 ≤ N }
+    ensures { length out.new ≤ length out.old + 200 }
 {
-    if r.refusal != 0 {
-        return refused(r.refusal, out);
+    match answer {
+        Ok(c) => {
+            put_golden(b'x', c.x, out);
+            put_golden(b'y', c.y, out);
+            put_golden(b'z', c.z, out);
+        },
+        Err(f) => refused(f, out),
     }
-    let y = put_golden(b'x', r.at.x, out, 0);
-    let z = put_golden(b'y', r.at.y, out, y);
-    put_golden(b'z', r.at.z, out, z)
 }
 
-fn put_ticks(axis: u8, t: i64, out: &mut [u8], at: usize) -> usize
-    requires { at + 30 ≤ length out.old }
-    ensures { result ≤ at + 30 }
+fn put_ticks<const N: usize>(axis: u8, t: i64, out: &mut Text<N>)
+    requires { length out.old + 30 ≤ N }
+    ensures { length out.new ≤ length out.old + 30 }
 {
-    let place = put_axis(axis, out, at);
-    lines::put_signed(t, out, place)
+    put_axis(axis, out);
+    out.push_signed(t);
 }
 
-pub fn ticks(r: TicksAnswer, out: &mut [u8]) -> usize
-    requires { 16384 ≤ length out.old }
-    ensures { result ≤ 200 }
+pub fn ticks<const N: usize>(answer: Result<Ticks, Refusal>, out: &mut Text<N>)
+    requires { length out.old + 200 ≤ N }
+    ensures { length out.new ≤ length out.old + 200 }
 {
-    if r.refusal != 0 {
-        return refused(r.refusal, out);
+    match answer {
+        Ok(t) => {
+            put_ticks(b'x', t.x, out);
+            put_ticks(b'y', t.y, out);
+            put_ticks(b'z', t.z, out);
+        },
+        Err(f) => refused(f, out),
     }
-    let y = put_ticks(b'x', r.at.x, out, 0);
-    let z = put_ticks(b'y', r.at.y, out, y);
-    put_ticks(b'z', r.at.z, out, z)
 }
 
 // t / (65,536·2^n).
-fn put_drawn(axis: u8, t: i64, n: u64, out: &mut [u8], at: usize) -> usize
-    requires { (n ≤ 31) × (at + 90 ≤ length out.old) }
-    ensures { result ≤ at + 90 }
+fn put_drawn<const N: usize>(axis: u8, t: i64, n: u64, out: &mut Text<N>)
+    requires { (n ≤ 31) × (length out.old + 90 ≤ N) }
+    ensures { length out.new ≤ length out.old + 90 }
 {
-    let place = put_axis(axis, out, at);
-    lines::put_exact(t, 16 + n, out, place)
+    put_axis(axis, out);
+    out.push_exact(t, 16 + n);
 }
 
 // Of a word, whose degree says by what t is divided.
-pub fn drawn(w: u64, r: TicksAnswer, out: &mut [u8]) -> usize
-    requires { 16384 ≤ length out.old }
-    ensures { result ≤ 300 }
+pub fn drawn<const N: usize>(w: u64, answer: Result<Ticks, Refusal>, out: &mut Text<N>)
+    requires { length out.old + 300 ≤ N }
+    ensures { length out.new ≤ length out.old + 300 }
 {
-    if r.refusal != 0 {
-        return refused(r.refusal, out);
+    match answer {
+        Ok(t) => {
+            let n = words::degree_of(w);
+            put_drawn(b'x', t.x, n, out);
+            put_drawn(b'y', t.y, n, out);
+            put_drawn(b'z', t.z, n, out);
+        },
+        Err(f) => refused(f, out),
     }
-    let n = words::degree_of(w);
-    let y = put_drawn(b'x', r.at.x, n, out, 0);
-    let z = put_drawn(b'y', r.at.y, n, out, y);
-    put_drawn(b'z', r.at.z, n, out, z)
 }
 
 // The bits of a float. No answer has a float without.
-fn put_bits(axis: u8, x: f64, out: &mut [u8], at: usize) -> usize
-    requires { at + 30 ≤ length out.old }
-    ensures { result ≤ at + 30 }
+fn put_bits<const N: usize>(axis: u8, x: f64, out: &mut Text<N>)
+    requires { length out.old + 30 ≤ N }
+    ensures { length out.new ≤ length out.old + 30 }
 {
-    let place = put_axis(axis, out, at);
+    put_axis(axis, out);
     if x == x {
-        return lines::put_word(f64::to_bits(x), out, place);
+        out.push_word(f64::to_bits(x));
     }
-    place
 }
 
-pub fn bits(r: PointAnswer, out: &mut [u8]) -> usize
-    requires { 16384 ≤ length out.old }
-    ensures { result ≤ 200 }
+pub fn bits<const N: usize>(answer: Result<Point, Refusal>, out: &mut Text<N>)
+    requires { length out.old + 200 ≤ N }
+    ensures { length out.new ≤ length out.old + 200 }
 {
-    if r.refusal != 0 {
-        return refused(r.refusal, out);
+    match answer {
+        Ok(p) => {
+            put_bits(b'x', p.x, out);
+            put_bits(b'y', p.y, out);
+            put_bits(b'z', p.z, out);
+        },
+        Err(f) => refused(f, out),
     }
-    let y = put_bits(b'x', r.at.x, out, 0);
-    let z = put_bits(b'y', r.at.y, out, y);
-    put_bits(b'z', r.at.z, out, z)
 }
 
 // ---- a point by its floats
@@ -209,10 +214,7 @@ pub fn bits(r: PointAnswer, out: &mut [u8]) -> usize
 // and at most 24 times by 2; it is 0 where it is less than one, and none is as large as 2^13.
 fn parts_of(b: u64) -> i64 {
     let exponent = b / 0x10_0000_0000_0000 % 2048;
-    if exponent < 983 {
-        return 0;
-    }
-    if 1035 < exponent {
+    if exponent < 983 || 1035 < exponent {
         return 0;
     }
     let whole = b % 0x10_0000_0000_0000 + 0x10_0000_0000_0000;
@@ -220,36 +222,34 @@ fn parts_of(b: u64) -> i64 {
 }
 
 // A float by its bits: the sign, and its size exactly.
-fn put_value(b: u64, out: &mut [u8], at: usize) -> usize
-    requires { at + 83 ≤ length out.old }
-    ensures { result ≤ at + 83 }
+fn put_value<const N: usize>(b: u64, out: &mut Text<N>)
+    requires { length out.old + 83 ≤ N }
+    ensures { length out.new ≤ length out.old + 83 }
 {
-    let parts = parts_of(b);
-    if b < 0x8000_0000_0000_0000 {
-        return lines::put_exact(parts, 40, out, at);
+    if 0x8000_0000_0000_0000 <= b {
+        out.push(b'-');
     }
-    let size = lines::put_byte(b'-', out, at);
-    lines::put_exact(parts, 40, out, size)
+    out.push_exact(parts_of(b), 40);
 }
 
 // No answer has a float without bits.
-fn put_float(axis: u8, x: f64, out: &mut [u8], at: usize) -> usize
-    requires { at + 90 ≤ length out.old }
-    ensures { result ≤ at + 90 }
+fn put_float<const N: usize>(axis: u8, x: f64, out: &mut Text<N>)
+    requires { length out.old + 86 ≤ N }
+    ensures { length out.new ≤ length out.old + 86 }
 {
-    let place = put_axis(axis, out, at);
+    put_axis(axis, out);
     if x == x {
-        return put_value(f64::to_bits(x), out, place);
+        put_value(f64::to_bits(x), out);
     }
-    place
 }
 
 // The exact decimals of a drawn point, after a space.
-pub fn put_point(p: Point, out: &mut [u8], at: usize) -> usize
-    requires { at + 270 ≤ length out.old }
-    ensures { result ≤ at + 270 }
+pub fn put_point<const N: usize>(p: Point, out: &mut Text<N>)
+    requires { length out.old + 270 ≤ N }
+    ensures { length out.new ≤ length out.old + 270 }
 {
-    let y = put_float(b'x', p.x, out, at);
-    let z = put_float(b'y', p.y, out, y);
-    put_float(b'z', p.z, out, z)
+    out.push(b' ');
+    put_float(b'x', p.x, out);
+    put_float(b'y', p.y, out);
+    put_float(b'z', p.z, out);
 }

@@ -1,7 +1,8 @@
 // The help: how words are written, then each call with an example and its answer.
-ghost use Rattle.std.specs.Prelude.{◌≤◌, length};
+ghost use Rattle.std.specs.Prelude.{◌+◌, ◌≤◌, length};
 
 use crate::arguments;
+use lines::{Text, Words};
 
 const HELP: [u8; 9026] = *b"The grid of the globe: one call to a line, and one line for its answer.
 
@@ -176,12 +177,11 @@ work-out                            works all counts and sums out afresh from th
 
 help                                these lines";
 
-pub fn answer(line: &[u8], at: usize, out: &mut [u8]) -> usize
-    requires { (at ≤ length line.now) × (16384 ≤ length out.old) }
-    ensures { result ≤ 16000 }
+pub fn answer<const N: usize>(words: Words<'_>, out: &mut Text<N>) -> Option<()>
+    requires { length out.old + 16000 ≤ N }
+    ensures { length out.new ≤ length out.old + 16000 }
 {
-    if !arguments::at_end(line, at) {
-        return 0;
-    }
-    lines::put_bytes(&HELP, out, 0)
+    arguments::end(&words)?;
+    out.push_bytes(&HELP);
+    Some(())
 }

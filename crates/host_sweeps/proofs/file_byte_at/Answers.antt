@@ -9,9 +9,9 @@ use lib.Seq.{take_all}
 use mir.Syntax.{w32}
 use mir.ValLaws.{to_z-of_z}
 use Rattle.octets.specs.Bytes.{number_of, signed}
+use Rattle.words.specs.Family.{code_told}
 use Rattle.filing.specs.declared.Direction.{Direction}
 use Rattle.directions.specs.Answers.{FileAnswer}
-use Rattle.directions.specs.Means.Numbers.{answer_for}
 use Rattle.grid.specs.Writing.{towards}
 use Rattle.host_sweeps.proofs.file_byte_at.Goals as goal
 
@@ -31,5 +31,5 @@ returns c =
     ∙ number bs (12 * i + 4) (3 * i + 1) (omega arith) in
     let pz = to_z-of_z w32 c.get_signed4-z.result (record { sfits = c.get_signed4-z.type_inv }) ∙ c.get_signed4-z.ensures
     ∙ number bs (12 * i + 8) (3 * i + 2) (omega arith) in
-    subst (λ (d : Direction). FileAnswer c.args.degree d (answer_for c.file_word.result))
-    (λ j. towards (px j) (py j) (pz j)) c.file_word.ensures
+    subst (λ (d : Direction). FileAnswer c.args.degree d (code_told c.file.result))
+    (λ j. towards (px j) (py j) (pz j)) c.file.ensures

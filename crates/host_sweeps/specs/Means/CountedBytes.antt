@@ -6,7 +6,7 @@ use Rattle.octets.specs.Bytes.{bytes, number_at, signed}
 use Rattle.filing.specs.declared.Direction.{Direction}
 use Rattle.grid.specs.Writing.{towards}
 use Rattle.sweeps.specs.Means.Counted.{Counted, Tells}
-use Rattle.sweeps.specs.declared.SweepAnswer.{SweepAnswer}
+use Rattle.sweeps.specs.Sweeps.{SweepAnswer}
 
 -- direction i, from 0, of those that stand in bytes: three numbers of four bytes each
 abbrev pub direction_in : List ℕ → ℕ → Direction

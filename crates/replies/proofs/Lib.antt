@@ -1,2 +1,0 @@
--- The laws that the proofs of `replies` cite.
-pub mod Floats

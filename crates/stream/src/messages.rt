@@ -1,9 +1,9 @@
 // What is said on standard error, and the status that goes with it.
 ghost use Rattle.std.specs.Prelude.{◌+◌, ◌≤◌, length};
 
-use crate::tally::Tally;
-use crate::write_first;
-use sweeps::SweepAnswer;
+use crate::tally::{Tally, Unread};
+use lines::Text;
+use sweeps::Unfiled;
 
 // Says a text, which ends the sweep with a status.
 pub fn say(err: &impl Print, text: &[u8], status: u8) -> u8
@@ -27,128 +27,127 @@ pub fn refuse_degree(err: &impl Print) -> u8
 // ---- progress, on a terminal
 
 // Clears the line of the progress.
-pub fn clear(err: &impl Print, watch: bool) {
-    if watch {
-        let _ = err.write_all(b"\r\x1b[K");
-    }
+pub fn clear(err: &impl Print) {
+    let _ = err.write_all(b"\r\x1b[K");
 }
 
 // How many directions.
-fn put_count(n: u64, out: &mut [u8], at: usize) -> usize
-    requires { at + 40 ≤ length out.old }
-    ensures { result ≤ at + 40 }
+fn put_count<const N: usize>(n: u64, out: &mut Text<N>)
+    requires { length out.old + 40 ≤ N }
+    ensures { length out.new ≤ length out.old + 40 }
 {
-    let noun = lines::put_decimal(n, out, at);
-    let end = lines::put_bytes(b" direction", out, noun);
-    if n == 1 {
-        return end;
+    out.push_decimal(n);
+    out.push_bytes(b" direction");
+    if n != 1 {
+        out.push(b's');
     }
-    lines::put_byte(b's', out, end)
 }
 
-fn put_progress(t: Tally, out: &mut [u8]) -> usize
-    requires { 4096 ≤ length out.old }
-    ensures { result ≤ 200 }
+// How many of them are refused.
+fn count_of(refused: Option<Unfiled>) -> u64 {
+    match refused {
+        Some(refused) => refused.count,
+        None => 0,
+    }
+}
+
+fn put_progress<const N: usize>(t: Tally, out: &mut Text<N>)
+    requires { length out.old + 200 ≤ N }
+    ensures { length out.new ≤ length out.old + 200 }
 {
-    let swept = t.swept;
-    let count = lines::put_bytes(b"\r\x1b[Ksweep: ", out, 0);
-    let so_far = put_count(t.count, out, count);
-    let refused = lines::put_bytes(b" so far, ", out, so_far);
-    let end = lines::put_decimal(swept.refused, out, refused);
-    lines::put_bytes(b" refused", out, end)
+    out.push_bytes(b"\r\x1b[Ksweep: ");
+    put_count(t.count, out);
+    out.push_bytes(b" so far, ");
+    out.push_decimal(count_of(t.refused));
+    out.push_bytes(b" refused");
 }
 
 // Tells how far the sweep is.
-pub fn tell_progress(err: &impl Print, watch: bool, t: Tally) {
-    if watch {
-        let mut text = [0u8; 4096];
-        let n = put_progress(t, &mut text);
-        write_first(err, &text, n);
-    }
+pub fn tell_progress(err: &impl Print, t: Tally) {
+    let mut out: Text<200> = Text::new();
+    put_progress(t, &mut out);
+    let _ = err.write_all(out.as_bytes());
 }
 
 // ---- the closing line
 
 // The place of the first one.
-fn put_first(place: u64, out: &mut [u8], at: usize) -> usize
-    requires { at + 60 ≤ length out.old }
-    ensures { result ≤ at + 60 }
+fn put_first<const N: usize>(place: u64, out: &mut Text<N>)
+    requires { length out.old + 60 ≤ N }
+    ensures { length out.new ≤ length out.old + 60 }
 {
-    let number = lines::put_bytes(b", the first at place ", out, at);
-    lines::put_decimal(place, out, number)
+    out.push_bytes(b", the first at place ");
+    out.push_decimal(place);
 }
 
-// The first refused direction, where there is one.
-fn put_first_refused(a: SweepAnswer, out: &mut [u8], at: usize) -> usize
-    requires { at + 200 ≤ length out.old }
-    ensures { result ≤ at + 200 }
+// The first refused direction.
+fn put_first_refused<const N: usize>(refused: Unfiled, out: &mut Text<N>)
+    requires { length out.old + 200 ≤ N }
+    ensures { length out.new ≤ length out.old + 200 }
 {
-    if a.refused == 0 {
-        return at;
+    let number = u64::from(refused.refusal);
+    put_first(refused.place, out);
+    out.push_bytes(b" with ");
+    out.push_decimal(number);
+    out.push_bytes(b": ");
+    texts::put_reason(number, out);
+}
+
+// How many are refused, and the first, where there is one.
+fn put_refused<const N: usize>(refused: Option<Unfiled>, out: &mut Text<N>)
+    requires { length out.old + 250 ≤ N }
+    ensures { length out.new ≤ length out.old + 250 }
+{
+    out.push_bytes(b", ");
+    out.push_decimal(count_of(refused));
+    out.push_bytes(b" refused");
+    if let Some(refused) = refused {
+        put_first_refused(refused, out);
     }
-    let with = put_first(a.place, out, at);
-    let number = lines::put_bytes(b" with ", out, with);
-    let colon = lines::put_decimal(a.first, out, number);
-    let reason = lines::put_bytes(b": ", out, colon);
-    texts::put_reason(a.first, out, reason)
 }
 
-// How many are refused, and the first.
-fn put_refused(a: SweepAnswer, out: &mut [u8], at: usize) -> usize
-    requires { at + 250 ≤ length out.old }
-    ensures { result ≤ at + 250 }
+// How many were not read, and the first.
+fn put_unread<const N: usize>(unread: Unread, out: &mut Text<N>)
+    requires { length out.old + 100 ≤ N }
+    ensures { length out.new ≤ length out.old + 100 }
 {
-    let number = lines::put_bytes(b", ", out, at);
-    let noun = lines::put_decimal(a.refused, out, number);
-    let first = lines::put_bytes(b" refused", out, noun);
-    put_first_refused(a, out, first)
+    out.push_bytes(b"; ");
+    out.push_decimal(unread.count);
+    out.push_bytes(b" not read");
+    put_first(unread.place, out);
 }
 
-// How many were not read, and the first; nothing where all were.
-fn put_unread(t: Tally, out: &mut [u8], at: usize) -> usize
-    requires { at + 100 ≤ length out.old }
-    ensures { result ≤ at + 100 }
+fn put_closing<const N: usize>(t: Tally, out: &mut Text<N>)
+    requires { length out.old + 400 ≤ N }
+    ensures { length out.new ≤ length out.old + 400 }
 {
-    if t.unread == 0 {
-        return at;
+    out.push_bytes(b"sweep: ");
+    put_count(t.count, out);
+    put_refused(t.refused, out);
+    if let Some(unread) = t.unread {
+        put_unread(unread, out);
     }
-    let number = lines::put_bytes(b"; ", out, at);
-    let noun = lines::put_decimal(t.unread, out, number);
-    let first = lines::put_bytes(b" not read", out, noun);
-    put_first(t.place, out, first)
-}
-
-fn put_closing(t: Tally, out: &mut [u8]) -> usize
-    requires { 4096 ≤ length out.old }
-    ensures { result ≤ 600 }
-{
-    let swept = t.swept;
-    let count = lines::put_bytes(b"sweep: ", out, 0);
-    let refused = put_count(t.count, out, count);
-    let unread = put_refused(swept, out, refused);
-    let end = put_unread(t, out, unread);
-    lines::put_byte(b'\n', out, end)
+    out.push(b'\n');
 }
 
 fn status_of(t: Tally) -> u8
     ensures { result ≤ 3 }
 {
-    let swept = t.swept;
-    if t.unread != 0 {
-        return 2;
+    if t.unread.is_some() {
+        2
+    } else if t.refused.is_some() {
+        1
+    } else {
+        0
     }
-    if swept.refused != 0 {
-        return 1;
-    }
-    0
 }
 
 // Says what the sweep came to.
 pub fn close(err: &impl Print, t: Tally) -> u8
     ensures { result ≤ 3 }
 {
-    let mut text = [0u8; 4096];
-    let n = put_closing(t, &mut text);
-    write_first(err, &text, n);
+    let mut out: Text<400> = Text::new();
+    put_closing(t, &mut out);
+    let _ = err.write_all(out.as_bytes());
     status_of(t)
 }

@@ -1,68 +1,46 @@
 // The lines of standard output, one for each direction.
-ghost use Rattle.std.specs.Prelude.{◌+◌, ◌*◌, ◌<◌, ◌≤◌, length};
+ghost use Rattle.std.specs.Prelude.{◌+◌, ◌*◌, ◌≤◌, length};
 
-fn put_refused(f: u64, out: &mut [u8], at: usize) -> usize
-    requires { at + 28 ≤ length out.old }
-    ensures { result ≤ at + 28 }
+use lines::Text;
+
+// The refusal of a direction that is refused: the sweep of all tells the first one's alone.
+fn put_refused<const N: usize>(degree: u64, direction: &[i32], out: &mut Text<N>)
+    requires { length out.old + 28 ≤ N }
+    ensures { length out.new ≤ length out.old + 28 }
 {
-    let number = lines::put_bytes(b"refused ", out, at);
-    lines::put_decimal(f, out, number)
+    if let Ok(Some(refused)) = sweeper::sweep(degree, direction, &mut [0]) {
+        out.push_bytes(b"refused ");
+        out.push_decimal(u64::from(refused.refusal));
+    }
 }
 
-// The refusal of direction i, which is refused: the sweep of all tells the first one's alone.
-fn refusal_of(degree: u64, dirs: &[i32], i: usize) -> u64
-    requires { 3 * i + 3 ≤ length dirs.now }
-{
-    let mut code = [0u64; 1];
-    let k = 3 * i;
-    let a = sweeper::sweep(degree, &dirs[k..k + 3], &mut code);
-    a.first
-}
-
-// The result of direction i. No code is 0: a place with 0 is that of a refused direction.
-fn put_result(degree: u64, dirs: &[i32], i: usize, code: u64, out: &mut [u8], at: usize) -> usize
-    requires { (3 * i + 3 ≤ length dirs.now) × (at + 29 ≤ length out.old) }
-    ensures { result ≤ at + 28 }
+// The line of a direction. No code is 0: a place with 0 is that of a refused direction.
+fn put_line<const N: usize>(degree: u64, direction: &[i32], code: u64, out: &mut Text<N>)
+    requires { length out.old + 29 ≤ N }
+    ensures { length out.new ≤ length out.old + 29 }
 {
     if code == 0 {
-        return put_refused(refusal_of(degree, dirs, i), out, at);
+        put_refused(degree, direction, out);
+    } else {
+        out.push_word(code);
     }
-    lines::put_word(code, out, at)
+    out.push(b'\n');
 }
 
-fn put_line(degree: u64, dirs: &[i32], i: usize, code: u64, out: &mut [u8], at: usize) -> usize
-    requires { (3 * i + 3 ≤ length dirs.now) × (at + 29 ≤ length out.old) }
-    ensures { result ≤ at + 29 }
+// The lines of the directions, of which these are the codes.
+pub fn put_all<const N: usize>(degree: u64, dirs: &[i32], codes: &[u64], out: &mut Text<N>)
+    requires { length out.old + 29 * length codes.now ≤ N }
+    ensures { length out.new ≤ length out.old + 29 * length codes.now }
 {
-    let end = put_result(degree, dirs, i, code, out, at);
-    lines::put_byte(b'\n', out, end)
-}
-
-// The lines of the first n directions, of which these are the codes.
-pub fn put_all(
-    degree: u64,
-    dirs: &[i32],
-    codes: &[u64],
-    n: usize,
-    out: &mut [u8],
-    at: usize,
-) -> usize
-    requires { (3 * n ≤ length dirs.now) × (n ≤ length codes.now) × (at + 29 * n ≤ length out.old) }
-    ensures { result ≤ at + 29 * n }
-{
-    let mut end = at;
-    let mut i = 0;
-    while i < n {
-        end = put_line(degree, dirs, i, codes[i], out, end);
-        i += 1;
+    for (code, direction) in codes.iter().zip(dirs.chunks_exact(3)) {
+        put_line(degree, direction, *code, out);
     }
-    end
 }
 
 // The line of a direction that was not read.
-pub fn put_not_read(out: &mut [u8], at: usize) -> usize
-    requires { at + 9 ≤ length out.old }
-    ensures { result ≤ at + 9 }
+pub fn put_not_read<const N: usize>(out: &mut Text<N>)
+    requires { length out.old + 9 ≤ N }
+    ensures { length out.new ≤ length out.old + 9 }
 {
-    lines::put_bytes(b"not read\n", out, at)
+    out.push_bytes(b"not read\n");
 }

@@ -1,8 +1,7 @@
-use Rattle.std.proofs.Common.{◌+◌, ◌-◌, ◌*◌, ◌≤◌}
+use Rattle.std.proofs.Common.{◌+◌, ◌*◌, ◌≤◌, length}
 use Rattle.stream.proofs.results.put_all.Given as goal
 
-abbrev pub invariant-loop-i : goal.invariant-loop-i
-invariant-loop-i l = (l.i ≤ l.n) × (l.end ≤ l.at + 29 * l.i)
-
-abbrev pub decreases-loop-i : goal.decreases-loop-i
-decreases-loop-i l = l.n - l.i
+abbrev pub invariant-loop-code : goal.invariant-loop-code
+invariant-loop-code g l =
+    (goal.iterator-loop-code g).can_next l.code-iterator × (goal.iterator-loop-code g).is_finite l.code-iterator
+    × (length l.out ≤ length l.initial.out + 29 * length l.yielded)

@@ -90,7 +90,9 @@ fn gaps_at(k: u64, g: Gaps) -> Gaps
     }
 }
 
-// The least word of the degree whose triangle holds a direction.
+// The least word of the degree whose triangle holds a direction. (It stays out of its caller, where few directions come
+// to it.)
+#[inline(never)]
 pub fn exact_word(degree: u64, d: Direction) -> u64
     requires { (degree ≤ 24) × IsLevel d × IsSome d }
     ensures { IsFiled degree d (code_of result) }

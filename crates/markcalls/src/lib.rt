@@ -29,8 +29,8 @@ pub fn put_mark<const N: usize>(m: Mark, out: &mut Text<N>)
 
 // edge-mark; None where its arguments cannot be read.
 pub fn edge_mark<const N: usize>(words: Words<'_>, out: &mut Text<N>) -> Option<()>
-    requires { length out.old + 16000 ≤ N }
-    ensures { length out.new ≤ length out.old + 16000 }
+    requires { length out.old + 15000 ≤ N }
+    ensures { length out.new ≤ length out.old + 15000 }
 {
     let (t, edge) = arguments::code_and_number(words)?;
     match marks::edge_mark(t, edge) {

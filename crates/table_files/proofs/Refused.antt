@@ -14,7 +14,7 @@ use Rattle.tables.specs.Owners.{Shared, IsShared}
 use Rattle.tables.specs.Refusals.{table_order, desk_order, large_rows, table_rows, owner_list_rows}
 use Rattle.tables.specs.Answers.{place_for, refused}
 use Rattle.tables.specs.Promises.{IsLeastBad}
-use Rattle.tables.specs.declared.TableAnswer.{TableAnswer}
+use Rattle.tables.specs.Answers.{TableAnswer}
 use Rattle.tables.proofs.Refused.{large, degree_6, list_good}
 use Rattle.tables.proofs.Deeds.{owners_good}
 use Rattle.table_files.specs.Refusals.{refuse_table}

@@ -11,31 +11,27 @@
 
 ghost use Rattle.std.specs.Prelude.{◌≡◌, ◌≤◌, length};
 ghost use Rattle.std.specs.Int.Bits.{bit_xor};
-ghost use Rattle.words.specs.Family.{code_of, ParentAnswer, ChildAnswer};
-ghost use Rattle.words.specs.Family.{CodeAnswer};
+ghost use Rattle.words.specs.Family.{CodeAnswer, code_of, ParentAnswer, ChildAnswer};
 ghost use Rattle.net.specs.Corners.{name_of};
-ghost use Rattle.corners.specs.Answers.{CrossAnswer, WeightsAnswer, NameWeightsAnswer, NamingAnswer};
-ghost use Rattle.corners.specs.Answers.{BackAnswer, RingAnswer};
-ghost use Rattle.corners.specs.Answers.{StepAnswer};
-ghost use Rattle.corners.specs.Answers.{NameAnswer};
-ghost use Rattle.corners.specs.Answers.{CountAnswer};
+ghost use Rattle.corners.specs.Answers.{StepAnswer, NameAnswer, CountAnswer, CrossAnswer, WeightsAnswer};
+ghost use Rattle.corners.specs.Answers.{NameWeightsAnswer, NamingAnswer, BackAnswer, RingAnswer};
 ghost use Rattle.directions.specs.Answers.{FileAnswer, ListAnswer};
 ghost use Rattle.opposites.specs.Answers.{OppositeAnswer, OppositeNameAnswer};
 ghost use Rattle.paper.specs.Answers.{FromDomainAnswer, FromVertexAnswer, ToDomainAnswer, ToVertexAnswer};
 ghost use Rattle.sweeps.specs.Answers.{SweepResult};
-ghost use Rattle.sweeps.specs.declared.SweepAnswer.{SweepAnswer};
+ghost use Rattle.sweeps.specs.Sweeps.{SweepAnswer};
 ghost use Rattle.tables.specs.Owners.{shared};
-ghost use Rattle.tables.specs.declared.TableAnswer.{TableAnswer};
+ghost use Rattle.tables.specs.Answers.{TableAnswer, table_told};
 ghost use Rattle.coarse.specs.Sums.{coarse, chart};
 ghost use Rattle.coarse.specs.Answers.{TakeAnswer, SetAnswer, ClearAnswer, GiveAnswer, WorkOutAnswer};
-ghost use Rattle.cells.specs.Checking.{checked};
-ghost use Rattle.cells.specs.Checking.{Verdict};
+ghost use Rattle.cells.specs.Checking.{Verdict, checked};
 ghost use Rattle.verdicts.specs.Program.{line};
-ghost use Rattle.mending.specs.Answers.{lists, MendResult};
-ghost use Rattle.mending.specs.Answers.{MendAnswer};
+ghost use Rattle.mending.specs.Answers.{MendAnswer, lists, MendResult};
 
+use frame::number_of;
 use grid::{Coordinates, CornerName, Direction, Point, Ticks, TriangleCode};
 use marks::Mark;
+use tables::TableRefusal;
 
 // ---- words
 
@@ -44,8 +40,7 @@ pub extern "C" fn bench_parent(code: u64) -> u64
     ensures { (a : CodeAnswer) × ParentAnswer (code_of code) a
         × (result ≡ bit_xor a.code.0 a.refusal) }
 {
-    let r = TriangleCode(code).parent();
-    r.code.0 ^ r.refusal
+    TriangleCode(code).parent().map_or_else(u64::from, |t| t.0)
 }
 
 #[unsafe(no_mangle)]
@@ -53,8 +48,9 @@ pub extern "C" fn bench_child(code: u64, digit: u64) -> u64
     ensures { (a : CodeAnswer) × ChildAnswer (code_of code) digit a
         × (result ≡ bit_xor a.code.0 a.refusal) }
 {
-    let r = TriangleCode(code).child(digit);
-    r.code.0 ^ r.refusal
+    TriangleCode(code)
+        .child(digit)
+        .map_or_else(u64::from, |t| t.0)
 }
 
 #[unsafe(no_mangle)]
@@ -62,8 +58,7 @@ pub extern "C" fn bench_opposite(code: u64) -> u64
     ensures { (a : CodeAnswer) × OppositeAnswer (code_of code) a
         × (result ≡ bit_xor a.code.0 a.refusal) }
 {
-    let r = opposites::opposite(TriangleCode(code));
-    r.code.0 ^ r.refusal
+    opposites::opposite(TriangleCode(code)).map_or_else(u64::from, |t| t.0)
 }
 
 // ---- corners and edges
@@ -73,8 +68,7 @@ pub extern "C" fn bench_cross(code: u64, edge: u64) -> u64
     ensures { (a : StepAnswer) × CrossAnswer (code_of code) edge a
         × (result ≡ bit_xor (bit_xor a.code.0 a.edge) a.refusal) }
 {
-    let r = grid::cross(TriangleCode(code), edge);
-    r.code.0 ^ r.edge ^ r.refusal
+    grid::cross(TriangleCode(code), edge).map_or_else(u64::from, |s| s.code.0 ^ s.edge)
 }
 
 #[unsafe(no_mangle)]
@@ -82,8 +76,7 @@ pub extern "C" fn bench_name(code: u64, corner: u64) -> u64
     ensures { (a : NameAnswer) × NamingAnswer (code_of code) corner a
         × (result ≡ bit_xor a.name.0 a.refusal) }
 {
-    let r = grid::name_of(TriangleCode(code), corner);
-    r.name.0 ^ r.refusal
+    grid::name_of(TriangleCode(code), corner).map_or_else(u64::from, |q| q.0)
 }
 
 #[unsafe(no_mangle)]
@@ -91,8 +84,7 @@ pub extern "C" fn bench_opposite_name(name: u64) -> u64
     ensures { (a : NameAnswer) × OppositeNameAnswer (name_of name) a
         × (result ≡ bit_xor a.name.0 a.refusal) }
 {
-    let r = opposites::opposite_name(CornerName(name));
-    r.name.0 ^ r.refusal
+    opposites::opposite_name(CornerName(name)).map_or_else(u64::from, |q| q.0)
 }
 
 #[unsafe(no_mangle)]
@@ -100,22 +92,21 @@ pub extern "C" fn bench_back(degree: u64, weights: &[u64]) -> u64
     ensures { (a : NameAnswer) × BackAnswer degree weights.now a
         × (result ≡ bit_xor a.name.0 a.refusal) }
 {
-    let r = grid::name_back(degree, weights);
-    r.name.0 ^ r.refusal
+    grid::name_back(degree, weights).map_or_else(u64::from, |q| q.0)
 }
 
 #[unsafe(no_mangle)]
 pub extern "C" fn bench_weights(code: u64, corner: u64, out: &mut [u64]) -> u64
     ensures { WeightsAnswer (code_of code) corner out.old result out.new }
 {
-    grid::weights_of(TriangleCode(code), corner, out)
+    number_of(grid::weights_of(TriangleCode(code), corner, out))
 }
 
 #[unsafe(no_mangle)]
 pub extern "C" fn bench_name_weights(name: u64, out: &mut [u64]) -> u64
     ensures { NameWeightsAnswer (name_of name) out.old result out.new }
 {
-    grid::weights_of_name(CornerName(name), out)
+    number_of(grid::weights_of_name(CornerName(name), out))
 }
 
 #[unsafe(no_mangle)]
@@ -123,8 +114,7 @@ pub extern "C" fn bench_ring(name: u64, out: &mut [u64]) -> u64
     ensures { (a : CountAnswer) × RingAnswer (name_of name) out.old a out.new
         × (result ≡ bit_xor a.count a.refusal) }
 {
-    let r = grid::ring(CornerName(name), out);
-    r.count ^ r.refusal
+    grid::ring(CornerName(name), out).unwrap_or_else(u64::from)
 }
 
 // ---- the paper's codes
@@ -134,8 +124,7 @@ pub extern "C" fn bench_paper(code: u64, out: &mut [u64]) -> u64
     ensures { (a : CountAnswer) × ToDomainAnswer (code_of code) out.old a out.new
         × (result ≡ bit_xor a.count a.refusal) }
 {
-    let r = paper::to_domain(TriangleCode(code), out);
-    r.count ^ r.refusal
+    paper::to_domain(TriangleCode(code), out).unwrap_or_else(u64::from)
 }
 
 #[unsafe(no_mangle)]
@@ -143,8 +132,7 @@ pub extern "C" fn bench_paper_name(name: u64, out: &mut [u64]) -> u64
     ensures { (a : CountAnswer) × ToVertexAnswer (name_of name) out.old a out.new
         × (result ≡ bit_xor a.count a.refusal) }
 {
-    let r = paper::to_vertex(CornerName(name), out);
-    r.count ^ r.refusal
+    paper::to_vertex(CornerName(name), out).unwrap_or_else(u64::from)
 }
 
 #[unsafe(no_mangle)]
@@ -152,8 +140,7 @@ pub extern "C" fn bench_from_paper(code: &[u64]) -> u64
     ensures { (a : CodeAnswer) × FromDomainAnswer code.now a
         × (result ≡ bit_xor a.code.0 a.refusal) }
 {
-    let r = paper::from_domain(code);
-    r.code.0 ^ r.refusal
+    paper::from_domain(code).map_or_else(u64::from, |t| t.0)
 }
 
 #[unsafe(no_mangle)]
@@ -161,8 +148,7 @@ pub extern "C" fn bench_from_paper_vertex(code: &[u64]) -> u64
     ensures { (a : NameAnswer) × FromVertexAnswer code.now a
         × (result ≡ bit_xor a.name.0 a.refusal) }
 {
-    let r = paper::from_vertex(code);
-    r.name.0 ^ r.refusal
+    paper::from_vertex(code).map_or_else(u64::from, |q| q.0)
 }
 
 // ---- a corner's place
@@ -181,32 +167,32 @@ fn mixed_point(at: Point) -> f64 {
 
 #[unsafe(no_mangle)]
 pub extern "C" fn bench_exact(code: u64, corner: u64) -> i64 {
-    mixed_coordinates(grid::coordinates_of(TriangleCode(code), corner).at)
+    grid::coordinates_of(TriangleCode(code), corner).map_or(0, mixed_coordinates)
 }
 
 #[unsafe(no_mangle)]
 pub extern "C" fn bench_name_exact(name: u64) -> i64 {
-    mixed_coordinates(grid::coordinates_of_name(CornerName(name)).at)
+    grid::coordinates_of_name(CornerName(name)).map_or(0, mixed_coordinates)
 }
 
 #[unsafe(no_mangle)]
 pub extern "C" fn bench_t(code: u64, corner: u64) -> i64 {
-    mixed_ticks(grid::ticks_of(TriangleCode(code), corner).at)
+    grid::ticks_of(TriangleCode(code), corner).map_or(0, mixed_ticks)
 }
 
 #[unsafe(no_mangle)]
 pub extern "C" fn bench_name_t(name: u64) -> i64 {
-    mixed_ticks(grid::ticks_of_name(CornerName(name)).at)
+    grid::ticks_of_name(CornerName(name)).map_or(0, mixed_ticks)
 }
 
 #[unsafe(no_mangle)]
 pub extern "C" fn bench_drawn(code: u64, corner: u64) -> f64 {
-    mixed_point(grid::drawn_of(TriangleCode(code), corner).at)
+    grid::drawn_of(TriangleCode(code), corner).map_or(0.0, mixed_point)
 }
 
 #[unsafe(no_mangle)]
 pub extern "C" fn bench_name_drawn(name: u64) -> f64 {
-    mixed_point(grid::drawn_of_name(CornerName(name)).at)
+    grid::drawn_of_name(CornerName(name)).map_or(0.0, mixed_point)
 }
 
 // ---- directions
@@ -216,8 +202,7 @@ pub extern "C" fn bench_file(degree: u64, x: i32, y: i32, z: i32) -> u64
     ensures { (a : CodeAnswer) × FileAnswer degree (record { x = x; y = y; z = z }) a
         × (result ≡ bit_xor a.code.0 a.refusal) }
 {
-    let r = grid::file(degree, Direction { x, y, z });
-    r.code.0 ^ r.refusal
+    grid::file(degree, Direction { x, y, z }).map_or_else(u64::from, |t| t.0)
 }
 
 #[unsafe(no_mangle)]
@@ -225,8 +210,7 @@ pub extern "C" fn bench_list(degree: u64, x: i32, y: i32, z: i32, out: &mut [u64
     ensures { (a : CountAnswer) × ListAnswer degree (record { x = x; y = y; z = z }) out.old a out.new
         × (result ≡ bit_xor a.count a.refusal) }
 {
-    let r = grid::list(degree, Direction { x, y, z }, out);
-    r.count ^ r.refusal
+    grid::list(degree, Direction { x, y, z }, out).unwrap_or_else(u64::from)
 }
 
 // ---- a sweep
@@ -236,8 +220,11 @@ pub extern "C" fn bench_sweep(degree: u64, dirs: &[i32], codes: &mut [u64]) -> u
     ensures { (a : SweepAnswer) × SweepResult degree dirs.now codes.old a codes.new
         × (result ≡ bit_xor (bit_xor (bit_xor a.refusal a.refused) a.place) a.first) }
 {
-    let r = sweeper::sweep(degree, dirs, codes);
-    r.refusal ^ r.refused ^ r.place ^ r.first
+    match sweeper::sweep(degree, dirs, codes) {
+        Ok(None) => 0,
+        Ok(Some(r)) => r.count ^ r.place ^ u64::from(r.refusal),
+        Err(f) => u64::from(f),
+    }
 }
 
 // ---- a table of soundings
@@ -245,8 +232,10 @@ pub extern "C" fn bench_sweep(degree: u64, dirs: &[i32], codes: &mut [u64]) -> u
 // A reading, or -1.
 #[unsafe(no_mangle)]
 pub extern "C" fn bench_get(degree: u64, code: u64, list: &[i32]) -> i32 {
-    let r = soundings::get(degree, TriangleCode(code), list);
-    r.sounding.unwrap_or(-1)
+    match soundings::get(degree, TriangleCode(code), list) {
+        Ok(Some(reading)) => reading,
+        _ => -1,
+    }
 }
 
 // ---- marks
@@ -261,19 +250,25 @@ fn mixed_mark(m: Mark) -> f64 {
 
 #[unsafe(no_mangle)]
 pub extern "C" fn bench_table_mark(degree: u64, code: u64, list: &[i32]) -> f64 {
-    let r = marks::table_mark(degree, TriangleCode(code), list);
-    let m = r.mark;
-    mixed_mark(m)
+    marks::table_mark(degree, TriangleCode(code), list).map_or(0.0, mixed_mark)
 }
 
 #[unsafe(no_mangle)]
 pub extern "C" fn bench_edge_mark(code: u64, edge: u64) -> f64 {
-    let r = marks::edge_mark(TriangleCode(code), edge);
-    let m = r.mark;
-    mixed_mark(m)
+    marks::edge_mark(TriangleCode(code), edge).map_or(0.0, mixed_mark)
 }
 
 // ---- what desks do with a triangle
+
+fn mixed(answer: Result<(), TableRefusal>) -> u64
+    ensures { result ≡ bit_xor (table_told answer).refusal (table_told answer).place }
+{
+    match answer {
+        Ok(()) => 0,
+        Err(TableRefusal::Call(f)) => u64::from(f),
+        Err(TableRefusal::BadNumber(place)) => 23 ^ place,
+    }
+}
 
 #[unsafe(no_mangle)]
 pub extern "C" fn bench_take(
@@ -291,8 +286,7 @@ pub extern "C" fn bench_take(
         (chart (shared list.new owners.new) (coarse counts.new sums.new))
         × (result ≡ bit_xor a.refusal a.place) }
 {
-    let r = soundings::take(desk, degree, TriangleCode(code), list, owners, counts, sums);
-    r.refusal ^ r.place
+    mixed(soundings::take(desk, degree, TriangleCode(code), list, owners, counts, sums))
 }
 
 #[unsafe(no_mangle)]
@@ -312,7 +306,7 @@ pub extern "C" fn bench_set(
         (chart (shared list.new owners.new) (coarse counts.new sums.new))
         × (result ≡ bit_xor a.refusal a.place) }
 {
-    let r = soundings::set(
+    mixed(soundings::set(
         desk,
         degree,
         TriangleCode(code),
@@ -321,8 +315,7 @@ pub extern "C" fn bench_set(
         owners,
         counts,
         sums,
-    );
-    r.refusal ^ r.place
+    ))
 }
 
 #[unsafe(no_mangle)]
@@ -341,8 +334,7 @@ pub extern "C" fn bench_clear(
         (chart (shared list.new owners.new) (coarse counts.new sums.new))
         × (result ≡ bit_xor a.refusal a.place) }
 {
-    let r = soundings::clear(desk, degree, TriangleCode(code), list, owners, counts, sums);
-    r.refusal ^ r.place
+    mixed(soundings::clear(desk, degree, TriangleCode(code), list, owners, counts, sums))
 }
 
 #[unsafe(no_mangle)]
@@ -361,8 +353,7 @@ pub extern "C" fn bench_give(
         (chart (shared list.new owners.new) (coarse counts.new sums.new))
         × (result ≡ bit_xor a.refusal a.place) }
 {
-    let r = soundings::give(desk, degree, TriangleCode(code), list, owners, counts, sums);
-    r.refusal ^ r.place
+    mixed(soundings::give(desk, degree, TriangleCode(code), list, owners, counts, sums))
 }
 
 #[unsafe(no_mangle)]
@@ -377,8 +368,7 @@ pub extern "C" fn bench_work_out(
         (coarse counts.new sums.new)
         × (result ≡ bit_xor a.refusal a.place) }
 {
-    let r = soundings::work_out(degree, list, counts, sums);
-    r.refusal ^ r.place
+    mixed(soundings::work_out(degree, list, counts, sums))
 }
 
 // ---- a cell list
@@ -388,8 +378,10 @@ pub extern "C" fn bench_check_cells(words: &[u64]) -> u64
     ensures { (a : Verdict) × (a ≡ checked words.now)
         × (result ≡ bit_xor a.reason a.place) }
 {
-    let r = cells::check(words);
-    r.reason ^ r.place
+    match cells::check(words) {
+        Ok(()) => 0,
+        Err(o) => u64::from(o.reason) ^ o.place,
+    }
 }
 
 // The length of the line of a file that comes in one part, where the buffers are large enough.
@@ -419,6 +411,5 @@ pub extern "C" fn bench_mend_cells(
         (lists mended.new changed.new reasons.new)
         × (result ≡ bit_xor (bit_xor a.refusal a.count) a.changes) }
 {
-    let r = mender::mend(words, mended, changed, reasons);
-    r.refusal ^ r.count ^ r.changes
+    mender::mend(words, mended, changed, reasons).map_or_else(u64::from, |m| m.count ^ m.changes)
 }

@@ -29,8 +29,8 @@ fn put_word(word: u64, out: &mut [u8]) -> Result<(), Refusal>
 fn opposite(code: TriangleCode, out: &mut [u8]) -> Result<(), Refusal>
     ensures { OppositeBytes code out.old (told_number result) out.new }
 {
-    let there = opposites::opposite(code)?;
-    put_word(there.0, out)
+    let triangle = opposites::opposite(code)?;
+    put_word(triangle.0, out)
 }
 
 // The opposite of a triangle.
@@ -44,8 +44,8 @@ pub fn grid_opposite(code: u64, out: &mut [u8]) -> u64
 fn opposite_name(name: CornerName, out: &mut [u8]) -> Result<(), Refusal>
     ensures { OppositeNameBytes name out.old (told_number result) out.new }
 {
-    let there = opposites::opposite_name(name)?;
-    put_word(there.0, out)
+    let corner = opposites::opposite_name(name)?;
+    put_word(corner.0, out)
 }
 
 // The opposite of a corner.

@@ -6,11 +6,11 @@ use Rattle.host_opposites.specs.Answers.{OppositeNameBytes}
 use Rattle.host_opposites.proofs.OppositeCalls.{name_handed}
 use Rattle.host_opposites.proofs.opposite_name.Goals as goal
 
-pub returns-in_err-there : goal.returns-in_err-there
-returns-in_err-there c =
+pub returns-in_err-corner : goal.returns-in_err-corner
+returns-in_err-corner c =
     let a = c.args in
     handed_number (λ (k : ℕ). OppositeNameBytes a.name a.out.now k a.out.now) _ _ c.from_residual.ensures
-    (name_handed _ _ c.in_err-there.ensures (refused_on _ (number_some _)))
+    (name_handed _ _ c.in_err-corner.ensures (refused_on _ (number_some _)))
 
 pub returns : goal.returns
-returns c = name_handed _ _ c.in_ok-there.ensures c.put_word.ensures
+returns c = name_handed _ _ c.in_ok-corner.ensures c.put_word.ensures

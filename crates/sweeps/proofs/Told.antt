@@ -13,7 +13,7 @@ use Rattle.frame.proofs.Told.{number_some}
 use Rattle.frame.proofs.Scanning.{first_there, none_before}
 use Rattle.net.specs.Steps.{non_zeros}
 use Rattle.sweeps.specs.Sweeps.{SweepAnswer, is_refusal, sweep_answer, no_sweep, first_refused, told_of, told}
-use Rattle.sweeps.specs.Promises.{joined_by, joined}
+use Rattle.sweeps.specs.Promises.{joined}
 
 -- ---- none is refused, or some are
 

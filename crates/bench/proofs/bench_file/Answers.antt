@@ -12,5 +12,8 @@ pub returns : goal.returns
 returns c =
     let a = code_told c.file.result in
     let f = c.ranges in
-    let same = read_back f.x f.y f.z in
-    (a, subst (λ (d : Direction). FileAnswer c.args.degree d a) same c.file.ensures, search (rules, xor_zero_l, xor_zero_r))
+    let same = read_back f.x f.y f.z in (
+      a,
+      subst (λ (d : Direction). FileAnswer c.args.degree d a) same c.file.ensures,
+      search (rules, xor_zero_l, xor_zero_r),
+    )

@@ -1,143 +1,71 @@
-// The calls that lend no list, each by its row of the table of calls; 0 where the arguments cannot be read.
-ghost use Rattle.std.specs.Prelude.{◌≤◌, length};
+// The calls that lend no list.
+ghost use Rattle.std.specs.Prelude.{◌+◌, ◌≤◌, length};
 
 use grid::{
-    CornerName, NameAnswer, TriangleCode, check_name, coordinates_of, coordinates_of_name, cross,
-    drawn_of, drawn_of_name, file, name_back, name_of, ticks_of, ticks_of_name,
+    check_name, coordinates_of, coordinates_of_name, cross, drawn_of, drawn_of_name, file,
+    name_back, name_of, ticks_of, ticks_of_name,
 };
+use lines::{Text, Words};
 use opposites::{opposite, opposite_name};
-use replies::{answers, arguments};
+use replies::answers;
+use replies::arguments::{self, code_and_number, degree_and_direction, one_code, one_name};
+use texts::Call;
 
-fn code_answer(call: u64, t: TriangleCode, out: &mut [u8]) -> usize
-    requires { 16384 ≤ length out.old }
-    ensures { result ≤ 16000 }
+// The calls of a code and a number.
+fn numbered_answer<const N: usize>(call: Call, words: Words<'_>, out: &mut Text<N>) -> Option<()>
+    requires { length out.old + 16000 ≤ N }
+    ensures { length out.new ≤ length out.old + 16000 }
 {
+    let (t, n) = code_and_number(words)?;
     match call {
-        // check
-        1 => answers::check(t.check(), out),
-        // parent
-        2 => answers::code(t.parent(), out),
-        // opposite
-        41 => answers::code(opposite(t), out),
-        _ => 0,
+        Call::Child => answers::code(t.child(n), out),
+        Call::Cross => answers::step(cross(t, n), out),
+        Call::Name => answers::name(name_of(t, n), out),
+        Call::Exact => answers::coordinates(coordinates_of(t, n), out),
+        Call::T => answers::ticks(ticks_of(t, n), out),
+        Call::Drawn => answers::drawn(t.0, ticks_of(t, n), out),
+        Call::Bits => answers::bits(drawn_of(t, n), out),
+        _ => return None,
     }
+    Some(())
 }
 
-pub fn of_code(call: u64, line: &[u8], at: usize, out: &mut [u8]) -> usize
-    requires { (at ≤ length line.now) × (16384 ≤ length out.old) }
-    ensures { result ≤ 16000 }
+// The way back from weights: at most 16 are read.
+fn back_answer<const N: usize>(mut words: Words<'_>, out: &mut Text<N>) -> Option<()>
+    requires { length out.old + 16000 ≤ N }
+    ensures { length out.new ≤ length out.old + 16000 }
 {
-    let c = arguments::code_at(line, at);
-    if c.read & arguments::at_end(line, c.next) {
-        return code_answer(call, TriangleCode(c.value), out);
-    }
-    0
-}
-
-fn name_answer(call: u64, w: u64, out: &mut [u8]) -> usize
-    requires { 16384 ≤ length out.old }
-    ensures { result ≤ 16000 }
-{
-    match call {
-        // check-name
-        3 => answers::check(check_name(CornerName(w)), out),
-        // name-exact
-        4 => answers::coordinates(coordinates_of_name(CornerName(w)), out),
-        // name-t
-        5 => answers::ticks(ticks_of_name(CornerName(w)), out),
-        // name-drawn
-        6 => answers::drawn(w, ticks_of_name(CornerName(w)), out),
-        // name-bits
-        7 => answers::bits(drawn_of_name(CornerName(w)), out),
-        // opposite-name
-        42 => answers::name(opposite_name(CornerName(w)), out),
-        _ => 0,
-    }
-}
-
-pub fn of_name(call: u64, line: &[u8], at: usize, out: &mut [u8]) -> usize
-    requires { (at ≤ length line.now) × (16384 ≤ length out.old) }
-    ensures { result ≤ 16000 }
-{
-    let q = arguments::name_at(line, at);
-    if q.read & arguments::at_end(line, q.next) {
-        return name_answer(call, q.value, out);
-    }
-    0
-}
-
-fn numbered_answer(call: u64, w: u64, n: u64, out: &mut [u8]) -> usize
-    requires { 16384 ≤ length out.old }
-    ensures { result ≤ 16000 }
-{
-    match call {
-        // child
-        8 => answers::code(TriangleCode(w).child(n), out),
-        // cross
-        9 => answers::step(cross(TriangleCode(w), n), out),
-        // name
-        10 => answers::name(name_of(TriangleCode(w), n), out),
-        // exact
-        11 => answers::coordinates(coordinates_of(TriangleCode(w), n), out),
-        // t
-        12 => answers::ticks(ticks_of(TriangleCode(w), n), out),
-        // drawn
-        13 => answers::drawn(w, ticks_of(TriangleCode(w), n), out),
-        // bits
-        14 => answers::bits(drawn_of(TriangleCode(w), n), out),
-        _ => 0,
-    }
-}
-
-pub fn of_code_and_number(call: u64, line: &[u8], at: usize, out: &mut [u8]) -> usize
-    requires { (at ≤ length line.now) × (16384 ≤ length out.old) }
-    ensures { result ≤ 16000 }
-{
-    let p = arguments::code_and_number(line, at);
-    if p.read & arguments::at_end(line, p.next) {
-        return numbered_answer(call, p.code, p.number, out);
-    }
-    0
-}
-
-pub fn of_direction(line: &[u8], at: usize, out: &mut [u8]) -> usize
-    requires { (at ≤ length line.now) × (16384 ≤ length out.old) }
-    ensures { result ≤ 16000 }
-{
-    let a = arguments::degree_and_direction(line, at);
-    if a.read & arguments::at_end(line, a.next) {
-        let d = a.direction;
-        return answers::code(file(a.degree, d), out);
-    }
-    0
-}
-
-// The way back from the first n places of a list.
-fn name_back_from(degree: u64, list: &[u64], n: usize) -> NameAnswer
-    requires { n ≤ length list.now }
-{
-    name_back(degree, &list[..n])
-}
-
-fn back_answer(degree: u64, list: &[u64], n: usize, out: &mut [u8]) -> usize
-    requires { 16384 ≤ length out.old }
-    ensures { result ≤ 16000 }
-{
-    if list.len() < n {
-        return 0;
-    }
-    answers::name(name_back_from(degree, list, n), out)
-}
-
-pub fn of_weights(line: &[u8], at: usize, out: &mut [u8]) -> usize
-    requires { (at ≤ length line.now) × (16384 ≤ length out.old) }
-    ensures { result ≤ 16000 }
-{
-    let d = arguments::number_at(line, at);
-    if !d.read {
-        return 0;
-    }
+    let degree = arguments::number(&mut words)?;
     let mut list = [0u64; 16];
-    let n = arguments::entries_at(line, d.next, false, &mut list);
-    back_answer(d.value, &list, n, out)
+    let weights = arguments::all(words, |w| lines::read_number(w), &mut list)?;
+    answers::name(name_back(degree, weights), out);
+    Some(())
+}
+
+// None where the arguments cannot be read.
+pub fn answer<const N: usize>(call: Call, words: Words<'_>, out: &mut Text<N>) -> Option<()>
+    requires { length out.old + 16000 ≤ N }
+    ensures { length out.new ≤ length out.old + 16000 }
+{
+    match call {
+        Call::Check => answers::check(one_code(words)?.check(), out),
+        Call::Parent => answers::code(one_code(words)?.parent(), out),
+        Call::Opposite => answers::code(opposite(one_code(words)?), out),
+        Call::CheckName => answers::check(check_name(one_name(words)?), out),
+        Call::NameExact => answers::coordinates(coordinates_of_name(one_name(words)?), out),
+        Call::NameT => answers::ticks(ticks_of_name(one_name(words)?), out),
+        Call::NameDrawn => {
+            let q = one_name(words)?;
+            answers::drawn(q.0, ticks_of_name(q), out);
+        }
+        Call::NameBits => answers::bits(drawn_of_name(one_name(words)?), out),
+        Call::OppositeName => answers::name(opposite_name(one_name(words)?), out),
+        Call::File => {
+            let (degree, d) = degree_and_direction(words)?;
+            answers::code(file(degree, d), out);
+        }
+        Call::Back => return back_answer(words, out),
+        _ => return numbered_answer(call, words, out),
+    }
+    Some(())
 }

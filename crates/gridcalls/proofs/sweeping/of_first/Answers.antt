@@ -1,8 +1,0 @@
--- `gridcalls::sweeping::of_first` is safe: the first n numbers are n. Assumes nothing.
-use mathlib.Core.Path.{sym}
-use lib.Seq.{length-take-le}
-use Rattle.gridcalls.proofs.sweeping.of_first.Goals as goal
-
-pub slice_bounds-in_first-end : goal.slice_bounds-in_first-end
-slice_bounds-in_first-end c =
-    sym (length-take-le c.args.n c.args.numbers.now c.if-numbers-n.false)

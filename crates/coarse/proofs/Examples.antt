@@ -12,7 +12,7 @@ use Rattle.net.specs.Division.{sum}
 use Rattle.words.specs.Writing.{decimals, written}
 use Rattle.tables.specs.Refusals.{refuse_call}
 use Rattle.tables.specs.Histories.{answers, after}
-use Rattle.tables.specs.declared.TableAnswer.{TableAnswer}
+use Rattle.tables.specs.Answers.{TableAnswer}
 use Rattle.tables.proofs.Examples.{wrong, refusal}
 use Rattle.coarse.specs.Sums.{Coarse, every_parent, Chart}
 use Rattle.coarse.specs.Refusals.{refuse_kept, refuse_work_out}

@@ -24,7 +24,7 @@ use Rattle.tables.specs.Answers.{table_answer}
 use Rattle.tables.specs.Histories.{Call, asks, does, Answered, done, answers, after, on_table, triangle_of}
 use Rattle.tables.specs.Histories.{refuse_deed_on_map}
 use Rattle.tables.specs.declared.Deed.{Deed}
-use Rattle.tables.specs.declared.TableAnswer.{TableAnswer}
+use Rattle.tables.specs.Answers.{TableAnswer}
 use Rattle.tables.proofs.Numbers.{number_said}
 use Rattle.tables.proofs.Holding.{begun}
 use Rattle.tables.proofs.SimpleMaps.{turned}

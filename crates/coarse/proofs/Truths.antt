@@ -29,7 +29,7 @@ use Rattle.tables.specs.Refusals.{desk_order, deed_rows, refuse_deed}
 use Rattle.tables.specs.Answers.{carried_out, refused_deed, DeedAnswer}
 use Rattle.tables.specs.Histories.{Call, asks, does, answers, after, doing, on_table, seen}
 use Rattle.tables.specs.declared.Deed.{Deed}
-use Rattle.tables.specs.declared.TableAnswer.{TableAnswer}
+use Rattle.tables.specs.Answers.{TableAnswer}
 use Rattle.tables.proofs.Deeds.{Owned, deed_passed}
 use Rattle.tables.proofs.Holding.{same_degree, begun}
 use Rattle.tables.proofs.Alike.{alike_answers, alike_after, alike_seen}

@@ -7,7 +7,7 @@ use Rattle.words.specs.declared.TriangleCode.{TriangleCode}
 use Rattle.tables.specs.Answers.{table_answer, refused}
 use Rattle.tables.specs.declared.Deed.{Deed}
 use Rattle.tables.specs.declared.Deed.TheVariants.{Taking, Setting, Clearing, Giving}
-use Rattle.tables.specs.declared.TableAnswer.{TableAnswer}
+use Rattle.tables.specs.Answers.{TableAnswer}
 use Rattle.coarse.specs.Sums.{Coarse, true_coarse, Chart, chart_after}
 use Rattle.coarse.specs.Refusals.{refuse_kept, refuse_work_out}
 

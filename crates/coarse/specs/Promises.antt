@@ -11,7 +11,7 @@ use Rattle.tables.specs.Answers.{refused, DeedAnswer}
 use Rattle.tables.specs.Histories.{Call, does, done, answers, after, on_table, without, seen}
 use Rattle.tables.specs.declared.Deed.{Deed}
 use Rattle.tables.specs.declared.Deed.TheVariants.{Taking, Setting, Clearing, Giving}
-use Rattle.tables.specs.declared.TableAnswer.{TableAnswer}
+use Rattle.tables.specs.Answers.{TableAnswer}
 use Rattle.coarse.specs.Sums.{present, count_in, sum_in, parents, Coarse, stored_for, true_coarse}
 use Rattle.coarse.specs.Sums.{Chart, chart, fresh_chart}
 use Rattle.coarse.specs.Refusals.{refuse_kept, refuse_work_out}

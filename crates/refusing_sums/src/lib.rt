@@ -4,12 +4,13 @@
 #![tactic(auto)]
 
 ghost use Rattle.std.specs.Prelude.{◌≡◌, ◌≤◌, length};
-ghost use Rattle.frame.specs.Refusals.{first_of};
+ghost use Rattle.frame.specs.Refusals.{first_of, told_number};
 ghost use Rattle.words.specs.Refusals.{IsCode};
 ghost use Rattle.tables.specs.Tables.{places};
 ghost use Rattle.coarse.specs.Sums.{parents, coarse};
 ghost use Rattle.coarse.specs.Refusals.{sum_order, length_rows, coarse_rows};
 
+use frame::Refusal;
 use words::TriangleCode;
 
 // How many triangles there are one degree up.
@@ -24,18 +25,19 @@ pub fn parents_of(degree: u64) -> u64
 }
 
 // 28: of the lengths.
-pub fn refuse_lengths(degree: u64, counts: &[u64], sums: &[u64]) -> u64
+pub fn refuse_lengths(degree: u64, counts: &[u64], sums: &[u64]) -> Result<(), Refusal>
     requires { degree ≤ 6 }
-    ensures { result ≡ first_of sum_order (length_rows degree (coarse counts.now sums.now)) }
+    ensures { told_number result
+        ≡ first_of sum_order (length_rows degree (coarse counts.now sums.now)) }
 {
     let n = parents_of(degree);
     if counts.len() as u64 != n {
-        return 28;
+        return Err(Refusal::SumsLength);
     }
     if sums.len() as u64 != n {
-        return 28;
+        return Err(Refusal::SumsLength);
     }
-    0
+    Ok(())
 }
 
 // 28 and 29: of the lengths, and of what is stored for the triangle's parent.
@@ -45,25 +47,22 @@ pub fn refuse_coarse(
     list: &[i32],
     counts: &[u64],
     sums: &[u64],
-) -> u64
+) -> Result<(), Refusal>
     requires { (degree ≤ 6) × IsCode degree t × (length list.now ≡ places degree) }
-    ensures { result ≡ first_of sum_order
+    ensures { told_number result ≡ first_of sum_order
         (coarse_rows degree t list.now (coarse counts.now sums.now)) }
 {
-    let f = refuse_lengths(degree, counts, sums);
-    if f != 0 {
-        return f;
-    }
+    refuse_lengths(degree, counts, sums)?;
     if degree == 0 {
-        return 0;
+        return Ok(());
     }
     let p = ordering::parent_place(t);
     let right = coarse::tally_from(list, 4 * p);
     if counts[p] != right.count {
-        return 29;
+        return Err(Refusal::SumsDiffer);
     }
     if sums[p] != right.sum {
-        return 29;
+        return Err(Refusal::SumsDiffer);
     }
-    0
+    Ok(())
 }

@@ -12,7 +12,7 @@ use Rattle.tables.specs.Owners.{Shared}
 use Rattle.tables.specs.Refusals.{refuse_call, refuse_deed}
 use Rattle.tables.specs.Histories.{answers, after, seen}
 use Rattle.tables.specs.DeskExamples.{Examples, Bounds, Mistakes}
-use Rattle.tables.specs.declared.TableAnswer.{TableAnswer}
+use Rattle.tables.specs.Answers.{TableAnswer}
 use Rattle.tables.proofs.Examples.{wrong, at, refusal}
 
 pub examples : Examples

@@ -18,8 +18,8 @@ use Rattle.tables.specs.Refusals.{refuse_call, refuse_deed}
 use Rattle.tables.specs.Histories.{answers, after}
 use Rattle.tables.specs.Examples.{Examples, Bounds, Mistakes}
 use Rattle.std.specs.Prelude.{None, Some}
-use Rattle.tables.specs.declared.SoundingAnswer.{SoundingAnswer}
-use Rattle.tables.specs.declared.TableAnswer.{TableAnswer}
+use Rattle.tables.specs.Answers.{SoundingAnswer}
+use Rattle.tables.specs.Answers.{TableAnswer}
 
 pub examples : Examples
 unfolding place_of some first_place first_of refuse_call refuse_deed answers after decimals written path word_in first_digits

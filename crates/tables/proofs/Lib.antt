@@ -4,6 +4,7 @@ pub mod Places
 pub mod Refused
 pub mod Deeds
 pub mod Answering
+pub mod Told
 pub mod Holding
 pub mod Alike
 pub mod SimpleMaps

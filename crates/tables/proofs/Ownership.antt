@@ -24,7 +24,7 @@ use Rattle.tables.specs.Answers.{DeedAnswer}
 use Rattle.tables.specs.Promises.{Admitted, Owning}
 use Rattle.tables.specs.declared.Deed.{Deed}
 use Rattle.tables.specs.declared.Deed.TheVariants.{Taking, Setting, Clearing, Giving}
-use Rattle.tables.specs.declared.TableAnswer.{TableAnswer}
+use Rattle.tables.specs.Answers.{TableAnswer}
 use Rattle.tables.proofs.Numbers.{number_said, desk_not_nobody}
 use Rattle.tables.proofs.Refused.{in_table, list_good}
 use Rattle.tables.proofs.Deeds.{free_taken, free_not_taken, other's, one's_own, owners_then}

@@ -19,8 +19,8 @@ use Rattle.tables.specs.Promises.{OneAnswer, IsLeastBad, Least, Visible}
 use Rattle.std.specs.Prelude.{None, Some}
 use Rattle.tables.specs.declared.Deed.{Deed}
 use Rattle.tables.specs.declared.Deed.TheVariants.{Taking, Setting, Clearing, Giving}
-use Rattle.tables.specs.declared.TableAnswer.{TableAnswer}
-use Rattle.tables.specs.declared.SoundingAnswer.{SoundingAnswer}
+use Rattle.tables.specs.Answers.{TableAnswer}
+use Rattle.tables.specs.Answers.{SoundingAnswer}
 use Rattle.frame.proofs.Scanning.{first_there, none_before, none_at}
 use Rattle.tables.proofs.Numbers.{number_said, no_reading, reading_said}
 use Rattle.tables.proofs.Refused.{call_passed, call_bad}

@@ -28,7 +28,7 @@ use Rattle.tables.specs.Histories.{on_held, triangle_of, on_map}
 use Rattle.tables.specs.Promises.{SimpleMap}
 use Rattle.std.specs.Prelude.{None}
 use Rattle.tables.specs.declared.Deed.{Deed}
-use Rattle.tables.specs.declared.TableAnswer.{TableAnswer}
+use Rattle.tables.specs.Answers.{TableAnswer}
 use Rattle.tables.proofs.Places.{same_places}
 use Rattle.tables.proofs.Refused.{triangle_good, list_good}
 use Rattle.tables.proofs.Deeds.{owners_good}

@@ -21,7 +21,7 @@ use Rattle.tables.specs.Histories.{desk_of, is_about, calls_about, without, is_g
 use Rattle.tables.specs.Promises.{Apart}
 use Rattle.tables.specs.declared.Deed.{Deed}
 use Rattle.tables.specs.declared.Deed.TheVariants.{Taking, Setting, Clearing, Giving}
-use Rattle.tables.specs.declared.TableAnswer.{TableAnswer}
+use Rattle.tables.specs.Answers.{TableAnswer}
 use Rattle.tables.proofs.Numbers.{desk_not_nobody}
 use Rattle.tables.proofs.Deeds.{deed_passed}
 use Rattle.tables.proofs.Alike.{after_append}

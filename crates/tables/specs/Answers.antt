@@ -2,18 +2,30 @@
 -- contract of get cites its own; those of the others have cited, since 2026-08, what stands in
 -- coarse/specs/Answers.antt, which leaves the readings and the owners as it is said here (AsBefore). `list` is the
 -- lent list of readings; `s` is both lists as they come, `new` as they are left. Assumes nothing.
-use Rattle.std.specs.Prelude.{cond, List, ℕ, eqb, ℤ, None}
+use Rattle.std.specs.Prelude.{cond, List, ℕ, eqb, ℤ, None, Result, Ok, Err}
 use Rattle.frame.specs.Answers.{Known}
+use Rattle.frame.specs.Refusals.{number}
 use Rattle.words.specs.declared.TriangleCode.{TriangleCode}
 use Rattle.tables.specs.Tables.{least_bad, said, number_at, Sounding}
 use Rattle.tables.specs.Owners.{Shared, shared_after}
 use Rattle.tables.specs.Refusals.{refuse_get, refuse_deed}
 use Rattle.tables.specs.declared.Deed.{Deed}
 use Rattle.tables.specs.declared.Deed.TheVariants.{Taking, Setting, Clearing, Giving}
-use Rattle.tables.specs.declared.TableAnswer.{TableAnswer}
-use Rattle.tables.specs.declared.SoundingAnswer.{SoundingAnswer}
+use Rattle.tables.specs.declared.TableRefusal.{TableRefusal}
+use Rattle.tables.specs.declared.TableRefusal.TheVariants.{Call, BadNumber}
 
 -- ---- answers, and a refusal's zeros
+
+-- The answer of a call that writes: a refusal's number, 0 where it is answered, and beside 23 the least bad place.
+pub record TableAnswer : Type 0 where
+  pub refusal : ℕ
+  pub place : ℕ
+
+-- The answer of get: the same, with what the table has.
+pub record SoundingAnswer : Type 0 where
+  pub refusal : ℕ
+  pub place : ℕ
+  pub sounding : Sounding
 
 abbrev pub table_answer : (refusal place : ℕ) → TableAnswer
 table_answer f p = record { refusal = f; place = p }
@@ -31,6 +43,29 @@ refused list f = table_answer f (place_for list f)
 -- "Every refusal returns only its number and zeros" (document 01): the zero of a sounding is that there is none
 abbrev pub refused_get : List ℤ → (refusal : ℕ) → SoundingAnswer
 refused_get list f = sounding_answer f (place_for list f) None
+
+-- ---- a call's result, told so
+
+-- the number of why a call refuses, and the place that it answers
+abbrev pub table_number : TableRefusal → ℕ
+table_number (Call f) = number f
+table_number (BadNumber p) = 23
+
+abbrev pub table_place : TableRefusal → ℕ
+table_place (Call f) = 0
+table_place (BadNumber p) = p
+
+-- as frame's `told`, with a refusal's place
+abbrev pub told_placed : {A R : Type 0} → (answer : A → R) → (zeros : (refusal place : ℕ) → R)
+    → Result A TableRefusal → R
+told_placed answer zeros (Ok a) = answer a
+told_placed answer zeros (Err e) = zeros (table_number e) (table_place e)
+
+abbrev pub table_told : Result (Unit {0}) TableRefusal → TableAnswer
+table_told r = told_placed (λ u. table_answer 0 0) table_answer r
+
+abbrev pub sounding_told : Result Sounding TableRefusal → SoundingAnswer
+sounding_told r = told_placed (sounding_answer 0 0) (λ f p. sounding_answer f p None) r
 
 -- ---- get
 

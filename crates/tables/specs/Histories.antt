@@ -11,8 +11,8 @@ use Rattle.tables.specs.Refusals.{table_order, triangle_rows, out_of_range, refu
 use Rattle.tables.specs.Refusals.{desk_order, desk_rows, owner_rows, refuse_deed}
 use Rattle.tables.specs.Answers.{table_answer, sounding_answer, refused_get, found, carried_out, refused_deed}
 use Rattle.tables.specs.declared.Deed.{Deed}
-use Rattle.tables.specs.declared.TableAnswer.{TableAnswer}
-use Rattle.tables.specs.declared.SoundingAnswer.{SoundingAnswer}
+use Rattle.tables.specs.Answers.{TableAnswer}
+use Rattle.tables.specs.Answers.{SoundingAnswer}
 
 -- A call of a desk, with any arguments: get, to which the desk is not handed in, or one that writes; and its answer.
 pub data Call : Type 0 where

@@ -15,8 +15,8 @@ use Rattle.tables.specs.Histories.{Call, asks, does, got, done, answers, after, 
 use Rattle.tables.specs.Histories.{calls_about, without, seen}
 use Rattle.tables.specs.declared.Deed.{Deed}
 use Rattle.tables.specs.declared.Deed.TheVariants.{Taking, Setting, Clearing, Giving}
-use Rattle.tables.specs.declared.TableAnswer.{TableAnswer}
-use Rattle.tables.specs.declared.SoundingAnswer.{SoundingAnswer}
+use Rattle.tables.specs.Answers.{TableAnswer}
+use Rattle.tables.specs.Answers.{SoundingAnswer}
 
 -- Demand 1, of these calls: exactly one answer for every input, a refusal by its number, with zeros (23 with its
 -- place). "None changes the list.", neither of the two. (get is lent its list to read alone.)

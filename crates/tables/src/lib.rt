@@ -4,11 +4,16 @@
 // themselves are in soundings.
 #![tactic(auto)]
 
+ghost use Rattle.std.specs.Prelude.{◌≡◌};
+ghost use Rattle.tables.specs.declared.TableRefusal.TheVariants.{Call};
+
+use frame::Refusal;
+
 // What a table has for a triangle: no reading, or one in millimetres.
 pub type Sounding = Option<i32>;
 
 // What a desk is to do with a triangle: take it, set this reading, clear, or give it back.
-#[derive(Clone, Copy)]
+#[derive(Clone, Copy, Debug, PartialEq, Eq, Hash)]
 pub enum Deed {
     Taking,
     Setting(i32),
@@ -16,17 +21,17 @@ pub enum Deed {
     Giving,
 }
 
-// The answer of a call that writes: a refusal's number, 0 where it is answered, and beside 23 the least bad place.
-#[derive(Clone, Copy)]
-pub struct TableAnswer {
-    pub refusal: u64,
-    pub place: u64,
+// Why a call on a table refuses: as any call does, or by 23, which tells the least bad place too.
+#[derive(Clone, Copy, Debug, PartialEq, Eq, Hash)]
+pub enum TableRefusal {
+    Call(Refusal),
+    BadNumber(u64),
 }
 
-// The answer of get: the same, with what the table has.
-#[derive(Clone, Copy)]
-pub struct SoundingAnswer {
-    pub refusal: u64,
-    pub place: u64,
-    pub sounding: Sounding,
+impl From<Refusal> for TableRefusal {
+    ghost from_gives = { λ f e. e ≡ Call f };
+
+    fn from(f: Refusal) -> TableRefusal {
+        TableRefusal::Call(f)
+    }
 }

@@ -1,12 +1,13 @@
--- Test by test (Refused). Assumes nothing.
+-- Range by range (Refused). Assumes nothing.
+use native.Mathlib.Omega.{arith}
 use Rattle.tables.proofs.Refused.{degree_25, degree_7, degree_6}
 use Rattle.refusing.proofs.refuse_degree.Goals as goal
 
-pub returns-then-degree-gt24 : goal.returns-then-degree-gt24
-returns-then-degree-gt24 c = degree_25 _ c.if-degree-gt24.true
+pub returns-in-0-to-6 : goal.returns-in-0-to-6
+returns-in-0-to-6 c = degree_6 _ (omega (arith, c.in-0-to-6))
 
-pub returns-then-degree-gt6 : goal.returns-then-degree-gt6
-returns-then-degree-gt6 c = degree_7 _ c.if-degree-gt24.false c.if-degree-gt6.true
+pub returns-in-7-to-24 : goal.returns-in-7-to-24
+returns-in-7-to-24 c = degree_7 _ (omega (arith, c.in-7-to-24)) (omega (arith, c.in-7-to-24))
 
-pub returns : goal.returns
-returns c = degree_6 _ c.if-degree-gt6.false
+pub returns-in_default : goal.returns-in_default
+returns-in_default c = degree_25 _ (omega (arith, c.in_default))

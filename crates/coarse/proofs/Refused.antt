@@ -9,7 +9,7 @@ use lib.Dec.{eqb}
 use lib.IntN.{ℤ}
 use lib.ListN.{length}
 use Rattle.frame.specs.Refusals.{first_of}
-use Rattle.frame.proofs.Refusing.{here, not_given, refuse_first, refuse_before, refuse_after, refuse_rest}
+use Rattle.frame.proofs.Refusing.{here, refuse_first, refuse_before, refuse_after, refuse_rest}
 use Rattle.frame.proofs.Refusing.{NoneSo, none_so, none_after, either_right, either_false}
 use Rattle.words.specs.Family.{parent_of}
 use Rattle.words.specs.declared.TriangleCode.{TriangleCode}
@@ -51,9 +51,6 @@ module _ (n : ℕ) (c : Coarse) where
   pub right_long : first_of sum_order (length_rows n c) ≡ 0
       → (length c.counts ≡ parents n) × (length c.sums ≡ parents n)
   right_long z = lengths_good.0 ((none_so sum_order (length_rows n c) tt).0 z)
-
-  pub lengths_not_23 : first_of sum_order (length_rows n c) ≡ 23 → ⊥
-  lengths_not_23 = not_given sum_order (length_rows n c) 22 tt
 
 -- ---- of the parent
 
@@ -116,9 +113,6 @@ module _ (n : ℕ) (t : TriangleCode) (list : List ℤ) (c : Coarse) where
 
   pub none_kept : Stored n t list c → 0 ≡ first_of sum_order (coarse_rows n t list c)
   none_kept s = sym ((none_so sum_order (coarse_rows n t list c) tt).1 (stored.1 s))
-
-  pub coarse_not_23 : first_of sum_order (coarse_rows n t list c) ≡ 23 → ⊥
-  coarse_not_23 = not_given sum_order (coarse_rows n t list c) 22 tt
 
 -- ---- a call's, after those of 2026-07
 

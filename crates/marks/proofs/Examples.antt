@@ -33,7 +33,7 @@ use Rattle.tables.specs.Examples.{bad, three_seven}
 use Rattle.std.specs.Prelude.{None, Some}
 use Rattle.marks.specs.declared.Mark.{Mark}
 use Rattle.marks.specs.declared.Mark.TheVariants.{Nothing, Dot, Segment}
-use Rattle.marks.specs.declared.MarkAnswer.{MarkAnswer}
+use Rattle.marks.specs.Answers.{MarkAnswer}
 use Rattle.marks.specs.Marks.{number_of, DrawnAt}
 use Rattle.marks.specs.Answers.{mark_answer, no_edge_mark, no_mark, TableMarkAnswer, EdgeMarkAnswer}
 use Rattle.marks.specs.Examples.{at, v00, v40, v41, v50, first, second, Examples, Bounds, Mistakes}

@@ -5,7 +5,7 @@ use mathlib.Core.List.{List, [], ◌∷◌}
 use Prim.Native.Nat.{ℕ}
 use native.Mathlib.Omega.{arith}
 use lib.IntN.{ℤ}
-use Rattle.frame.proofs.Answering.{answer_one, answer_some, answering, number_is, refused_as}
+use Rattle.frame.proofs.Answering.{answer_one, answer_some, answering, number_is}
 use Rattle.words.specs.Refusals.{check_code}
 use Rattle.words.specs.declared.TriangleCode.{TriangleCode}
 use Rattle.net.specs.Sides.{OneToThree}
@@ -14,18 +14,21 @@ use Rattle.corners.specs.Refusals.{refuse_numbered}
 use Rattle.corners.proofs.Refused.{numbered_passes}
 use Rattle.filing.specs.declared.Point.{Point}
 use Rattle.points.specs.Answers.{DrawAnswer}
-use Rattle.points.specs.Answers.{PointAnswer}
+use Rattle.points.specs.Answers.{PointAnswer, no_point}
 use Rattle.points.proofs.OnePlace.{draw_some, point_one}
 use Rattle.grid.proofs.Turns.{ends_three}
 use Rattle.tables.specs.Tables.{said, number_at, Sounding}
 use Rattle.tables.specs.Refusals.{refuse_get}
-use Rattle.tables.specs.Answers.{GetAnswer}
+use Rattle.tables.specs.Answers.{GetAnswer, sounding_answer}
 use Rattle.std.specs.Prelude.{None, Some}
-use Rattle.tables.specs.declared.SoundingAnswer.{SoundingAnswer}
+use Rattle.frame.specs.declared.Refusal.{Refusal}
+use Rattle.frame.specs.Refusals.{number}
+use Rattle.frame.proofs.Told.{number_some}
+use Rattle.tables.specs.Answers.{SoundingAnswer}
 use Rattle.tables.proofs.Refused.{call_passed}
 use Rattle.marks.specs.declared.Mark.{Mark}
 use Rattle.marks.specs.declared.Mark.TheVariants.{Nothing, Dot, Segment}
-use Rattle.marks.specs.declared.MarkAnswer.{MarkAnswer}
+use Rattle.marks.specs.Answers.{MarkAnswer}
 use Rattle.marks.specs.Marks.{number_of, points_of, Shows, DrawnAt, IsMark, IsEdgeMark}
 use Rattle.marks.specs.Answers.{mark_answer, Marked, no_mark, no_edge_mark, TableMarkAnswer, EdgeMarkAnswer}
 
@@ -54,6 +57,11 @@ shows_one {m} {m'} x y = told_one m m' (x.is ∙ sym y.is) (x.are ∙ sym y.are)
 pub drawn_is : (t : TriangleCode) (i : ℕ) {a : PointAnswer} → check_code t ≡ 0 → OneToThree i → DrawAnswer t i a
     → DrawnAt t i a.at
 drawn_is t i z l x = (x.answered ((numbered_passes t i).1 (z, l))).is
+
+-- and it refuses none
+pub drawn_passes : (t : TriangleCode) (i : ℕ) (e : Refusal) → check_code t ≡ 0 → OneToThree i
+    → DrawAnswer t i (no_point (number e)) → ⊥
+drawn_passes t i e z l x = number_some e (x.answered ((numbered_passes t i).1 (z, l))).number
 
 drawn_some : (t : TriangleCode) (i : ℕ) → check_code t ≡ 0 → OneToThree i → (p : Point) × DrawnAt t i p
 drawn_some t i z l = let a = draw_some t i in (a.0.at, drawn_is t i z l a.1)
@@ -125,25 +133,12 @@ table_some n t list =
     answer_some (refuse_get n t list) (Marked (IsMark t (said (number_at t list)))) (no_mark list) (λ z.
     let m = mark_some t (said (number_at t list)) (table_code n t list z) in (mark_answer 0 0 m.0, with_mark m.1))
 
--- what is made of an answer of get
-module _ (n : ℕ) (t : TriangleCode) (list : List ℤ) (g : SoundingAnswer) (a : GetAnswer n t list g) where
-  pub got_number : g.refusal ≡ refuse_get n t list
-  got_number = number_is (λ (r : SoundingAnswer). r.refusal) refl (λ r e. ap (λ (r : SoundingAnswer). r.refusal) e) a
-
-  pub table_refused : (g.refusal ≡ 0 → ⊥) → TableMarkAnswer n t list (mark_answer g.refusal g.place Nothing)
-  table_refused d =
-      let some : refuse_get n t list ≡ 0 → ⊥ = λ z. d (got_number ∙ z) in
-      refused_as (ap (λ (r : SoundingAnswer). mark_answer r.refusal r.place Nothing) (a.refused some)) some
-
-  pub got_code : g.refusal ≡ 0 → check_code t ≡ 0
-  got_code z = table_code n t list (sym got_number ∙ z)
-
-  pub table_marked : g.refusal ≡ 0 → (m : Mark) → IsMark t g.sounding m
-      → TableMarkAnswer n t list (mark_answer 0 0 m)
-  table_marked z m x =
-      let e = sym got_number ∙ z in
-      let s = ap (λ (r : SoundingAnswer). r.sounding) (a.answered e) in
-      answering e (with_mark (mark_of_said t m (sym s) x))
+-- where get answers, it has a code
+pub got_code : (n : ℕ) (t : TriangleCode) (list : List ℤ) {s : Sounding}
+    → GetAnswer n t list (sounding_answer 0 0 s) → check_code t ≡ 0
+got_code n t list a =
+    table_code n t list
+    (sym (number_is (λ (r : SoundingAnswer). r.refusal) refl (λ r e. ap (λ (r : SoundingAnswer). r.refusal) e) a))
 
 -- ---- of an edge
 
@@ -158,12 +153,22 @@ edge_mark_some t k =
     let m = edge_some t k c.0 c.1 in (mark_answer 0 0 m.0, with_mark m.1))
 
 -- what is made of the two answers for drawing
-pub edge_marked : (t : TriangleCode) (k : ℕ) {i j : ℕ} {a b : PointAnswer} → refuse_numbered t k ≡ 0
-    → i ≡ lower k → DrawAnswer t i a → j ≡ higher k → DrawAnswer t j b
-    → EdgeMarkAnswer t k (mark_answer 0 0 (Segment a.at b.at))
-edge_marked t k {a = a} {b = b} z f x g y =
-    let c = (numbered_passes t k).0 z in
-    let ends = ends_three k c.1 in
-    let p = drawn_is t (lower k) c.0 ends.0 (subst (λ (i : ℕ). DrawAnswer t i a) f x) in
-    let q = drawn_is t (higher k) c.0 ends.1 (subst (λ (j : ℕ). DrawAnswer t j b) g y) in
-    answering z (with_mark (a_segment t k p q))
+module _ (t : TriangleCode) (k : ℕ) (z : refuse_numbered t k ≡ 0) where
+  pub low_passes : {i : ℕ} (e : Refusal) → i ≡ lower k → DrawAnswer t i (no_point (number e)) → ⊥
+  low_passes e f x =
+      let c = (numbered_passes t k).0 z in
+      drawn_passes t (lower k) e c.0 (ends_three k c.1).0 (subst (λ (i : ℕ). DrawAnswer t i (no_point (number e))) f x)
+
+  pub high_passes : {i : ℕ} (e : Refusal) → i ≡ higher k → DrawAnswer t i (no_point (number e)) → ⊥
+  high_passes e f x =
+      let c = (numbered_passes t k).0 z in
+      drawn_passes t (higher k) e c.0 (ends_three k c.1).1 (subst (λ (i : ℕ). DrawAnswer t i (no_point (number e))) f x)
+
+  pub edge_marked : {i j : ℕ} {a b : PointAnswer} → i ≡ lower k → DrawAnswer t i a → j ≡ higher k
+      → DrawAnswer t j b → EdgeMarkAnswer t k (mark_answer 0 0 (Segment a.at b.at))
+  edge_marked {a = a} {b = b} f x g y =
+      let c = (numbered_passes t k).0 z in
+      let ends = ends_three k c.1 in
+      let p = drawn_is t (lower k) c.0 ends.0 (subst (λ (i : ℕ). DrawAnswer t i a) f x) in
+      let q = drawn_is t (higher k) c.0 ends.1 (subst (λ (j : ℕ). DrawAnswer t j b) g y) in
+      answering z (with_mark (a_segment t k p q))

@@ -29,9 +29,9 @@ use Rattle.tables.specs.Tables.{said, number_at, Sounding}
 use Rattle.tables.specs.Refusals.{refuse_get}
 use Rattle.tables.specs.Answers.{GetAnswer}
 use Rattle.std.specs.Prelude.{None, Some}
-use Rattle.tables.specs.declared.SoundingAnswer.{SoundingAnswer}
+use Rattle.tables.specs.Answers.{SoundingAnswer}
 use Rattle.marks.specs.declared.Mark.{Mark}
-use Rattle.marks.specs.declared.MarkAnswer.{MarkAnswer}
+use Rattle.marks.specs.Answers.{MarkAnswer}
 use Rattle.marks.specs.Marks.{number_of, Shows, DrawnAt, IsMark, IsEdgeMark}
 use Rattle.marks.specs.Answers.{TableMarkAnswer, EdgeMarkAnswer}
 use Rattle.marks.specs.Promises.{OneAnswer, OfTable, AsDrawn, OneLine}

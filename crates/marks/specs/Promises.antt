@@ -11,8 +11,8 @@ use Rattle.points.specs.Answers.{PointAnswer}
 use Rattle.filing.specs.declared.Point.{Point}
 use Rattle.tables.specs.Refusals.{refuse_get}
 use Rattle.tables.specs.Answers.{GetAnswer}
-use Rattle.tables.specs.declared.SoundingAnswer.{SoundingAnswer}
-use Rattle.marks.specs.declared.MarkAnswer.{MarkAnswer}
+use Rattle.tables.specs.Answers.{SoundingAnswer}
+use Rattle.marks.specs.Answers.{MarkAnswer}
 use Rattle.marks.specs.Marks.{number_of, Shows}
 use Rattle.marks.specs.Answers.{no_mark, no_edge_mark, TableMarkAnswer, EdgeMarkAnswer}
 

@@ -4,14 +4,12 @@
 // answer, and the crate contracts holds it to that.
 #![tactic(auto)]
 
-ghost use Rattle.std.specs.Prelude.{◌≡◌};
-ghost use Rattle.words.specs.Refusals.{check_code};
-ghost use Rattle.marks.specs.Marks.{IsMark};
-ghost use Rattle.marks.specs.Answers.{TableMarkAnswer, EdgeMarkAnswer};
+ghost use Rattle.marks.specs.Answers.{mark_told, edge_mark_told, TableMarkAnswer, EdgeMarkAnswer};
 
 use filing::Point;
+use frame::Refusal;
 use net::seams::of_three;
-use tables::Sounding;
+use tables::TableRefusal;
 use words::TriangleCode;
 
 // A mark on the chart.
@@ -22,61 +20,22 @@ pub enum Mark {
     Segment(Point, Point),
 }
 
-// A mark; or a refusal's number, beside 23 the least bad place, and the mark nothing.
-#[derive(Clone, Copy)]
-pub struct MarkAnswer {
-    pub refusal: u64,
-    pub place: u64,
-    pub mark: Mark,
-}
-
-// The mark of a triangle for which a table has this.
-fn mark_of(t: TriangleCode, s: Sounding) -> Mark
-    requires { check_code t ≡ 0 }
-    ensures { IsMark t s result }
-{
-    match s {
-        None => Mark::Nothing,
-        Some(_) => Mark::Dot(points::drawn_of(t, 1).at),
-    }
-}
-
 // The mark of a triangle of a table: nothing where it has no reading, else a dot at its corner 1.
-pub fn table_mark(degree: u64, t: TriangleCode, list: &[i32]) -> MarkAnswer
-    ensures { TableMarkAnswer degree t list.now result }
+pub fn table_mark(degree: u64, t: TriangleCode, list: &[i32]) -> Result<Mark, TableRefusal>
+    ensures { TableMarkAnswer degree t list.now (mark_told result) }
 {
-    let got = soundings::get(degree, t, list);
-    if got.refusal != 0 {
-        return MarkAnswer {
-            refusal: got.refusal,
-            place: got.place,
-            mark: Mark::Nothing,
-        };
-    }
-    MarkAnswer {
-        refusal: 0,
-        place: 0,
-        mark: mark_of(t, got.sounding),
-    }
+    Ok(match soundings::get(degree, t, list)? {
+        None => Mark::Nothing,
+        Some(_) => Mark::Dot(points::drawn_of(t, 1)?),
+    })
 }
 
 // The mark of an edge of a triangle: a segment between the edge's corners in rising number.
-pub fn edge_mark(t: TriangleCode, edge: u64) -> MarkAnswer
-    ensures { EdgeMarkAnswer t edge result }
+pub fn edge_mark(t: TriangleCode, edge: u64) -> Result<Mark, Refusal>
+    ensures { EdgeMarkAnswer t edge (edge_mark_told result) }
 {
-    let f = corners::refuse_numbered(t, edge);
-    if f != 0 {
-        return MarkAnswer {
-            refusal: f,
-            place: 0,
-            mark: Mark::Nothing,
-        };
-    }
-    let from = points::drawn_of(t, of_three(edge, 2, 1, 1)).at;
-    let to = points::drawn_of(t, of_three(edge, 3, 3, 2)).at;
-    MarkAnswer {
-        refusal: 0,
-        place: 0,
-        mark: Mark::Segment(from, to),
-    }
+    corners::refuse_numbered(t, edge)?;
+    let from = points::drawn_of(t, of_three(edge, 2, 1, 1))?;
+    let to = points::drawn_of(t, of_three(edge, 3, 3, 2))?;
+    Ok(Mark::Segment(from, to))
 }

@@ -10,36 +10,24 @@ ghost use Rattle.std.specs.Prelude.{◌≡◌, ◌<◌, length};
 ghost use Rattle.words.specs.Refusals.{check_code};
 ghost use Rattle.words.specs.Counting.{place_of};
 ghost use Rattle.tables.specs.Owners.{shared, shared_after};
-ghost use Rattle.tables.specs.Answers.{refused, GetAnswer};
+ghost use Rattle.tables.specs.Answers.{refused, table_told, sounding_told, GetAnswer};
 ghost use Rattle.coarse.specs.Sums.{coarse, chart};
 ghost use Rattle.coarse.specs.Refusals.{refuse_kept, refuse_work_out};
 ghost use Rattle.coarse.specs.Answers.{KeptAnswer, TakeAnswer, SetAnswer, ClearAnswer, GiveAnswer, WorkOutAnswer};
 
-use refusing::refuse;
 use tables::Deed;
-pub use tables::{Sounding, SoundingAnswer, TableAnswer};
+pub use tables::{Sounding, TableRefusal};
 use words::TriangleCode;
 
 // ---- get
 
 // What the table has for a triangle.
-pub fn get(degree: u64, t: TriangleCode, list: &[i32]) -> SoundingAnswer
-    ensures { GetAnswer degree t list.now result }
+pub fn get(degree: u64, t: TriangleCode, list: &[i32]) -> Result<Sounding, TableRefusal>
+    ensures { GetAnswer degree t list.now (sounding_told result) }
 {
-    let a = refusing::refuse_call(false, degree, t, list);
-    if a.refusal != 0 {
-        return SoundingAnswer {
-            refusal: a.refusal,
-            place: a.place,
-            sounding: None,
-        };
-    }
+    refusing::refuse_call(false, degree, t, list)?;
     let i = ordering::place_of(t) as usize;
-    SoundingAnswer {
-        refusal: 0,
-        place: 0,
-        sounding: meanings::said_of(list[i]),
-    }
+    Ok(meanings::said_of(list[i]))
 }
 
 // ---- take, set, clear and give
@@ -57,15 +45,13 @@ fn refuse_kept(
     owners: &[u8],
     counts: &[u64],
     sums: &[u64],
-) -> TableAnswer
-    ensures { result ≡ refused list.now (refuse_kept deed desk degree t
+) -> Result<(), TableRefusal>
+    ensures { table_told result ≡ refused list.now (refuse_kept deed desk degree t
         (chart (shared list.now owners.now) (coarse counts.now sums.now))) }
 {
-    let first = refusing::refuse_deed(deed, desk, degree, t, list, owners);
-    if first.refusal != 0 {
-        return first;
-    }
-    refuse(refusing_sums::refuse_coarse(degree, t, list, counts, sums))
+    refusing::refuse_deed(deed, desk, degree, t, list, owners)?;
+    refusing_sums::refuse_coarse(degree, t, list, counts, sums)?;
+    Ok(())
 }
 
 // What the deed leaves at its triangle's place of the readings and of the owners.
@@ -89,19 +75,16 @@ fn carry_out(
     owners: &mut [u8],
     counts: &mut [u64],
     sums: &mut [u64],
-) -> TableAnswer
+) -> Result<(), TableRefusal>
     ensures { KeptAnswer deed desk degree t (chart (shared list.old owners.old)
-        (coarse counts.old sums.old)) result
+        (coarse counts.old sums.old)) (table_told result)
         (chart (shared list.new owners.new) (coarse counts.new sums.new)) }
 {
-    let checked = refuse_kept(deed, desk, degree, t, list, owners, counts, sums);
-    if checked.refusal != 0 {
-        return checked;
-    }
+    refuse_kept(deed, desk, degree, t, list, owners, counts, sums)?;
     // A desk is 1 or 2 here.
     write(deed, desk as u8, t, list, owners);
     keeping::keep(degree, t, list, counts, sums);
-    checked
+    Ok(())
 }
 
 // A free triangle becomes the desk's, with the reading that it has.
@@ -113,9 +96,9 @@ pub fn take(
     owners: &mut [u8],
     counts: &mut [u64],
     sums: &mut [u64],
-) -> TableAnswer
+) -> Result<(), TableRefusal>
     ensures { TakeAnswer desk degree t (chart (shared list.old owners.old)
-        (coarse counts.old sums.old)) result
+        (coarse counts.old sums.old)) (table_told result)
         (chart (shared list.new owners.new) (coarse counts.new sums.new)) }
 {
     carry_out(Deed::Taking, desk, degree, t, list, owners, counts, sums)
@@ -131,9 +114,9 @@ pub fn set(
     owners: &mut [u8],
     counts: &mut [u64],
     sums: &mut [u64],
-) -> TableAnswer
+) -> Result<(), TableRefusal>
     ensures { SetAnswer desk degree t reading (chart (shared list.old owners.old)
-        (coarse counts.old sums.old)) result
+        (coarse counts.old sums.old)) (table_told result)
         (chart (shared list.new owners.new) (coarse counts.new sums.new)) }
 {
     carry_out(
@@ -157,9 +140,9 @@ pub fn clear(
     owners: &mut [u8],
     counts: &mut [u64],
     sums: &mut [u64],
-) -> TableAnswer
+) -> Result<(), TableRefusal>
     ensures { ClearAnswer desk degree t (chart (shared list.old owners.old)
-        (coarse counts.old sums.old)) result
+        (coarse counts.old sums.old)) (table_told result)
         (chart (shared list.new owners.new) (coarse counts.new sums.new)) }
 {
     carry_out(Deed::Clearing, desk, degree, t, list, owners, counts, sums)
@@ -174,9 +157,9 @@ pub fn give(
     owners: &mut [u8],
     counts: &mut [u64],
     sums: &mut [u64],
-) -> TableAnswer
+) -> Result<(), TableRefusal>
     ensures { GiveAnswer desk degree t (chart (shared list.old owners.old)
-        (coarse counts.old sums.old)) result
+        (coarse counts.old sums.old)) (table_told result)
         (chart (shared list.new owners.new) (coarse counts.new sums.new)) }
 {
     carry_out(Deed::Giving, desk, degree, t, list, owners, counts, sums)
@@ -185,30 +168,33 @@ pub fn give(
 // ---- the sums worked out afresh
 
 // Its refusals.
-fn refuse_work_out(degree: u64, list: &[i32], counts: &[u64], sums: &[u64]) -> TableAnswer
-    ensures { result ≡ refused list.now
+fn refuse_work_out(
+    degree: u64,
+    list: &[i32],
+    counts: &[u64],
+    sums: &[u64],
+) -> Result<(), TableRefusal>
+    ensures { table_told result ≡ refused list.now
         (refuse_work_out degree list.now (coarse counts.now sums.now)) }
 {
-    let f = refusing::refuse_degree(degree);
-    if f != 0 {
-        return refuse(f);
-    }
-    let of_list = refusing::refuse_list(degree, list);
-    if of_list.refusal != 0 {
-        return of_list;
-    }
-    refuse(refusing_sums::refuse_lengths(degree, counts, sums))
+    refusing::refuse_degree(degree)?;
+    refusing::refuse_list(degree, list)?;
+    refusing_sums::refuse_lengths(degree, counts, sums)?;
+    Ok(())
 }
 
 // All counts and sums, of a table opened from elsewhere.
-pub fn work_out(degree: u64, list: &[i32], counts: &mut [u64], sums: &mut [u64]) -> TableAnswer
-    ensures { WorkOutAnswer degree list.now (coarse counts.old sums.old) result
+pub fn work_out(
+    degree: u64,
+    list: &[i32],
+    counts: &mut [u64],
+    sums: &mut [u64],
+) -> Result<(), TableRefusal>
+    ensures { WorkOutAnswer degree list.now (coarse counts.old sums.old)
+        (table_told result)
         (coarse counts.new sums.new) }
 {
-    let answered = refuse_work_out(degree, list, counts, sums);
-    if answered.refusal != 0 {
-        return answered;
-    }
+    refuse_work_out(degree, list, counts, sums)?;
     keeping::store_all(list, counts, sums);
-    answered
+    Ok(())
 }

@@ -7,14 +7,14 @@ use mathlib.Core.List.{◌++◌}
 use Prim.Native.Nat.{ℕ}
 use borrow.Author.Tests.{ne_eqb}
 use Rattle.frame.specs.Refusals.{first_of}
-use Rattle.frame.proofs.Refusing.{given_so, not_given, refuse_before, refuse_rest, none_after, either_none}
+use Rattle.frame.proofs.Refusing.{given_so, refuse_before, refuse_rest, none_after, either_none}
 use Rattle.frame.proofs.Scanning.{first_there, none_before}
 use Rattle.tables.specs.Tables.{none, is_bad, any_bad, least_bad}
 use Rattle.tables.specs.Owners.{Shared, IsShared}
 use Rattle.tables.specs.Refusals.{table_order, desk_order, large_rows, table_rows, owner_list_rows}
 use Rattle.tables.specs.Answers.{place_for, refused}
 use Rattle.tables.specs.Promises.{IsLeastBad}
-use Rattle.tables.specs.declared.TableAnswer.{TableAnswer}
+use Rattle.tables.specs.Answers.{TableAnswer}
 use Rattle.tables.proofs.Refused.{large, degree_6, list_good}
 use Rattle.tables.proofs.Deeds.{owners_good}
 use Rattle.table_files.specs.Refusals.{refuse_table}
@@ -46,10 +46,6 @@ module _ (n : ℕ) (s : Shared) where
         refuse_rest table_order desk_order desk_order (table_rows n s.readings) (owner_list_rows n s.owners)
         tt tt tt y
         ∙ rest
-
-  -- the last answers no place
-  pub owners_not_23 : first_of desk_order (owner_list_rows n s.owners) ≡ 23 → ⊥
-  owners_not_23 = not_given desk_order (owner_list_rows n s.owners) 22 tt
 
 -- ---- what is not refused
 

@@ -5,7 +5,7 @@ use Rattle.tables.specs.Tables.{places, is_bad}
 use Rattle.tables.specs.Owners.{Shared, shared, is_other, IsShared}
 use Rattle.tables.specs.Answers.{refused}
 use Rattle.tables.specs.Promises.{IsLeastBad}
-use Rattle.tables.specs.declared.TableAnswer.{TableAnswer}
+use Rattle.tables.specs.Answers.{TableAnswer}
 use Rattle.table_files.specs.Files.{word_of, file_of, reading_of, owner_of, degree_in, readings_in, owners_in}
 use Rattle.table_files.specs.Refusals.{refuse_table}
 

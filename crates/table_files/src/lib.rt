@@ -7,12 +7,12 @@ ghost use Rattle.std.specs.Prelude.{◌≡◌, ℕ, map, ◌+◌, ◌*◌, ◌�
 ghost use Rattle.frame.specs.Answers.{over};
 ghost use Rattle.octets.specs.Bytes.{bytes, read_each};
 ghost use Rattle.tables.specs.Owners.{shared};
-ghost use Rattle.tables.specs.Answers.{refused};
+ghost use Rattle.tables.specs.Answers.{refused, table_told};
 ghost use Rattle.table_files.specs.Files.{word_of, file_of, reading_of, owner_of, readings_in, owners_in};
 ghost use Rattle.table_files.specs.Refusals.{refuse_table};
 
 use octets::{get8, put8};
-use tables::TableAnswer;
+use tables::TableRefusal;
 
 // The largest reading, in millimetres.
 const MOST: u64 = 100000;
@@ -126,17 +126,12 @@ pub fn read_table(bytes: &[u8], list: &mut [i32], owners: &mut [u8])
 // ---- refused
 
 // 1, 20, 22, 23 and 25: of a table that is to be written, or that was read.
-pub fn refuse_table(degree: u64, list: &[i32], owners: &[u8]) -> TableAnswer
-    ensures { result ≡ refused list.now
+pub fn refuse_table(degree: u64, list: &[i32], owners: &[u8]) -> Result<(), TableRefusal>
+    ensures { table_told result ≡ refused list.now
         (refuse_table degree (shared list.now owners.now)) }
 {
-    let f = refusing::refuse_degree(degree);
-    if f != 0 {
-        return refusing::refuse(f);
-    }
-    let of_list = refusing::refuse_list(degree, list);
-    if of_list.refusal != 0 {
-        return of_list;
-    }
-    refusing::refuse(refusing::refuse_owners(degree, owners))
+    refusing::refuse_degree(degree)?;
+    refusing::refuse_list(degree, list)?;
+    refusing::refuse_owners(degree, owners)?;
+    Ok(())
 }

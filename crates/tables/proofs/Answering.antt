@@ -14,14 +14,9 @@ module _ (list : List ℤ) where
   pub no_place : (f : ℕ) → (f ≡ 23 → ⊥) → table_answer f 0 ≡ refused list f
   no_place f d = rw (ne_eqb f 23 d) refl
 
-  module _ {f : ℕ} {r : TableAnswer} where
-    -- a refusal k that answers no place
-    pub answer_bare : {k : ℕ} → r ≡ table_answer k 0 → k ≡ f → (k ≡ 23 → ⊥) → r ≡ refused list f
-    answer_bare {k} e q d = e ∙ no_place k d ∙ ap (refused list) q
-
-    -- what an earlier check answered
-    pub answer_same : {g : ℕ} → r ≡ refused list g → g ≡ f → r ≡ refused list f
-    answer_same e q = e ∙ ap (refused list) q
+  -- what an earlier check answered
+  pub answer_same : {f g : ℕ} {r : TableAnswer} → r ≡ refused list g → g ≡ f → r ≡ refused list f
+  answer_same e q = e ∙ ap (refused list) q
 
   pub answer_bad : {f p : ℕ} → 23 ≡ f → p ≡ least_bad list → table_answer 23 p ≡ refused list f
   answer_bad q e = ap (table_answer 23) e ∙ ap (refused list) q

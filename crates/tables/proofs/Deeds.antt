@@ -8,7 +8,7 @@ use borrow.Author.Tests.{eq-eqb, ne_eqb, eqb-true, not-false}
 use lib.Dec.{eqb}
 use lib.ListN.{length}
 use Rattle.frame.specs.Refusals.{first_of}
-use Rattle.frame.proofs.Refusing.{here, next, nothing, given_so, not_given, refuse_first, refuse_before, refuse_rest}
+use Rattle.frame.proofs.Refusing.{here, next, nothing, given_so, refuse_first, refuse_before, refuse_rest}
 use Rattle.frame.proofs.Refusing.{NoneSo, none_so, none_after, either_none, either_right, either_false}
 use Rattle.words.specs.Counting.{place_of}
 use Rattle.words.specs.declared.TriangleCode.{TriangleCode}
@@ -81,10 +81,6 @@ module _ (e : Deed) (d n : ℕ) (t : TriangleCode) (owners : List ℕ) where
         refuse_rest desk_order desk_order desk_order (desk_rows d ++ owner_list_rows n owners)
         (owner_rows e d (owner_at t owners)) tt tt tt
         ((none_so desk_order (desk_rows d ++ owner_list_rows n owners) tt).1 (rw b, (owners_good n owners).1 (l, k)))
-
-  -- none of these answers a place
-  pub shared_not_23 : first_of desk_order (shared_rows e d n t owners) ≡ 23 → ⊥
-  shared_not_23 = not_given desk_order (shared_rows e d n t owners) 22 tt
 
 -- ---- a call's
 

@@ -10,7 +10,7 @@ use lib.Dec.{ltb, eqb}
 use lib.IntN.{ℤ}
 use lib.ListN.{length}
 use Rattle.frame.specs.Refusals.{◌either◌, ◌when◌, first_of, order}
-use Rattle.frame.proofs.Refusing.{◌or◌, alone, in_turn_lem, turn_append, given_so, not_given, or_first, or_next, or_zero}
+use Rattle.frame.proofs.Refusing.{◌or◌, alone, in_turn_lem, turn_append, given_so, or_first, or_next, or_zero}
 use Rattle.frame.proofs.Refusing.{here, next, nothing, refuse_first, refuse_before, refuse_after, refuse_rest}
 use Rattle.frame.proofs.Refusing.{NoneSo, none_so, none_after, either_none, either_false}
 use Rattle.words.specs.Words.{degree_of}
@@ -25,11 +25,8 @@ use Rattle.tables.specs.Refusals.{table_order, large_rows, triangle_rows, table_
 
 -- What the refusal f of a degree tells of it.
 pub record Large (n f : ℕ) : Type 0 where
-  pub deep : f ≡ 1 → 24 < n
-  pub not_deep : (f ≡ 1 → ⊥) → n ≤ 24
   pub large : (f ≡ 0 → ⊥) → 6 < n
   pub small : f ≡ 0 → n ≤ 6
-  pub not_23 : f ≡ 23 → ⊥
 
 module _ (n : ℕ) where
   large_rows_lem : first_of table_order (large_rows n) ≡ alone (1 when ltb 24 n) or alone (20 when ltb 6 n) or 0
@@ -52,32 +49,23 @@ module _ (n : ℕ) where
           let l = ltb-true 24 n u in
           let e : f ≡ 1 = q ∙ sym (degree_25 l) in
           record {
-            deep = λ _. l;
-            not_deep = λ k. absurd (k e);
             large = λ _. omega (arith, l);
             small = λ z. absurd (omega (arith, z, e));
-            not_23 = λ z. omega (arith, z, e);
           }
       go false true u v =
           let l = ltb-false 24 n u in
           let m = ltb-true 6 n v in
           let e : f ≡ 20 = q ∙ sym (degree_7 l m) in
           record {
-            deep = λ z. absurd (omega (arith, z, e));
-            not_deep = λ _. l;
             large = λ _. m;
             small = λ z. absurd (omega (arith, z, e));
-            not_23 = λ z. omega (arith, z, e);
           }
       go false false u v =
           let l = ltb-false 6 n v in
           let e : f ≡ 0 = q ∙ sym (degree_6 l) in
           record {
-            deep = λ z. absurd (omega (arith, z, e));
-            not_deep = λ _. omega (arith, l);
             large = λ k. absurd (k e);
             small = λ _. l;
-            not_23 = λ z. omega (arith, z, e);
           }
 
 -- ---- of the degree and the code
@@ -118,9 +106,6 @@ module _ (n : ℕ) (t : TriangleCode) where
 
         pub in_table : degree_of t.0 ≡ n → 0 ≡ first_of table_order (triangle_rows n t)
         in_table d = sym (last_row ∙ rw (le-ltb 6 n m, eq-eqb (degree_of t.0) n d) refl)
-
-  pub triangle_not_23 : first_of table_order (triangle_rows n t) ≡ 23 → ⊥
-  triangle_not_23 = not_given table_order (triangle_rows n t) 22 tt
 
   -- where there is none, the word is a code of the table's degree
   pub triangle_good : first_of table_order (triangle_rows n t) ≡ 0 → (n ≤ 6) × IsCode n t

@@ -7,25 +7,19 @@ use native.Mathlib.Omega.{arith}
 use lib.IntN.{ℤ}
 use Rattle.std.specs.Prelude.{Result, Ok, Err, IsErr}
 use Rattle.std.specs.Result.{IsErrAnd}
-use Rattle.frame.specs.Answers.{Known}
 use Rattle.frame.specs.Refusals.{number}
-use Rattle.frame.proofs.Answering.{refused_as}
-use Rattle.frame.proofs.Told.{number_some}
+use Rattle.frame.proofs.Told.{number_some, number_one}
 use Rattle.frame.specs.declared.Refusal.{Refusal}
 use Rattle.frame.specs.declared.Refusal.TheVariants.{Degree, Side, BeyondDegree, LowBits, Argument, NoSuchKin}
 use Rattle.frame.specs.declared.Refusal.TheVariants.{ZeroDirection, FarDirection, ShortList, NotCanonical, NoCorner}
 use Rattle.frame.specs.declared.Refusal.TheVariants.{WrongDegree, ReadingRange, TableLength, NoDesk, Owners, OtherDesk}
 use Rattle.frame.specs.declared.Refusal.TheVariants.{NotOwned, SumsLength, SumsDiffer, SmallDegree, LastBit, LongList}
 use Rattle.frame.specs.declared.Refusal.TheVariants.{PaperCode}
-use Rattle.tables.specs.Answers.{TableAnswer, table_answer, refused, GetAnswer}
-use Rattle.tables.specs.Answers.{table_number, table_told, sounding_told, sounding_answer}
-use Rattle.tables.specs.Tables.{Sounding}
-use Rattle.tables.specs.Refusals.{refuse_get}
+use Rattle.tables.specs.Answers.{TableAnswer, table_answer, refused}
+use Rattle.tables.specs.Answers.{table_number, table_place, told_placed, table_told}
 use Rattle.tables.specs.declared.TableRefusal.{TableRefusal}
 use Rattle.tables.specs.declared.TableRefusal.TheVariants.{Call, BadNumber}
 use Rattle.tables.proofs.Answering.{no_place}
-use Rattle.std.specs.Prelude.{None}
-use Rattle.words.specs.declared.TriangleCode.{TriangleCode}
 
 -- ---- numbers
 
@@ -86,22 +80,21 @@ module _ (list : List ℤ) {f : ℕ} where
       → {g : ℕ} → table_told (Err e) ≡ refused list g → g ≡ f → table_told r ≡ refused list f
   table_handed e r h q k = ap table_told (handed r h) ∙ q ∙ ap (refused list) k
 
-  -- the same with lent memory, which is left as it came
-  pub table_lent : {M : Type 0} {then : TableAnswer × M} {old : M} (e : TableRefusal)
-      (r : Result (Unit {0}) TableRefusal) → IsErr r × IsErrAnd r (λ x. x ≡ e)
-      → table_told (Err e) ≡ refused list f
-      → Known {A = TableAnswer × M} f then (λ k. (refused list k, old)) (table_told r, old)
-  table_lent {old = old} e r h q =
-      refused_as (ap (λ (a : TableAnswer). (a, old)) (ap table_told (handed r h) ∙ q)) (told_some e q)
+-- ---- two results that are told alike are one
 
-  -- a result without a refusal
-  pub told_ok : (r : Result (Unit {0}) TableRefusal) → table_told r ≡ refused list f → f ≡ 0 → table_told r ≡ table_answer 0 0
-  told_ok r q z = q ∙ ap (refused list) z
+refusal_one : (e g : TableRefusal) → table_number e ≡ table_number g → table_place e ≡ table_place g → e ≡ g
+refusal_one (Call e) (Call g) n p = ap Call (number_one e g n)
+refusal_one (Call e) (BadNumber q) n p = absurd (number_not_23 e n)
+refusal_one (BadNumber q) (Call g) n p = absurd (number_not_23 g (sym n))
+refusal_one (BadNumber q) (BadNumber q') n p = ap BadNumber p
 
-pub get_handed : (n : ℕ) (t : TriangleCode) (list : List ℤ) (e : TableRefusal) (r : Result Sounding TableRefusal)
-    → IsErr r × IsErrAnd r (λ x. x ≡ e) → table_told (Err e) ≡ refused list (refuse_get n t list)
-    → GetAnswer n t list (sounding_told r)
-get_handed n t list e r h q =
-    refused_as
-    (ap sounding_told (handed r h) ∙ ap (λ (a : TableAnswer). sounding_answer a.refusal a.place None) q)
-    (told_some list e q)
+module _ {A R : Type 0} (answer : A → R) (zeros : (refusal place : ℕ) → R) (num place : R → ℕ)
+    (zero_is : (x : A) → num (answer x) ≡ 0) (number_is : (k p : ℕ) → num (zeros k p) ≡ k)
+    (place_is : (k p : ℕ) → place (zeros k p) ≡ p) (same : (x y : A) → answer x ≡ answer y → x ≡ y) where
+  pub told_one : (r s : Result A TableRefusal) → told_placed answer zeros r ≡ told_placed answer zeros s → r ≡ s
+  told_one (Ok x) (Ok y) q = ap Ok (same x y q)
+  told_one (Ok x) (Err g) q = absurd (table_some g (sym (number_is _ _) ∙ sym (ap num q) ∙ zero_is x))
+  told_one (Err e) (Ok y) q = absurd (table_some e (sym (number_is _ _) ∙ ap num q ∙ zero_is y))
+  told_one (Err e) (Err g) q =
+      ap Err (refusal_one e g (sym (number_is _ _) ∙ ap num q ∙ number_is _ _)
+      (sym (place_is _ _) ∙ ap place q ∙ place_is _ _))

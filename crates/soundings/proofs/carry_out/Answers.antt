@@ -1,23 +1,18 @@
--- Checked, then one place of each list written (coarse's Refused, tables' Answering). Assumes nothing.
-use mathlib.Core.Path.{sym, ◌∙◌, ap}
+-- Checked, then one place of each list written (coarse's Refused, tables' Told). Assumes nothing.
+use mathlib.Core.Path.{◌∙◌, ap}
 use native.Mathlib.Omega.{arith}
 use Prim.Native.Nat.{◌≤◌}
 use lib.ListN.{length}
 use Rattle.tables.specs.Owners.{Shared, shared}
 use Rattle.tables.proofs.Numbers.{desk_most}
 use Rattle.tables.proofs.Holding.{after_long}
-use Rattle.tables.proofs.Answering.{checked}
+use Rattle.tables.proofs.Told.{told_none}
 use Rattle.coarse.specs.Sums.{coarse, chart}
 use Rattle.coarse.proofs.Refused.{Kept, kept_known}
 use Rattle.soundings.proofs.carry_out.Goals as goal
-use Rattle.soundings.proofs.carry_out.Lts as lts
-use Rattle.soundings.proofs.carry_out.Reads as reads
-use Rattle.soundings.proofs.carry_out.Tie as tie
+use Rattle.soundings.proofs.carry_out.Goals.{In_ok-refuse_kept}
 
-abbrev Else-checked-ne0 : Type 0
-Else-checked-ne0 = lts.Else1 tie.the-claims reads.Pre reads.Post
-
-known : (c : Else-checked-ne0)
+known : (c : In_ok-refuse_kept)
     → (let a = c.args in
     Kept a.deed a.desk a.degree a.t
     (chart (shared a.list.now a.owners.now) (coarse a.counts.now a.sums.now)))
@@ -26,21 +21,22 @@ known c =
     let list = a.list.now in
     kept_known a.deed a.desk a.degree a.t
     (chart (shared list a.owners.now) (coarse a.counts.now a.sums.now))
-    (sym (checked list _ _ c.refuse_kept-checked.ensures) ∙ c.if-checked-ne0.false)
+    (told_none list c.in_ok-refuse_kept.ensures)
 
 pub overflow_cast-desk : goal.overflow_cast-desk
 overflow_cast-desk c =
     let d = c.args.desk in
-    let l : d ≤ 2 = desk_most d (known c).owned.desk in
+    let l : d ≤ 2 = desk_most d (known (goal.at.overflow_cast-desk c).In_ok-refuse_kept).owned.desk in
     omega (arith, l)
 
 pub write-requires : goal.write-requires
 write-requires c =
-    let o = (known c.before.before).owned in (o.passed.code.passes, o.passed.in_list, o.in_owners)
+    let o = (known (goal.at.write-requires c).In_ok-refuse_kept).owned in
+    (o.passed.code.passes, o.passed.in_list, o.in_owners)
 
 pub keep-requires : goal.keep-requires
 keep-requires c =
-    let g = known c.before.before.before.before.before.before.before.before.before in
+    let g = known (goal.at.keep-requires c).In_ok-refuse_kept in
     let a = c.args in
     let long =
     ap (λ (s : Shared). length s.readings) c.write.ensures

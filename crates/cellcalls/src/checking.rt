@@ -19,8 +19,8 @@ fn put_answer<const N: usize>(verdict: Result<(), Offence>, out: &mut Text<N>)
 
 // None where the arguments cannot be read. A line has no room for more than 500 codes.
 pub fn answer<const N: usize>(words: Words<'_>, out: &mut Text<N>) -> Option<()>
-    requires { length out.old + 16000 ≤ N }
-    ensures { length out.new ≤ length out.old + 16000 }
+    requires { length out.old + 15000 ≤ N }
+    ensures { length out.new ≤ length out.old + 15000 }
 {
     let mut list = [0u64; 500];
     let codes = arguments::all(words, |w| lines::read_code_or_word(w), &mut list)?;

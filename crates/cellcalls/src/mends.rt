@@ -32,8 +32,8 @@ fn in_lists<const N: usize>(
     out: &mut Text<N>,
 )
     requires { (length mended.old ≤ 64) × (length words.old ≤ 64) × (length reasons.old ≤ 64)
-        × (length out.old + 16000 ≤ N) }
-    ensures { length out.new ≤ length out.old + 16000 }
+        × (length out.old + 15000 ≤ N) }
+    ensures { length out.new ≤ length out.old + 15000 }
 {
     places::number(mended);
     places::number(words);
@@ -46,8 +46,8 @@ fn in_lists<const N: usize>(
 
 // None where the arguments cannot be read. A line has no room for more than 500 codes.
 pub fn answer<const N: usize>(mut line: Words<'_>, out: &mut Text<N>) -> Option<()>
-    requires { length out.old + 16000 ≤ N }
-    ensures { length out.new ≤ length out.old + 16000 }
+    requires { length out.old + 15000 ≤ N }
+    ensures { length out.new ≤ length out.old + 15000 }
 {
     let for_mended = arguments::room(&mut line, 64)?;
     let for_words = arguments::room(&mut line, 64)?;

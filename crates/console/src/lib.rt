@@ -1,124 +1,131 @@
 // The console: one line of text to its answer. The first word names a call, the others are its arguments (texts). It
-// holds a table of soundings, which the caller keeps for it: `Held`, and four lists, of readings and of owners with
-// 81,921 places each, and of counts and of sums with 20,481.
+// holds a table of soundings, which the caller keeps for it.
 #![tactic(auto)]
 
-ghost use Rattle.std.specs.Prelude.{◌≤◌, length};
+ghost use Rattle.std.specs.Prelude.{◌+◌, ◌≤◌, length};
 
 use cellcalls::{checking, mends};
 use gridcalls::{calls, lists, sweeping};
+use lines::{Text, Words};
 use replies::{answers, help};
-pub use tablecalls::held::{Held, Part, Reply, Shown};
-use tablecalls::{desks, held};
+use tablecalls::desks;
+pub use tablecalls::held::{Rest, Shown, Table, Task};
+use texts::Call;
 
 // The answer of many places goes on.
 pub use tablecalls::showing::go_on;
 
-// Before the first line no table is open.
-pub fn none_held() -> Held {
-    Held {
-        open: false,
-        degree: 0,
-        readings: 0,
-        owners: 0,
-        counts: 0,
-        sums: 0,
-        shown: Shown::Readings,
-    }
-}
-
 // A line that is too long is skipped whole.
-pub fn too_long(held: Held, out: &mut [u8]) -> Reply
-    requires { 16384 ≤ length out.old }
-    ensures { result.size ≤ 16000 }
+pub fn too_long<const N: usize>(out: &mut Text<N>)
+    requires { length out.old + 100 ≤ N }
+    ensures { length out.new ≤ length out.old + 100 }
 {
-    held::whole(
-        lines::put_bytes(b"error: a line has at most 1000 bytes", out, 0),
-        held,
-    )
+    out.push_bytes(b"error: a line has at most 1000 bytes");
 }
 
-// No answer.
-pub fn nothing(held: Held) -> Reply
-    ensures { result.size ≤ 16000 }
+fn unknown<const N: usize>(out: &mut Text<N>)
+    requires { length out.old + 100 ≤ N }
+    ensures { length out.new ≤ length out.old + 100 }
 {
-    held::whole(0, held)
+    out.push_bytes(b"error: no such call; help shows them");
 }
 
-fn unknown(out: &mut [u8]) -> usize
-    requires { 16384 ≤ length out.old }
-    ensures { result ≤ 16000 }
-{
-    lines::put_bytes(b"error: no such call; help shows them", out, 0)
-}
-
-// The answer of a call, by its row of CALLS, whose arguments stand from a place of a line on; 0 where they cannot
-// be read.
-fn call_answer(call: u64, line: &[u8], at: usize, out: &mut [u8]) -> usize
-    requires { (at ≤ length line.now) × (16384 ≤ length out.old) }
-    ensures { result ≤ 16000 }
+// The answer of a call that needs no table; None where its arguments cannot be read.
+fn plain_answer<const N: usize>(call: Call, words: Words<'_>, out: &mut Text<N>) -> Option<()>
+    requires { length out.old + 15000 ≤ N }
+    ensures { length out.new ≤ length out.old + 15000 }
 {
     match call {
-        // help
-        0 => help::answer(line, at, out),
-        1..=2 | 41 => calls::of_code(call, line, at, out),
-        3..=7 | 42 => calls::of_name(call, line, at, out),
-        8..=14 => calls::of_code_and_number(call, line, at, out),
-        15..=18 => lists::answer(call, line, at, out),
-        // file
-        19 => calls::of_direction(line, at, out),
-        // back
-        20 => calls::of_weights(line, at, out),
-        // sweep
-        21 => sweeping::answer(line, at, out),
-        // check-cells
-        34 => checking::answer(line, at, out),
-        // mend-cells
-        35 => mends::answer(line, at, out),
-        36..=40 => smallcalls::answer(call, line, at, out),
-        43..=46 => papercalls::answer(call, line, at, out),
-        _ => unknown(out),
+        Call::Help => help::answer(words, out),
+        Call::Check
+        | Call::Parent
+        | Call::Opposite
+        | Call::CheckName
+        | Call::NameExact
+        | Call::NameT
+        | Call::NameDrawn
+        | Call::NameBits
+        | Call::OppositeName
+        | Call::Child
+        | Call::Cross
+        | Call::Name
+        | Call::Exact
+        | Call::T
+        | Call::Drawn
+        | Call::Bits
+        | Call::File
+        | Call::Back => calls::answer(call, words, out),
+        Call::Weights | Call::NameWeights | Call::Ring | Call::List => {
+            lists::answer(call, words, out)
+        }
+        Call::Sweep => sweeping::answer(words, out),
+        Call::CheckCells => checking::answer(words, out),
+        Call::MendCells => mends::answer(words, out),
+        Call::Small | Call::Large | Call::CheckSmall | Call::CrossSmall | Call::FileSmall => {
+            smallcalls::answer(call, words, out)
+        }
+        Call::Paper | Call::PaperName | Call::FromPaper | Call::FromPaperVertex => {
+            papercalls::answer(call, words, out)
+        }
+        _ => {
+            unknown(out);
+            Some(())
+        }
     }
 }
 
-// The answer of a call that needs no table.
-fn plain_answer(call: u64, line: &[u8], at: usize, out: &mut [u8]) -> usize
-    requires { (at ≤ length line.now) × (16384 ≤ length out.old) }
-    ensures { result ≤ 16000 }
+// The answer of a call, and what is left to do then.
+fn call_answer<'a, const N: usize>(
+    call: Call,
+    words: Words<'a>,
+    table: &mut Table,
+    out: &mut Text<N>,
+) -> Option<Task<'a>>
+    requires { length out.old + 16000 ≤ N }
+    ensures { length out.new ≤ length out.old + 16000 }
 {
-    let n = call_answer(call, line, at, out);
-    if n == 0 {
-        return answers::put_usage(call, out);
-    }
-    n
-}
-
-// One line to its answer, without the line end: how many bytes of the buffer it takes, and what is held then. No word,
-// or a first word that begins with #: none. Where `rest` is not 0, `go_on` has the next part of the answer.
-pub fn answer(
-    line: &[u8],
-    held: Held,
-    list: &mut [i32],
-    owners: &mut [u8],
-    counts: &mut [u64],
-    sums: &mut [u64],
-    out: &mut [u8],
-) -> Reply
-    requires { 16384 ≤ length out.old }
-    ensures { result.size ≤ 16000 }
-{
-    let w = lines::next_word(line, 0);
-    let from = w.from;
-    let end = w.end;
-    if from == end {
-        return nothing(held);
-    }
-    if line[from] == 35 {
-        return nothing(held);
-    }
-    let call = texts::call_named(&line[from..end]);
     match call {
-        22..=33 => desks::answer(call, line, end, held, list, owners, counts, sums, out),
-        _ => held::whole(plain_answer(call, line, end, out), held),
+        Call::Table
+        | Call::Take
+        | Call::Clear
+        | Call::Give
+        | Call::Set
+        | Call::Get
+        | Call::Readings
+        | Call::Owners
+        | Call::Coarse
+        | Call::WorkOut
+        | Call::Counts
+        | Call::Sums => desks::answer(call, words, table, out),
+        _ => {
+            if plain_answer(call, words, out).is_none() {
+                answers::put_usage(call, out);
+            }
+            None
+        }
+    }
+}
+
+// The answer of one line, without the line end, and what is left to do then. No word, or a first word that begins with
+// #: no answer.
+pub fn answer<'a, const N: usize>(
+    line: &'a [u8],
+    table: &mut Table,
+    out: &mut Text<N>,
+) -> Option<Task<'a>>
+    requires { length out.old + 16000 ≤ N }
+    ensures { length out.new ≤ length out.old + 16000 }
+{
+    let mut words = Words::of(line);
+    let word = words.next()?;
+    if word.starts_with(b"#") {
+        return None;
+    }
+    match texts::call_named(word) {
+        Some(call) => call_answer(call, words, table, out),
+        None => {
+            unknown(out);
+            None
+        }
     }
 }

@@ -13,8 +13,8 @@ use texts::Call;
 
 // The calls of a code and a number.
 fn numbered_answer<const N: usize>(call: Call, words: Words<'_>, out: &mut Text<N>) -> Option<()>
-    requires { length out.old + 16000 ≤ N }
-    ensures { length out.new ≤ length out.old + 16000 }
+    requires { length out.old + 15000 ≤ N }
+    ensures { length out.new ≤ length out.old + 15000 }
 {
     let (t, n) = code_and_number(words)?;
     match call {
@@ -32,8 +32,8 @@ fn numbered_answer<const N: usize>(call: Call, words: Words<'_>, out: &mut Text<
 
 // The way back from weights: at most 16 are read.
 fn back_answer<const N: usize>(mut words: Words<'_>, out: &mut Text<N>) -> Option<()>
-    requires { length out.old + 16000 ≤ N }
-    ensures { length out.new ≤ length out.old + 16000 }
+    requires { length out.old + 15000 ≤ N }
+    ensures { length out.new ≤ length out.old + 15000 }
 {
     let degree = arguments::number(&mut words)?;
     let mut list = [0u64; 16];
@@ -44,8 +44,8 @@ fn back_answer<const N: usize>(mut words: Words<'_>, out: &mut Text<N>) -> Optio
 
 // None where the arguments cannot be read.
 pub fn answer<const N: usize>(call: Call, words: Words<'_>, out: &mut Text<N>) -> Option<()>
-    requires { length out.old + 16000 ≤ N }
-    ensures { length out.new ≤ length out.old + 16000 }
+    requires { length out.old + 15000 ≤ N }
+    ensures { length out.new ≤ length out.old + 15000 }
 {
     match call {
         Call::Check => answers::check(one_code(words)?.check(), out),

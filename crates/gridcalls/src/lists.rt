@@ -88,8 +88,8 @@ fn put_answer<const N: usize>(
 }
 
 fn in_list<const N: usize>(q: Asked, list: &mut [u64], shown: bool, out: &mut Text<N>)
-    requires { (length list.old ≤ 16) × (length out.old + 16000 ≤ N) }
-    ensures { length out.new ≤ length out.old + 16000 }
+    requires { (length list.old ≤ 16) × (length out.old + 15000 ≤ N) }
+    ensures { length out.new ≤ length out.old + 15000 }
 {
     places::number(list);
     let answer = fill(q, list);
@@ -106,8 +106,8 @@ fn with_places<const N: usize>(
     usual: usize,
     out: &mut Text<N>,
 ) -> Option<()>
-    requires { (usual ≤ 16) × (length out.old + 16000 ≤ N) }
-    ensures { length out.new ≤ length out.old + 16000 }
+    requires { (usual ≤ 16) × (length out.old + 15000 ≤ N) }
+    ensures { length out.new ≤ length out.old + 15000 }
 {
     let p = arguments::last_places(words, usual, 16)?;
     let mut list = [0u64; 16];
@@ -117,8 +117,8 @@ fn with_places<const N: usize>(
 
 // None where the arguments cannot be read.
 pub fn answer<const N: usize>(call: Call, mut words: Words<'_>, out: &mut Text<N>) -> Option<()>
-    requires { length out.old + 16000 ≤ N }
-    ensures { length out.new ≤ length out.old + 16000 }
+    requires { length out.old + 15000 ≤ N }
+    ensures { length out.new ≤ length out.old + 15000 }
 {
     match call {
         Call::Weights => {

@@ -37,8 +37,8 @@ fn put_answer<const N: usize>(answer: Result<Option<Unfiled>, Refusal>, out: &mu
 
 // The places of the list are shown also where the whole call is refused.
 fn in_list<const N: usize>(degree: u64, dirs: &[i32], codes: &mut [u64], out: &mut Text<N>)
-    requires { (length codes.old ≤ 16) × (length out.old + 16000 ≤ N) }
-    ensures { length out.new ≤ length out.old + 16000 }
+    requires { (length codes.old ≤ 16) × (length out.old + 15000 ≤ N) }
+    ensures { length out.new ≤ length out.old + 15000 }
 {
     places::number(codes);
     put_answer(sweep(degree, dirs, codes), out);
@@ -47,8 +47,8 @@ fn in_list<const N: usize>(degree: u64, dirs: &[i32], codes: &mut [u64], out: &m
 
 // None where the arguments cannot be read.
 pub fn answer<const N: usize>(mut words: Words<'_>, out: &mut Text<N>) -> Option<()>
-    requires { length out.old + 16000 ≤ N }
-    ensures { length out.new ≤ length out.old + 16000 }
+    requires { length out.old + 15000 ≤ N }
+    ensures { length out.new ≤ length out.old + 15000 }
 {
     let degree = arguments::number(&mut words)?;
     let room = arguments::room(&mut words, 16)?;

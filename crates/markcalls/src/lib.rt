@@ -4,48 +4,38 @@
 
 ghost use Rattle.std.specs.Prelude.{◌+◌, ◌≤◌, length};
 
-use grid::TriangleCode;
-use marks::{Mark, MarkAnswer};
+use lines::{Text, Words};
+use marks::Mark;
 use replies::{answers, arguments};
 
-pub fn put_mark(m: Mark, out: &mut [u8]) -> usize
-    requires { 16384 ≤ length out.old }
-    ensures { result ≤ 600 }
+pub fn put_mark<const N: usize>(m: Mark, out: &mut Text<N>)
+    requires { length out.old + 600 ≤ N }
+    ensures { length out.new ≤ length out.old + 600 }
 {
     match m {
-        Mark::Nothing => lines::put_bytes(b"nothing", out, 0),
+        Mark::Nothing => out.push_bytes(b"nothing"),
         Mark::Dot(p) => {
-            let point = lines::put_bytes(b"dot", out, 0);
-            answers::put_point(p, out, point)
+            out.push_bytes(b"dot");
+            answers::put_point(p, out);
         }
         Mark::Segment(p, q) => {
-            let from = lines::put_bytes(b"segment", out, 0);
-            let to = answers::put_point(p, out, from);
-            let point = lines::put_bytes(b" to", out, to);
-            answers::put_point(q, out, point)
+            out.push_bytes(b"segment");
+            answers::put_point(p, out);
+            out.push_bytes(b" to");
+            answers::put_point(q, out);
         }
     }
 }
 
-fn put_answer(r: MarkAnswer, out: &mut [u8]) -> usize
-    requires { 16384 ≤ length out.old }
-    ensures { result ≤ 600 }
+// edge-mark; None where its arguments cannot be read.
+pub fn edge_mark<const N: usize>(words: Words<'_>, out: &mut Text<N>) -> Option<()>
+    requires { length out.old + 15000 ≤ N }
+    ensures { length out.new ≤ length out.old + 15000 }
 {
-    if r.refusal != 0 {
-        return answers::refused(r.refusal, out);
+    let (t, edge) = arguments::code_and_number(words)?;
+    match marks::edge_mark(t, edge) {
+        Ok(m) => put_mark(m, out),
+        Err(f) => answers::refused(f, out),
     }
-    let m = r.mark;
-    put_mark(m, out)
-}
-
-// edge-mark, whose arguments stand from a place of a line on; 0 where they cannot be read.
-pub fn edge_mark(line: &[u8], at: usize, out: &mut [u8]) -> usize
-    requires { (at ≤ length line.now) × (16384 ≤ length out.old) }
-    ensures { result ≤ 16000 }
-{
-    let p = arguments::code_and_number(line, at);
-    if p.read & arguments::at_end(line, p.next) {
-        return put_answer(marks::edge_mark(TriangleCode(p.code), p.number), out);
-    }
-    0
+    Some(())
 }

@@ -62,8 +62,8 @@ fn fill(q: Asked, out: &mut [u64]) -> Result<u64, Refusal> {
 }
 
 fn in_list<const N: usize>(q: Asked, list: &mut [u64], shown: bool, out: &mut Text<N>)
-    requires { (length list.old ≤ 32) × (length out.old + 16000 ≤ N) }
-    ensures { length out.new ≤ length out.old + 16000 }
+    requires { (length list.old ≤ 32) × (length out.old + 15000 ≤ N) }
+    ensures { length out.new ≤ length out.old + 15000 }
 {
     places::number(list);
     put_answer(fill(q, list), list, out);
@@ -79,8 +79,8 @@ fn with_places<const N: usize>(
     usual: usize,
     out: &mut Text<N>,
 ) -> Option<()>
-    requires { (usual ≤ 32) × (length out.old + 16000 ≤ N) }
-    ensures { length out.new ≤ length out.old + 16000 }
+    requires { (usual ≤ 32) × (length out.old + 15000 ≤ N) }
+    ensures { length out.new ≤ length out.old + 15000 }
 {
     let p = arguments::last_places(words, usual, MOST)?;
     let mut list = [0u64; MOST];
@@ -119,8 +119,8 @@ fn one_digits<'a>(mut words: Words<'_>, list: &'a mut [u64; TOO_MANY]) -> Option
 
 // None where the arguments cannot be read.
 pub fn answer<const N: usize>(call: Call, mut words: Words<'_>, out: &mut Text<N>) -> Option<()>
-    requires { length out.old + 16000 ≤ N }
-    ensures { length out.new ≤ length out.old + 16000 }
+    requires { length out.old + 15000 ≤ N }
+    ensures { length out.new ≤ length out.old + 15000 }
 {
     let mut list = [0u64; TOO_MANY];
     match call {

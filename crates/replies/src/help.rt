@@ -178,8 +178,8 @@ work-out                            works all counts and sums out afresh from th
 help                                these lines";
 
 pub fn answer<const N: usize>(words: Words<'_>, out: &mut Text<N>) -> Option<()>
-    requires { length out.old + 16000 ≤ N }
-    ensures { length out.new ≤ length out.old + 16000 }
+    requires { length out.old + 15000 ≤ N }
+    ensures { length out.new ≤ length out.old + 15000 }
 {
     arguments::end(&words)?;
     out.push_bytes(&HELP);

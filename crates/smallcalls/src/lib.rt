@@ -69,8 +69,8 @@ fn step_answer<const N: usize>(answer: Result<SmallStep, Refusal>, out: &mut Tex
 
 // None where the arguments cannot be read.
 pub fn answer<const N: usize>(call: Call, mut words: Words<'_>, out: &mut Text<N>) -> Option<()>
-    requires { length out.old + 16000 ≤ N }
-    ensures { length out.new ≤ length out.old + 16000 }
+    requires { length out.old + 15000 ≤ N }
+    ensures { length out.new ≤ length out.old + 15000 }
 {
     match call {
         Call::Small => small_answer(harbour::write(arguments::one_code(words)?), out),

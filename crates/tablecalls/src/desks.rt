@@ -1,86 +1,156 @@
 // The calls on the table that is held: each is read from its line (asking), then made, and what came of it is told.
-ghost use Rattle.std.specs.Prelude.{◌≤◌, length};
+ghost use Rattle.std.specs.Prelude.{◌+◌, ◌≤◌, length};
 
 use crate::asking::Asked;
-use crate::held::{Held, Reply, Shown, Task, Which};
+use crate::held::{Held, Table, Task};
 use crate::laying::Listing;
 use crate::{asking, held, items, laying, showing};
 use coarse::Tally;
-use grid::TriangleCode;
-use marks::{Mark, MarkAnswer};
+use grid::{Refusal, TriangleCode};
+use lines::{Text, Words};
+use marks::Mark;
 use replies::answers;
-use soundings::{Sounding, SoundingAnswer, TableAnswer};
-use tables::Deed;
+use tables::{Deed, Sounding, TableRefusal};
+use texts::Call;
+
+// ---- telling
+
+fn put_length<const N: usize>(n: usize, out: &mut Text<N>)
+    requires { length out.old + 40 ≤ N }
+    ensures { length out.new ≤ length out.old + 40 }
+{
+    out.push_decimal(n as u64);
+    out.push_bytes(b" places");
+}
+
+pub fn put_opened<const N: usize>(held: Held, out: &mut Text<N>)
+    requires { length out.old + 100 ≤ N }
+    ensures { length out.new ≤ length out.old + 100 }
+{
+    out.push_bytes(b"degree ");
+    out.push_decimal(held.degree);
+    out.push_bytes(b", ");
+    put_length(held.readings, out);
+}
+
+// A refusal; with 23 its place.
+pub fn put_refused<const N: usize>(f: TableRefusal, out: &mut Text<N>)
+    requires { length out.old + 200 ≤ N }
+    ensures { length out.new ≤ length out.old + 200 }
+{
+    match f {
+        TableRefusal::Call(f) => answers::refused(f, out),
+        TableRefusal::BadNumber(place) => {
+            out.push_bytes(b"refused 23: ");
+            texts::put_reason(23, out);
+            out.push_bytes(b"; place ");
+            out.push_decimal(place);
+        }
+    }
+}
+
+fn put_written<const N: usize>(answer: Result<(), TableRefusal>, out: &mut Text<N>)
+    requires { length out.old + 200 ≤ N }
+    ensures { length out.new ≤ length out.old + 200 }
+{
+    match answer {
+        Ok(()) => out.push_bytes(b"ok"),
+        Err(f) => put_refused(f, out),
+    }
+}
+
+fn put_sounding<const N: usize>(answer: Result<Sounding, TableRefusal>, out: &mut Text<N>)
+    requires { length out.old + 200 ≤ N }
+    ensures { length out.new ≤ length out.old + 200 }
+{
+    match answer {
+        Ok(Some(x)) => items::put_millimetres(x, out),
+        Ok(None) => out.push_bytes(b"no reading"),
+        Err(f) => put_refused(f, out),
+    }
+}
+
+fn put_mark<const N: usize>(answer: Result<Mark, TableRefusal>, out: &mut Text<N>)
+    requires { length out.old + 600 ≤ N }
+    ensures { length out.new ≤ length out.old + 600 }
+{
+    match answer {
+        Ok(mark) => markcalls::put_mark(mark, out),
+        Err(f) => put_refused(f, out),
+    }
+}
+
+fn put_stored<const N: usize>(answer: Result<Tally, Refusal>, out: &mut Text<N>)
+    requires { length out.old + 200 ≤ N }
+    ensures { length out.new ≤ length out.old + 200 }
+{
+    match answer {
+        Ok(t) => items::put_tally(t, out),
+        Err(f) => answers::refused(f, out),
+    }
+}
 
 // ---- making the call
 
-// What came of a call. Another table is held where one was opened, or another list of so many places was laid. A
-// refusal has a place. What is to be done on a file is left to the caller.
-#[derive(Clone, Copy)]
-enum Done {
-    Unread(u64),
-    NoneOpen,
-    Refused(u64, u64),
-    Show(Shown),
-    Opened(Held),
-    Laid(usize, Held),
-    Written,
-    Got(Sounding),
-    Marked(Mark),
-    Stored(Tally),
-    Left(Task),
+// The table of a list of readings. With it come the other lists: all is nobody's, and all counts and sums are 0.
+fn open<const N: usize>(
+    degree: u64,
+    list: &Listing<'_, i32, 81921>,
+    table: &mut Table,
+    out: &mut Text<N>,
+)
+    requires { length out.old + 200 ≤ N }
+    ensures { length out.new ≤ length out.old + 200 }
+{
+    let n = list.length;
+    let parents = held::parents_of(degree);
+    let held = Held {
+        degree,
+        readings: n,
+        owners: n,
+        counts: parents,
+        sums: parents,
+    };
+    list.lay(&mut table.readings);
+    table.owners[..n].fill(0);
+    table.counts[..parents].fill(0);
+    table.sums[..parents].fill(0);
+    table.held = Some(held);
+    put_opened(held, out);
 }
 
-fn laid(l: Listing, held: Held) -> Done {
-    let which = l.which;
-    match which {
-        Which::Readings => Done::Opened(held),
-        _ => Done::Laid(l.length, held),
+fn open_fresh<const N: usize>(degree: u64, table: &mut Table, out: &mut Text<N>)
+    requires { length out.old + 200 ≤ N }
+    ensures { length out.new ≤ length out.old + 200 }
+{
+    match refusing::refuse_degree(degree) {
+        Ok(()) => open(degree, &laying::fresh(degree), table, out),
+        Err(f) => answers::refused(f, out),
     }
-}
-
-fn written(r: TableAnswer) -> Done {
-    if r.refusal != 0 {
-        return Done::Refused(r.refusal, r.place);
-    }
-    Done::Written
-}
-
-fn got(r: SoundingAnswer) -> Done {
-    if r.refusal != 0 {
-        return Done::Refused(r.refusal, r.place);
-    }
-    let s = r.sounding;
-    Done::Got(s)
-}
-
-fn marked(r: MarkAnswer) -> Done {
-    if r.refusal != 0 {
-        return Done::Refused(r.refusal, r.place);
-    }
-    let m = r.mark;
-    Done::Marked(m)
 }
 
 // Of a triangle one degree up.
-fn stored(t: TriangleCode, held: Held, counts: &[u64], sums: &[u64]) -> Done {
-    let f = showing::refuse_parent(held, t);
-    if f != 0 {
-        return Done::Refused(f, 0);
-    }
-    Done::Stored(items::tally_at(ordering::place_of(t) as usize, counts, sums))
+fn stored(t: TriangleCode, held: Held, table: &Table) -> Result<Tally, Refusal> {
+    showing::check_parent(held, t)?;
+    Ok(items::tally_at(ordering::place_of(t) as usize, table))
 }
 
 fn carry_out(
     deed: Deed,
     desk: u64,
-    degree: u64,
     t: TriangleCode,
-    list: &mut [i32],
-    owners: &mut [u8],
-    counts: &mut [u64],
-    sums: &mut [u64],
-) -> TableAnswer {
+    held: Held,
+    table: &mut Table,
+) -> Result<(), TableRefusal> {
+    let degree = held.degree;
+    let list = &mut table.readings[..];
+    let owners = &mut table.owners[..];
+    let counts = &mut table.counts[..];
+    let sums = &mut table.sums[..];
+    let list = &mut list[..held.readings];
+    let owners = &mut owners[..held.owners];
+    let counts = &mut counts[..held.counts];
+    let sums = &mut sums[..held.sums];
     match deed {
         Deed::Taking => soundings::take(desk, degree, t, list, owners, counts, sums),
         Deed::Setting(x) => soundings::set(desk, degree, t, x, list, owners, counts, sums),
@@ -89,196 +159,102 @@ fn carry_out(
     }
 }
 
-// On the places that are the table's own.
-fn on_own(
-    a: Asked,
-    degree: u64,
-    list: &mut [i32],
-    owners: &mut [u8],
-    counts: &mut [u64],
-    sums: &mut [u64],
-) -> Done {
-    match a {
-        Asked::Desk(desk, t, deed) => {
-            let code = TriangleCode(t);
-            written(carry_out(deed, desk, degree, code, list, owners, counts, sums))
-        }
-        Asked::WorkOut => written(soundings::work_out(degree, list, counts, sums)),
-        Asked::Get(t) => got(soundings::get(degree, TriangleCode(t), list)),
-        Asked::Mark(t) => marked(marks::table_mark(degree, TriangleCode(t), list)),
-        _ => Done::NoneOpen,
-    }
-}
-
-// The lists have room for every table.
-fn on_first(
-    a: Asked,
-    held: Held,
-    list: &mut [i32],
-    owners: &mut [u8],
-    counts: &mut [u64],
-    sums: &mut [u64],
-) -> Done {
-    let n = held.readings;
-    let m = held.owners;
-    let c = held.counts;
-    let s = held.sums;
-    if list.len() < n {
-        return Done::NoneOpen;
-    }
-    if owners.len() < m {
-        return Done::NoneOpen;
-    }
-    if counts.len() < c {
-        return Done::NoneOpen;
-    }
-    if sums.len() < s {
-        return Done::NoneOpen;
-    }
-    on_own(
-        a,
+pub fn work_out(held: Held, table: &mut Table) -> Result<(), TableRefusal> {
+    let list = &table.readings[..held.readings];
+    let counts = &mut table.counts[..];
+    let sums = &mut table.sums[..];
+    soundings::work_out(
         held.degree,
-        &mut list[..n],
-        &mut owners[..m],
-        &mut counts[..c],
-        &mut sums[..s],
+        list,
+        &mut counts[..held.counts],
+        &mut sums[..held.sums],
     )
 }
 
-fn make(
-    a: Asked,
-    held: Held,
-    line: &[u8],
-    list: &mut [i32],
-    owners: &mut [u8],
-    counts: &mut [u64],
-    sums: &mut [u64],
-) -> Done {
-    match a {
-        Asked::Unread(call) => Done::Unread(call),
-        Asked::NoneOpen => Done::NoneOpen,
-        Asked::Refused(f) => Done::Refused(f, 0),
-        Asked::Show(shown) => Done::Show(shown),
-        Asked::Save(from, end) => Done::Left(Task::Save(from, end)),
-        Asked::Open(from, end) => Done::Left(Task::Open(from, end)),
-        Asked::Coarse(t) => stored(TriangleCode(t), held, counts, sums),
-        Asked::Lay(l, after) => {
-            laying::lay(l, after, line, list, owners, counts, sums);
-            laid(l, after)
+// On the table that is open.
+fn on_held<'a, const N: usize>(
+    asked: Asked<'a>,
+    mut held: Held,
+    table: &mut Table,
+    out: &mut Text<N>,
+) -> Option<Task<'a>>
+    requires { length out.old + 16000 ≤ N }
+    ensures { length out.new ≤ length out.old + 16000 }
+{
+    match asked {
+        Asked::Owners(list) => {
+            list.lay(&mut table.owners);
+            held.owners = list.length;
+            table.held = Some(held);
+            put_length(list.length, out);
         }
-        _ => on_first(a, held, list, owners, counts, sums),
+        Asked::Counts(list) => {
+            list.lay(&mut table.counts);
+            held.counts = list.length;
+            table.held = Some(held);
+            put_length(list.length, out);
+        }
+        Asked::Sums(list) => {
+            list.lay(&mut table.sums);
+            held.sums = list.length;
+            table.held = Some(held);
+            put_length(list.length, out);
+        }
+        Asked::Desk(desk, t, deed) => put_written(carry_out(deed, desk, t, held, table), out),
+        Asked::WorkOut => put_written(work_out(held, table), out),
+        Asked::Get(t) => put_sounding(
+            soundings::get(held.degree, t, &table.readings[..held.readings]),
+            out,
+        ),
+        Asked::Mark(t) => put_mark(
+            marks::table_mark(held.degree, t, &table.readings[..held.readings]),
+            out,
+        ),
+        Asked::Coarse(t) => put_stored(stored(t, held, table), out),
+        Asked::Show(shown) => {
+            return Some(Task::Show(showing::show(shown, held, table, out)?));
+        }
+        Asked::Save(name) => return Some(Task::Save(held, name)),
+        _ => {}
     }
+    None
 }
 
-// ---- telling
-
-// A refusal; beside 23 its place.
-pub fn refused(f: u64, place: u64, out: &mut [u8]) -> usize
-    requires { 16384 ≤ length out.old }
-    ensures { result ≤ 16000 }
+fn make<'a, const N: usize>(
+    asked: Asked<'a>,
+    table: &mut Table,
+    out: &mut Text<N>,
+) -> Option<Task<'a>>
+    requires { length out.old + 16000 ≤ N }
+    ensures { length out.new ≤ length out.old + 16000 }
 {
-    let end = answers::refused(f, out);
-    if f != 23 {
-        return end;
-    }
-    let number = lines::put_bytes(b"; place ", out, end);
-    lines::put_decimal(place, out, number)
-}
-
-fn put_sounding(s: Sounding, out: &mut [u8]) -> usize
-    requires { 16384 ≤ length out.old }
-    ensures { result ≤ 16000 }
-{
-    match s {
-        None => lines::put_bytes(b"no reading", out, 0),
-        Some(x) => items::put_millimetres(x, out, 0),
-    }
-}
-
-pub fn put_opened(held: Held, out: &mut [u8]) -> usize
-    requires { 16384 ≤ length out.old }
-    ensures { result ≤ 16000 }
-{
-    let number = lines::put_bytes(b"degree ", out, 0);
-    let comma = lines::put_decimal(held.degree, out, number);
-    let length = lines::put_bytes(b", ", out, comma);
-    put_length(held.readings, out, length)
-}
-
-fn put_length(n: usize, out: &mut [u8], at: usize) -> usize
-    requires { (at ≤ 100) × (16384 ≤ length out.old) }
-    ensures { result ≤ 16000 }
-{
-    let unit = lines::put_decimal(n as u64, out, at);
-    lines::put_bytes(b" places", out, unit)
-}
-
-// What came of a call that shows no list.
-fn put_told(d: Done, out: &mut [u8]) -> usize
-    requires { 16384 ≤ length out.old }
-    ensures { result ≤ 16000 }
-{
-    match d {
-        Done::Unread(call) => answers::put_usage(call, out),
-        Done::Refused(f, place) => refused(f, place, out),
-        Done::Opened(held) => put_opened(held, out),
-        Done::Laid(n, _) => put_length(n, out, 0),
-        Done::Written => lines::put_bytes(b"ok", out, 0),
-        Done::Got(s) => put_sounding(s, out),
-        Done::Marked(m) => markcalls::put_mark(m, out),
-        Done::Stored(t) => items::put_tally(t, out, 0),
-        _ => lines::put_bytes(b"error: no table is open; table DEGREE opens one", out, 0),
-    }
-}
-
-fn held_after(d: Done, before: Held) -> Held {
-    match d {
-        Done::Opened(held) => held,
-        Done::Laid(_, held) => held,
-        _ => before,
-    }
-}
-
-fn tell(
-    d: Done,
-    held: Held,
-    list: &[i32],
-    owners: &[u8],
-    counts: &[u64],
-    sums: &[u64],
-    out: &mut [u8],
-) -> Reply
-    requires { 16384 ≤ length out.old }
-    ensures { result.size ≤ 16000 }
-{
-    match d {
-        Done::Show(shown) => showing::show(shown, held, list, owners, counts, sums, out),
-        Done::Left(task) => Reply {
-            size: 0,
-            rest: 0,
-            held,
-            task,
+    match asked {
+        Asked::Fresh(degree) => open_fresh(degree, table, out),
+        Asked::Table(degree, list) => open(degree, &list, table, out),
+        Asked::Open(name) => return Some(Task::Open(name)),
+        _ => match table.held {
+            Some(held) => return on_held(asked, held, table, out),
+            None => out.push_bytes(b"error: no table is open; table DEGREE opens one"),
         },
-        _ => held::whole(put_told(d, out), held_after(d, held)),
     }
+    None
 }
 
-// The answer of a call, by its row of CALLS, whose arguments stand from a place of a line on.
-pub fn answer(
-    call: u64,
-    line: &[u8],
-    at: usize,
-    held: Held,
-    list: &mut [i32],
-    owners: &mut [u8],
-    counts: &mut [u64],
-    sums: &mut [u64],
-    out: &mut [u8],
-) -> Reply
-    requires { (at ≤ length line.now) × (16384 ≤ length out.old) }
-    ensures { result.size ≤ 16000 }
+// The answer of a call by its arguments, and what is left to do then.
+pub fn answer<'a, const N: usize>(
+    call: Call,
+    words: Words<'a>,
+    table: &mut Table,
+    out: &mut Text<N>,
+) -> Option<Task<'a>>
+    requires { length out.old + 16000 ≤ N }
+    ensures { length out.new ≤ length out.old + 16000 }
 {
-    let asked = asking::asked_at(call, line, at, held);
-    let done = make(asked, held, line, list, owners, counts, sums);
-    tell(done, held, list, owners, counts, sums, out)
+    match asking::read(call, words) {
+        Some(asked) => make(asked, table, out),
+        None => {
+            answers::put_usage(call, out);
+            None
+        }
+    }
 }

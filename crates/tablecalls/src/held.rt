@@ -1,15 +1,41 @@
 // What the console holds: a table of soundings (document 02, 2026-03, 2026-07 and 2026-08). Its four lists stand in the
 // first places of the console's: readings and owners in lists of 81,921 places, counts and sums in lists of 20,481, one
 // more than the longest table needs, so that a list that is too long can be tried.
-ghost use Rattle.std.specs.Prelude.{◌≡◌};
+ghost use Rattle.std.specs.Prelude.{◌≤◌};
+ghost use Rattle.tables.specs.Tables.{places};
 
-// One of the four lists of a table.
+// A table that is open: its degree, and how many places of each list are its own.
 #[derive(Clone, Copy)]
-pub enum Which {
-    Readings,
-    Owners,
-    Counts,
-    Sums,
+pub struct Held {
+    pub degree: u64,
+    pub readings: usize,
+    pub owners: usize,
+    pub counts: usize,
+    pub sums: usize,
+    ghost in_room: { (readings ≤ 81921) × (owners ≤ 81921) × (counts ≤ 20481) × (sums ≤ 20481) },
+}
+
+// The table, where one is open, and its lists.
+#[derive(Drop)]
+pub struct Table {
+    pub held: Option<Held>,
+    pub readings: [i32; 81921],
+    pub owners: [u8; 81921],
+    pub counts: [u64; 20481],
+    pub sums: [u64; 20481],
+}
+
+impl Table {
+    // None is open.
+    pub fn new() -> Self {
+        Table {
+            held: None,
+            readings: [0; 81921],
+            owners: [0; 81921],
+            counts: [0; 20481],
+            sums: [0; 20481],
+        }
+    }
 }
 
 // What an answer of many places shows: readings, owners, or of the triangles one degree up counts and sums.
@@ -20,58 +46,29 @@ pub enum Shown {
     Coarse,
 }
 
-// What is held: whether a table is open, its degree, how many places of each list are its own, and what the last answer
-// of many places shows.
+// What is still to be shown of an answer of many places, which is written part by part: the last places of the
+// triangles of a degree.
 #[derive(Clone, Copy)]
-pub struct Held {
-    pub open: bool,
-    pub degree: u64,
-    pub readings: usize,
-    pub owners: usize,
-    pub counts: usize,
-    pub sums: usize,
+pub struct Rest {
     pub shown: Shown,
+    pub degree: u64,
+    pub count: usize,
+    ghost in_table: { (degree ≤ 6) × (count ≤ places degree) },
 }
 
-// A part of an answer: how many bytes it takes, and how many places are still to be shown. An answer of many places is
-// written part by part.
+// What is left to do where a line is answered: to show the rest of its answer, to save the table to the file of a name,
+// or to open that of the file.
 #[derive(Clone, Copy)]
-pub struct Part {
-    pub size: usize,
-    pub rest: usize,
-}
-
-// What is left to do where a line is answered: nothing, or to save the table to the file, or open that of the file,
-// whose name stands from one place of the line to another.
-#[derive(Clone, Copy)]
-pub enum Task {
-    Nothing,
-    Save(usize, usize),
-    Open(usize, usize),
-}
-
-// The first part of an answer, in most cases all of it; what is held after it; and what is left to do.
-#[derive(Clone, Copy)]
-pub struct Reply {
-    pub size: usize,
-    pub rest: usize,
-    pub held: Held,
-    pub task: Task,
-}
-
-pub fn whole(size: usize, held: Held) -> Reply
-    ensures { (result.size ≡ size) × (result.rest ≡ 0) }
-{
-    Reply {
-        size,
-        rest: 0,
-        held,
-        task: Task::Nothing,
-    }
+pub enum Task<'a> {
+    Show(Rest),
+    Save(Held, &'a [u8]),
+    Open(&'a [u8]),
 }
 
 // How many places a table of a degree has; 0 where no table has it.
-pub fn places_of(degree: u64) -> usize {
+pub fn places_of(degree: u64) -> usize
+    ensures { result ≤ 81920 }
+{
     if 6 < degree {
         return 0;
     }
@@ -79,7 +76,9 @@ pub fn places_of(degree: u64) -> usize {
 }
 
 // How many triangles there are one degree up; 0 where no table has the degree.
-pub fn parents_of(degree: u64) -> usize {
+pub fn parents_of(degree: u64) -> usize
+    ensures { result ≤ 20480 }
+{
     if 6 < degree {
         return 0;
     }

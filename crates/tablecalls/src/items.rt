@@ -1,137 +1,104 @@
 // What is shown of one place of the table's lists, or answered for one triangle.
 ghost use Rattle.std.specs.Prelude.{◌+◌, ◌≤◌, length};
 
-use crate::held::Shown;
+use crate::held::{Shown, Table};
 use coarse::Tally;
+use lines::Text;
 
-// Nothing; a reading; the desk whose it is; a count and a sum; or a bad number.
+// A reading; the desk whose it is; a count and a sum; or a bad number.
 #[derive(Clone, Copy)]
 pub enum Item {
-    Nothing,
     Reading(i32),
     Desk(u64),
     Stored(Tally),
     Bad(i64),
 }
 
-fn wide(x: i32) -> i64 {
-    x as i64
-}
-
-fn wide_owner(x: u8) -> u64 {
-    x as u64
-}
-
-fn of_reading(x: i32) -> Item {
+fn of_reading(x: i32) -> Option<Item> {
     if x == -1 {
-        return Item::Nothing;
+        None
+    } else if meanings::is_reading(x) {
+        Some(Item::Reading(x))
+    } else {
+        Some(Item::Bad(i64::from(x)))
     }
-    if meanings::is_reading(x) {
-        return Item::Reading(x);
-    }
-    Item::Bad(wide(x))
 }
 
-fn of_owner(x: u8) -> Item {
+fn of_owner(x: u8) -> Option<Item> {
     if x == 0 {
-        return Item::Nothing;
+        None
+    } else if meanings::is_desk(u64::from(x)) {
+        Some(Item::Desk(u64::from(x)))
+    } else {
+        Some(Item::Bad(i64::from(x)))
     }
-    if meanings::is_desk(wide_owner(x)) {
-        return Item::Desk(wide_owner(x));
-    }
-    Item::Bad(x as i64)
 }
 
-fn of_tally(t: Tally) -> Item {
-    if (t.count == 0) & (t.sum == 0) {
-        return Item::Nothing;
+fn of_tally(t: Tally) -> Option<Item> {
+    if t.count == 0 && t.sum == 0 {
+        None
+    } else {
+        Some(Item::Stored(t))
     }
-    Item::Stored(t)
 }
 
 // Past the end of a list there is nothing.
-fn number_at(place: usize, list: &[u64]) -> u64 {
-    if place < list.len() {
-        return list[place];
-    }
-    0
-}
-
-pub fn tally_at(place: usize, counts: &[u64], sums: &[u64]) -> Tally {
+pub fn tally_at(place: usize, table: &Table) -> Tally {
     Tally {
-        count: number_at(place, counts),
-        sum: number_at(place, sums),
+        count: table.counts.get(place).copied().unwrap_or(0),
+        sum: table.sums.get(place).copied().unwrap_or(0),
     }
 }
 
-pub fn item_at(
-    shown: Shown,
-    place: usize,
-    list: &[i32],
-    owners: &[u8],
-    counts: &[u64],
-    sums: &[u64],
-) -> Item {
+pub fn item_at(shown: Shown, place: usize, table: &Table) -> Option<Item> {
     match shown {
-        Shown::Readings => {
-            if place < list.len() {
-                return of_reading(list[place]);
-            }
-            Item::Nothing
-        }
-        Shown::Owners => {
-            if place < owners.len() {
-                return of_owner(owners[place]);
-            }
-            Item::Nothing
-        }
-        Shown::Coarse => of_tally(tally_at(place, counts, sums)),
+        Shown::Readings => of_reading(*table.readings.get(place)?),
+        Shown::Owners => of_owner(*table.owners.get(place)?),
+        Shown::Coarse => of_tally(tally_at(place, table)),
     }
 }
 
-pub fn is_counted(i: Item) -> bool {
-    match i {
-        Item::Nothing => false,
-        Item::Bad(_) => false,
-        _ => true,
+pub fn is_counted(item: Option<Item>) -> bool {
+    match item {
+        None | Some(Item::Bad(_)) => false,
+        Some(_) => true,
     }
 }
 
-pub fn put_millimetres(x: i32, out: &mut [u8], at: usize) -> usize
-    requires { at + 24 ≤ length out.old }
-    ensures { result ≤ at + 24 }
+pub fn put_millimetres<const N: usize>(x: i32, out: &mut Text<N>)
+    requires { length out.old + 24 ≤ N }
+    ensures { length out.new ≤ length out.old + 24 }
 {
-    let unit = lines::put_signed(wide(x), out, at);
-    lines::put_bytes(b" mm", out, unit)
+    out.push_signed(i64::from(x));
+    out.push_bytes(b" mm");
 }
 
-pub fn put_tally(t: Tally, out: &mut [u8], at: usize) -> usize
-    requires { at + 51 ≤ length out.old }
-    ensures { result ≤ at + 51 }
+pub fn put_tally<const N: usize>(t: Tally, out: &mut Text<N>)
+    requires { length out.old + 51 ≤ N }
+    ensures { length out.new ≤ length out.old + 51 }
 {
-    let count = lines::put_bytes(b"count ", out, at);
-    let unit = lines::put_decimal(t.count, out, count);
-    let sum = lines::put_bytes(b" sum ", out, unit);
-    lines::put_decimal(t.sum, out, sum)
+    out.push_bytes(b"count ");
+    out.push_decimal(t.count);
+    out.push_bytes(b" sum ");
+    out.push_decimal(t.sum);
 }
 
 // After a space.
-pub fn put_item(i: Item, out: &mut [u8], at: usize) -> usize
-    requires { at + 60 ≤ length out.old }
-    ensures { result ≤ at + 60 }
+pub fn put_item<const N: usize>(i: Item, out: &mut Text<N>)
+    requires { length out.old + 60 ≤ N }
+    ensures { length out.new ≤ length out.old + 60 }
 {
-    let next = lines::put_byte(b' ', out, at);
+    out.push(b' ');
     match i {
-        Item::Nothing => next,
-        Item::Reading(x) => put_millimetres(x, out, next),
+        Item::Reading(x) => put_millimetres(x, out),
         Item::Desk(desk) => {
-            let number = lines::put_bytes(b"desk ", out, next);
-            lines::put_decimal(desk, out, number)
+            out.push_bytes(b"desk ");
+            out.push_decimal(desk);
         }
-        Item::Stored(t) => put_tally(t, out, next),
+        Item::Stored(t) => put_tally(t, out),
         Item::Bad(x) => {
-            let number = lines::put_bytes(b"holds ", out, next);
-            lines::put_signed(x, out, number)
+            out.push_bytes(b"holds ");
+            out.push_signed(x);
         }
     }
 }

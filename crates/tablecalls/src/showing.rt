@@ -1,257 +1,172 @@
 // Showing a list of the table: the answers of `readings`, and of `owners` and `coarse` without arguments, part by part.
-ghost use Rattle.std.specs.Prelude.{◌≡◌, ◌+◌, ◌-◌, ◌<◌, ◌≤◌, length};
+ghost use Rattle.std.specs.Prelude.{◌≡◌, ◌+◌, ◌<◌, ◌≤◌, length, IfSome, OnOk};
 ghost use Rattle.words.specs.Refusals.{check_code};
 ghost use Rattle.tables.specs.Tables.{places};
 
-use crate::held::{Held, Part, Reply, Shown, Task};
+use crate::held::{Held, Rest, Shown, Table};
+use crate::items;
 use crate::items::Item;
-use crate::{held, items};
-use grid::TriangleCode;
+use grid::{Refusal, TriangleCode};
+use lines::Text;
 use replies::answers;
 
 // ---- one place
 
-// What stands before a place that is shown: the first, or a later one.
-fn put_separator(later: bool, out: &mut [u8], at: usize) -> usize
-    requires { at + 2 ≤ length out.old }
-    ensures { result ≤ at + 2 }
+// A place of the triangles of a degree: its triangle and what is shown of it. `later`: places were shown before.
+fn put_place<const N: usize>(degree: u64, place: usize, i: Item, later: bool, out: &mut Text<N>)
+    requires { (degree ≤ 6) × (place < places degree) × (length out.old + 90 ≤ N) }
+    ensures { length out.new ≤ length out.old + 90 }
 {
-    if later {
-        return lines::put_bytes(b", ", out, at);
-    }
-    lines::put_bytes(b": ", out, at)
-}
-
-// A place of the triangles of a degree: its triangle and what is shown of it, if anything.
-fn put_place(degree: u64, place: usize, i: Item, later: bool, out: &mut [u8], at: usize) -> usize
-    requires { (degree ≤ 6) × (place < places degree) × (at + 90 ≤ length out.old) }
-    ensures { result ≤ at + 90 }
-{
-    match i {
-        Item::Nothing => at,
-        _ => {
-            let code = put_separator(later, out, at);
-            let t = ordering::code_at(degree, place as u64);
-            let next = texts::put_digits(t.0, out, code);
-            items::put_item(i, out, next)
-        }
-    }
+    out.push_bytes(if later { b", " } else { b": " });
+    texts::put_digits(ordering::code_at(degree, place as u64).0, out);
+    items::put_item(i, out);
 }
 
 // ---- the answer
 
-// The degree of the triangles that are shown. (A table of degree 0 has none one degree up, and shows none.)
-fn degree_shown(shown: Shown, degree: u64) -> u64 {
+// All places that are shown. (A table of degree 0 has no triangles one degree up, and shows none.)
+fn all(shown: Shown, degree: u64) -> Rest
+    requires { degree ≤ 6 }
+{
     match shown {
-        Shown::Coarse => {
-            if degree == 0 {
-                return 0;
-            }
-            degree - 1
-        }
-        _ => degree,
+        Shown::Coarse if degree == 0 => Rest {
+            shown,
+            degree,
+            count: 0,
+        },
+        Shown::Coarse => Rest {
+            shown,
+            degree: degree - 1,
+            count: ordering::codes_of(degree - 1) as usize,
+        },
+        _ => Rest {
+            shown,
+            degree,
+            count: ordering::codes_of(degree) as usize,
+        },
     }
 }
 
-// How many these triangles are.
-fn places_shown(shown: Shown, degree: u64) -> usize {
+// Whether the lists have the places that are shown.
+fn check_length(shown: Shown, held: Held, n: usize) -> Result<(), Refusal> {
     match shown {
-        Shown::Coarse => held::parents_of(degree),
-        _ => held::places_of(degree),
+        Shown::Readings if held.readings != n => Err(Refusal::TableLength),
+        Shown::Owners if held.owners != n => Err(Refusal::Owners),
+        Shown::Coarse if held.counts != n || held.sums != n => Err(Refusal::SumsLength),
+        _ => Ok(()),
     }
 }
 
-fn refuse_if(is: bool, f: u64) -> u64 {
-    if is { f } else { 0 }
-}
-
-// 1, 20, and 22, 25 or 28: where the places are not those of the triangles of a degree from 0 to 6, or of those one
-// degree up; else 0.
-fn refuse(shown: Shown, held: Held) -> u64 {
-    let f = refusing::refuse_degree(held.degree);
-    if f != 0 {
-        return f;
-    }
-    let n = places_shown(shown, held.degree);
-    match shown {
-        Shown::Readings => refuse_if(held.readings != n, 22),
-        Shown::Owners => refuse_if(held.owners != n, 25),
-        Shown::Coarse => refuse_if((held.counts != n) | (held.sums != n), 28),
-    }
+// All places; or 1, 20, and 22, 25 or 28, where they are not those of the triangles of a degree from 0 to 6, or of
+// those one degree up.
+fn all_held(shown: Shown, held: Held) -> Result<Rest, Refusal> {
+    refusing::refuse_degree(held.degree)?;
+    let all = all(shown, held.degree);
+    check_length(shown, held, all.count)?;
+    Ok(all)
 }
 
 // What `coarse` refuses, and of the code 1 to 4 and 20.
-pub fn refuse_parent(held: Held, t: TriangleCode) -> u64
-    ensures { result ≡ 0 → check_code t ≡ 0 }
+pub fn check_parent(held: Held, t: TriangleCode) -> Result<(), Refusal>
+    ensures { OnOk result (check_code t ≡ 0) }
 {
-    let f = refuse(Shown::Coarse, held);
-    if f == 1 {
-        return 1;
+    if 24 < held.degree {
+        return Err(Refusal::Degree);
     }
-    let of_code = t.check();
-    if of_code != 0 {
-        return of_code;
+    t.check()?;
+    if words::degree_of(t.0) + 1 != held.degree {
+        return Err(Refusal::WrongDegree);
     }
-    let w = t.0;
-    if words::degree_of(w) + 1 != held.degree {
-        return 20;
-    }
-    f
+    all_held(Shown::Coarse, held)?;
+    Ok(())
 }
 
-fn one_if(is: bool) -> usize
-    ensures { result ≤ 1 }
-{
-    if is { 1 } else { 0 }
-}
-
-// How many of the first n places are counted.
-fn count(
-    shown: Shown,
-    n: usize,
-    list: &[i32],
-    owners: &[u8],
-    counts: &[u64],
-    sums: &[u64],
-) -> usize {
-    let mut count = 0;
-    let mut i = 0;
-    while i < n {
-        let item = items::item_at(shown, i, list, owners, counts, sums);
-        count += one_if(items::is_counted(item));
-        i += 1;
-    }
-    count
+// How many of the places are counted.
+fn count(all: Rest, table: &Table) -> usize {
+    (0..all.count)
+        .filter(|place| items::is_counted(items::item_at(all.shown, *place, table)))
+        .count()
 }
 
 // A word of at most 8 bytes for one, with an s after it for any other count.
-fn put_unit(word: &[u8], count: usize, out: &mut [u8], at: usize) -> usize
-    requires { (length word.now ≤ 8) × (at + 9 ≤ length out.old) }
-    ensures { result ≤ at + 9 }
+fn put_unit<const N: usize>(word: &[u8], count: usize, out: &mut Text<N>)
+    requires { (length word.now ≤ 8) × (length out.old + 9 ≤ N) }
+    ensures { length out.new ≤ length out.old + 9 }
 {
-    let end = lines::put_bytes(word, out, at);
-    if count == 1 {
-        return end;
+    out.push_bytes(word);
+    if count != 1 {
+        out.push(b's');
     }
-    lines::put_byte(b's', out, end)
 }
 
-fn put_count(shown: Shown, count: usize, out: &mut [u8]) -> usize
-    requires { 16384 ≤ length out.old }
-    ensures { result ≤ 100 }
+fn put_count<const N: usize>(shown: Shown, count: usize, out: &mut Text<N>)
+    requires { length out.old + 100 ≤ N }
+    ensures { length out.new ≤ length out.old + 100 }
 {
-    let unit = lines::put_decimal(count as u64, out, 0);
+    out.push_decimal(count as u64);
     match shown {
-        Shown::Readings => put_unit(b" reading", count, out, unit),
-        Shown::Owners => lines::put_bytes(b" owned", out, unit),
-        Shown::Coarse => put_unit(b" parent", count, out, unit),
+        Shown::Readings => put_unit(b" reading", count, out),
+        Shown::Owners => out.push_bytes(b" owned"),
+        Shown::Coarse => put_unit(b" parent", count, out),
     }
 }
 
-// The last `rest` places of the triangles of a degree, as many as there is room for, and how many are left. `later`:
-// places were shown before.
-fn put_places(
-    shown: Shown,
-    degree: u64,
-    rest: usize,
+// The rest of the places, as many as there is room for, and what is left of it then. `later`: places were shown before.
+fn put_places<const N: usize>(
+    rest: Rest,
     later: bool,
-    list: &[i32],
-    owners: &[u8],
-    counts: &[u64],
-    sums: &[u64],
-    out: &mut [u8],
-    start: usize,
-) -> Part
-    requires { (start ≤ 100) × (16384 ≤ length out.old) }
-    ensures { (result.size ≤ 16000) × (result.rest ≤ rest - 1) }
+    table: &Table,
+    out: &mut Text<N>,
+) -> Option<Rest>
+    requires { length out.old + 8000 ≤ N }
+    ensures text { length out.new ≤ length out.old + 8000 }
+    ensures fewer { IfSome result (λ left. left.count < rest.count) }
 {
-    // Neither can be: such a degree is refused before the first part, and no more is left than there are triangles.
-    if 6 < degree {
-        return Part {
-            size: start,
-            rest: 0,
-        };
-    }
-    let n = ordering::codes_of(degree) as usize;
-    if n < rest {
-        return Part {
-            size: start,
-            rest: 0,
-        };
-    }
-    let mut left = rest;
-    let mut at = start;
-    while 0 < left {
-        if 7900 < at {
-            return Part {
-                size: at,
-                rest: left,
-            };
+    let n = ordering::codes_of(rest.degree) as usize;
+    let first = n - rest.count;
+    let start = out.len();
+    for place in first..n {
+        if start + 7900 < out.len() {
+            return Some(Rest {
+                shown: rest.shown,
+                degree: rest.degree,
+                count: n - place,
+            });
         }
-        let place = n - left;
-        let item = items::item_at(shown, place, list, owners, counts, sums);
-        at = put_place(degree, place, item, later | (start < at), out, at);
-        left -= 1;
+        if let Some(item) = items::item_at(rest.shown, place, table) {
+            put_place(rest.degree, place, item, later || start < out.len(), out);
+        }
     }
-    Part { size: at, rest: 0 }
+    None
 }
 
-// The first part.
-pub fn show(
+// The first part, and what is still to be shown.
+pub fn show<const N: usize>(
     shown: Shown,
     held: Held,
-    list: &[i32],
-    owners: &[u8],
-    counts: &[u64],
-    sums: &[u64],
-    out: &mut [u8],
-) -> Reply
-    requires { 16384 ≤ length out.old }
-    ensures { result.size ≤ 16000 }
+    table: &Table,
+    out: &mut Text<N>,
+) -> Option<Rest>
+    requires { length out.old + 16000 ≤ N }
+    ensures { length out.new ≤ length out.old + 16000 }
 {
-    let f = refuse(shown, held);
-    if f != 0 {
-        return held::whole(answers::refused(f, out), held);
-    }
-    let n = places_shown(shown, held.degree);
-    let start = put_count(shown, count(shown, n, list, owners, counts, sums), out);
-    let degree = degree_shown(shown, held.degree);
-    let p = put_places(
-        shown, degree, n, false, list, owners, counts, sums, out, start,
-    );
-    let held = Held {
-        open: held.open,
-        degree: held.degree,
-        readings: held.readings,
-        owners: held.owners,
-        counts: held.counts,
-        sums: held.sums,
-        shown,
-    };
-    Reply {
-        size: p.size,
-        rest: p.rest,
-        held,
-        task: Task::Nothing,
+    match all_held(shown, held) {
+        Ok(all) => {
+            put_count(shown, count(all, table), out);
+            put_places(all, false, table, out)
+        }
+        Err(f) => {
+            answers::refused(f, out);
+            None
+        }
     }
 }
 
-// The next part, where `rest` places are still to be shown.
-pub fn go_on(
-    held: Held,
-    rest: usize,
-    list: &[i32],
-    owners: &[u8],
-    counts: &[u64],
-    sums: &[u64],
-    out: &mut [u8],
-) -> Part
-    requires { (0 < rest) × (16384 ≤ length out.old) }
-    ensures { (result.size ≤ 16000) × (result.rest < rest) }
+// The next part of what is still to be shown.
+pub fn go_on<const N: usize>(rest: Rest, table: &Table, out: &mut Text<N>) -> Option<Rest>
+    requires { length out.old + 16000 ≤ N }
+    ensures text { length out.new ≤ length out.old + 16000 }
+    ensures fewer { IfSome result (λ left. left.count < rest.count) }
 {
-    let shown = held.shown;
-    let degree = degree_shown(shown, held.degree);
-    put_places(
-        shown, degree, rest, true, list, owners, counts, sums, out, 0,
-    )
+    put_places(rest, true, table, out)
 }

@@ -1,15 +1,7 @@
--- `tablecalls::showing::put_places` is safe and ends. The loop's invariant: each place shown takes at most 90 bytes,
--- and the buffer has its length. The measure is how many are left. Assumes nothing.
-use mathlib.Core.Path.{◌≡◌}
-use Prim.Native.Nat.{◌+◌, ◌*◌, ◌≤◌}
-use lib.ListN.{length}
-use Rattle.tables.specs.Tables.{places}
+-- Each place that is shown takes at most 90 bytes, and none is shown after the 7900th. Assumes nothing.
+use Rattle.std.proofs.Common.{◌+◌, ◌-◌, ◌*◌, ◌≤◌, length}
 use Rattle.tablecalls.proofs.showing.put_places.Given as goal
 
-abbrev pub invariant-loop-left : goal.invariant-loop-left
-invariant-loop-left l =
-    (l.degree ≤ 6) × (l.n ≡ places l.degree) × (l.rest ≤ l.n) × (l.left ≤ l.rest) × (l.at ≤ 7990)
-    × (l.at + 90 * l.left ≤ 100 + 90 * l.rest) × (length l.out ≡ length l.initial.out)
-
-abbrev pub decreases-loop-left : goal.decreases-loop-left
-decreases-loop-left l = l.left
+abbrev pub invariant-loop-place : goal.invariant-loop-place
+invariant-loop-place g l =
+    (length l.out ≤ l.start + 7990) × (length l.out ≤ l.start + 90 * (l.place - l.first))

@@ -1,0 +1,2 @@
+-- A law of the console's table.
+pub mod Parents

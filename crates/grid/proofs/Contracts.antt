@@ -60,7 +60,8 @@ cross_keeps κs t k = as_promised (λ r. contracts.cross κs t k r)
     (keeps_told (λ (s : Step). step_answer 0 s.code s.edge s.first s.second) no_step (λ a. a.refusal) (λ s. refl)
     (λ f. refl)
     (λ x y e i. record { code = (e i).code; edge = (e i).edge; first = (e i).first; second = (e i).second })
-    (λ a p z. let n = (p.answered z).number in
-        (record { code = a.code; edge = a.edge; first = a.first; second = a.second },
-        λ i. record { refusal = sym n i; code = a.code; edge = a.edge; first = a.first; second = a.second }))
+    (λ a p z. let n = (p.answered z).number in (
+      record { code = a.code; edge = a.edge; first = a.first; second = a.second },
+      λ i. record { refusal = sym n i; code = a.code; edge = a.edge; first = a.first; second = a.second },
+    ))
     (first_number order _ tt) (demand_1.cross t k))

@@ -101,17 +101,35 @@ fn read_file(rt: &impl Files, name: &[u8], bytes: &mut [u8]) -> Option<usize>
     read_full(&mut file, bytes).ok()
 }
 
-// The table of the file of this name. (The buffer has room for the longest file and one byte more, so that a longer one
-// is told.)
+// Room for the longest file and one byte more, so that a longer one is told.
+fn room() -> [u8; 1310729] {
+    [0; 1310729]
+}
+
+// The table of a file that is read into this buffer.
+fn open_by<const N: usize>(
+    rt: &impl Files,
+    name: &[u8],
+    bytes: &mut [u8],
+    table: &mut Table,
+    out: &mut Text<N>,
+)
+    requires { length out.old + 200 ≤ N }
+    ensures { length out.new ≤ length out.old + 200 }
+{
+    match read_file(rt, name, bytes) {
+        Some(n) => files::open(&bytes[..n], table, out),
+        None => out.push_bytes(b"error: the file could not be read"),
+    }
+}
+
+// The table of the file of this name.
 fn open<const N: usize>(rt: &impl Files, name: &[u8], table: &mut Table, out: &mut Text<N>)
     requires { length out.old + 200 ≤ N }
     ensures { length out.new ≤ length out.old + 200 }
 {
-    let mut bytes = [0u8; 1310729];
-    match read_file(rt, name, &mut bytes) {
-        Some(n) => files::open(&bytes[..n], table, out),
-        None => out.push_bytes(b"error: the file could not be read"),
-    }
+    let mut bytes = room();
+    open_by(rt, name, &mut bytes, table, out);
 }
 
 // ---- by a line

@@ -1,0 +1,2 @@
+-- A law of an answer that goes on.
+pub mod Going

@@ -82,6 +82,7 @@ fn read_full(file: &mut impl Read, bytes: &mut [u8]) -> io::Result<usize>
     ensures { IfOk result (λ n. n ≤ length bytes.old) }
 {
     let mut n = 0;
+    // A read brings any number of bytes, so no for counts them; and the library's read_to_end allocates.
     while n < bytes.len() {
         let got = file.read(&mut bytes[n..])?;
         if got == 0 {

@@ -1,4 +1,4 @@
--- The contracts, by computation.
+-- The contracts, by computation; and a law that docs name and no code uses any longer.
 pub mod Host
 pub mod Sweeps
 pub mod Soundings
@@ -9,3 +9,4 @@ pub mod Opposites
 pub mod Paper
 pub mod Marks
 pub mod Verdicts
+pub mod Placing

@@ -6,7 +6,7 @@
 // stays in its buffers, and that it uses the console by its contract.
 #![tactic(auto)]
 
-ghost use Rattle.std.specs.Prelude.{◌≤◌, length, OnOk};
+ghost use Rattle.std.specs.Prelude.{◌≡◌, ◌≤◌, length};
 
 use console::{Rest, Table};
 use lines::Text;
@@ -40,7 +40,7 @@ impl Talk {
 
     // Writes the answers so far.
     fn flush(&mut self, rt: &impl Print) -> Result<(), Failure>
-        ensures { length self.new.answers ≤ 0 }
+        ensures { length self.new.answers ≡ 0 }
     {
         let written = rt.write_all(self.answers.as_bytes());
         self.answers.clear();
@@ -83,8 +83,10 @@ impl Talk {
 
     // The line has ended: its answer, and a line end after it.
     fn end_line(&mut self, rt: &(impl Print + Files)) -> Result<(), Failure> {
-        self.make_room(rt)?;
+        // A line that is read is answered, also where no answer can be written any more.
+        let room = self.make_room(rt);
         let rest = self.answer(rt);
+        room?;
         self.put_rest(rt, rest)?;
         self.make_room(rt)?;
         self.answers.push(b'\n');

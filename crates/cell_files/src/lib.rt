@@ -54,8 +54,10 @@ fn read_all(input: &mut impl Read) -> Option<Held> {
 
 // The line of what is held, and where it is asked for the second line.
 fn told(held: &Held, verbose: bool) -> Text<600> {
+    let mut line = [0; 55];
+    let n = verdicts::put_line(&held.head, held.size, &mut line);
     let mut out = Text::new();
-    verdicts::write_line(&held.head, held.size, &mut out);
+    out.push_bytes(&line[..n]);
     if verbose {
         telling::put_more(held, &mut out);
     }

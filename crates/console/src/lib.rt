@@ -9,7 +9,7 @@ use gridcalls::{calls, lists, sweeping};
 use lines::{Text, Words};
 use replies::{answers, help};
 use tablecalls::desks;
-pub use tablecalls::held::{Rest, Shown, Table, Task};
+pub use tablecalls::held::{Held, Rest, Shown, Table, Task};
 use texts::Call;
 
 // The answer of many places goes on.
@@ -78,7 +78,7 @@ fn plain_answer<const N: usize>(call: Call, words: Words<'_>, out: &mut Text<N>)
 fn call_answer<'a, const N: usize>(
     call: Call,
     words: Words<'a>,
-    table: &mut Table,
+    table: &mut Table<'_>,
     out: &mut Text<N>,
 ) -> Option<Task<'a>>
     requires { length out.old + 16000 ≤ N }
@@ -110,7 +110,7 @@ fn call_answer<'a, const N: usize>(
 // #: no answer.
 pub fn answer<'a, const N: usize>(
     line: &'a [u8],
-    table: &mut Table,
+    table: &mut Table<'_>,
     out: &mut Text<N>,
 ) -> Option<Task<'a>>
     requires { length out.old + 16000 ≤ N }

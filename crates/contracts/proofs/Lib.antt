@@ -1,4 +1,4 @@
--- The contracts, by computation; and a law that docs name and no code uses any longer.
+-- The contracts and the zeros, by computation; and a law that docs name and no code uses any longer.
 pub mod Host
 pub mod Sweeps
 pub mod Soundings
@@ -9,4 +9,5 @@ pub mod Opposites
 pub mod Paper
 pub mod Marks
 pub mod Verdicts
+pub mod Zeros
 pub mod Placing

@@ -1,4 +1,4 @@
--- What a reader must believe: that a call's contract is just its promise.
+-- What a reader must believe: that a call's contract is just its promise, and the zeros that a refusal is told with.
 pub mod Host
 pub mod Sweeps
 pub mod Soundings
@@ -9,3 +9,4 @@ pub mod Opposites
 pub mod Paper
 pub mod Marks
 pub mod Verdicts
+pub mod Zeros

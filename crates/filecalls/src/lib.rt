@@ -15,6 +15,11 @@ use std::{fs, io, str};
 use tablecalls::held::{Held, Rest, Table, Task};
 use tablecalls::{desks, files};
 
+// Room for the longest file and one byte more, so that a longer one is told.
+fn room() -> [u8; 1310729] {
+    [0; 1310729]
+}
+
 // ---- save
 
 // Writes all bytes to a file, and to the disk, and closes it.
@@ -60,17 +65,54 @@ fn write_file(rt: &impl Files, name: &[u8], bytes: &[u8]) -> Option<()> {
     write_as(rt, new, bytes, name).ok()
 }
 
-// The table that is held to the file of this name.
-fn save<const N: usize>(rt: &impl Files, held: Held, name: &[u8], table: &Table, out: &mut Text<N>)
+// The same by way of a buffer for its bytes.
+fn save_by<const N: usize>(
+    rt: &impl Files,
+    held: Held,
+    name: &[u8],
+    table: &Table<'_>,
+    bytes: &mut [u8],
+    out: &mut Text<N>,
+)
+    requires { (1310728 ≤ length bytes.old) × (length out.old + 200 ≤ N) }
+    ensures { length out.new ≤ length out.old + 200 }
+{
+    let n = files::put_file(held, table.readings, table.owners, bytes);
+    match write_file(rt, name, &bytes[..n]) {
+        Some(()) => out.push_bytes(b"ok"),
+        None => out.push_bytes(b"error: the file could not be written"),
+    }
+}
+
+// A table that is not refused.
+#[inline(never)]
+fn save_sound<const N: usize>(
+    rt: &impl Files,
+    held: Held,
+    name: &[u8],
+    table: &Table<'_>,
+    out: &mut Text<N>,
+)
     requires { length out.old + 200 ≤ N }
     ensures { length out.new ≤ length out.old + 200 }
 {
-    let mut bytes = [0u8; 1310744];
-    match files::put_file(held, table, &mut bytes) {
-        Ok(n) => match write_file(rt, name, &bytes[..n]) {
-            Some(()) => out.push_bytes(b"ok"),
-            None => out.push_bytes(b"error: the file could not be written"),
-        },
+    let mut bytes = room();
+    save_by(rt, held, name, table, &mut bytes, out);
+}
+
+// The table that is held to the file of this name.
+pub fn save<const N: usize>(
+    rt: &impl Files,
+    held: Held,
+    name: &[u8],
+    table: &Table<'_>,
+    out: &mut Text<N>,
+)
+    requires { length out.old + 200 ≤ N }
+    ensures { length out.new ≤ length out.old + 200 }
+{
+    match files::refuse_save(held, table.readings, table.owners) {
+        Ok(()) => save_sound(rt, held, name, table, out),
         Err(f) => desks::put_refused(f, out),
     }
 }
@@ -102,17 +144,12 @@ fn read_file(rt: &impl Files, name: &[u8], bytes: &mut [u8]) -> Option<usize>
     read_full(&mut file, bytes).ok()
 }
 
-// Room for the longest file and one byte more, so that a longer one is told.
-fn room() -> [u8; 1310729] {
-    [0; 1310729]
-}
-
 // The table of a file that is read into this buffer.
 fn open_by<const N: usize>(
     rt: &impl Files,
     name: &[u8],
     bytes: &mut [u8],
-    table: &mut Table,
+    table: &mut Table<'_>,
     out: &mut Text<N>,
 )
     requires { length out.old + 200 ≤ N }
@@ -125,7 +162,8 @@ fn open_by<const N: usize>(
 }
 
 // The table of the file of this name.
-fn open<const N: usize>(rt: &impl Files, name: &[u8], table: &mut Table, out: &mut Text<N>)
+#[inline(never)]
+pub fn open<const N: usize>(rt: &impl Files, name: &[u8], table: &mut Table<'_>, out: &mut Text<N>)
     requires { length out.old + 200 ≤ N }
     ensures { length out.new ≤ length out.old + 200 }
 {
@@ -139,7 +177,7 @@ fn open<const N: usize>(rt: &impl Files, name: &[u8], table: &mut Table, out: &m
 pub fn finish<const N: usize>(
     rt: &impl Files,
     task: Task<'_>,
-    table: &mut Table,
+    table: &mut Table<'_>,
     out: &mut Text<N>,
 ) -> Option<Rest>
     requires { length out.old + 200 ≤ N }

@@ -32,6 +32,18 @@ fn glyph(d: u64) -> u8
     }
 }
 
+// The last digits of n, over all of a buffer. (On a buffer of their own the length of a text is read and written once,
+// and not for each digit.)
+fn lay_digits(base: u64, n: u64, out: &mut [u8])
+    requires { (0 < base) × (base ≤ 16) }
+    ensures { out.new ≡ writing.digits base (length out.old) n }
+{
+    if let Some((last, others)) = out.split_last_mut() {
+        lay_digits(base, n / base, others);
+        *last = glyph(n % base);
+    }
+}
+
 impl<const N: usize> Text<N> {
     // No byte yet.
     pub fn new() -> Self
@@ -93,10 +105,11 @@ impl<const N: usize> Text<N> {
         ensures text { self.new ≡ self.old ++ writing.digits base k n }
         ensures within { length self.new ≤ length self.old + k }
     {
-        if 0 < k {
-            self.push_digits(base, k - 1, n / base);
-            self.push(glyph(n % base));
-        }
+        let len = self.len;
+        let count = k as usize;
+        let bytes = &mut self.bytes[..];
+        lay_digits(base, n, &mut bytes[len..len + count]);
+        self.len += count;
     }
 
     // The last k decimal digits of n, with no zeros in front.

@@ -30,17 +30,24 @@ enum Failure {
 
 // ---- filing
 
-// A sweep under way: the direction so far; those that are read and not filed yet, three numbers each; the lines so far;
+// The directions that are read and not filed yet, three numbers each.
+#[derive(Drop)]
+struct Batch {
+    dirs: [i32; 3072],
+    count: usize,
+    ghost in_room: { count ≤ 1024 },
+}
+
+// A sweep under way: the direction so far; those that wait; room for their codes, which is made once; the lines so far;
 // and what has been filed.
 #[derive(Drop)]
 struct Sweep {
     degree: u64,
     piece: Piece,
-    dirs: [i32; 3072],
-    count: usize,
+    batch: Batch,
+    codes: [u64; 1024],
     out: Text<65536>,
     tally: Tally,
-    ghost in_room: { count ≤ 1024 },
 }
 
 impl Sweep {
@@ -48,8 +55,11 @@ impl Sweep {
         Sweep {
             degree,
             piece: Piece::new(packed),
-            dirs: [0; 3072],
-            count: 0,
+            batch: Batch {
+                dirs: [0; 3072],
+                count: 0,
+            },
+            codes: [0; 1024],
             out: Text::new(),
             tally: Tally::default(),
         }
@@ -58,7 +68,7 @@ impl Sweep {
     // Writes the lines so far.
     fn flush(&mut self, rt: &impl Print) -> Result<(), Failure>
         ensures empty { length self.new.out ≡ 0 }
-        ensures rest { self.new.count ≡ self.old.count }
+        ensures rest { self.new.batch.count ≡ self.old.batch.count }
     {
         let written = rt.write_all(self.out.as_bytes());
         self.out.clear();
@@ -68,7 +78,7 @@ impl Sweep {
     // The same where there may be no room for those of 1024 directions, and of one that is not read.
     fn make_room(&mut self, rt: &impl Print) -> Result<(), Failure>
         ensures room { length self.new.out ≤ 35000 }
-        ensures rest { self.new.count ≡ self.old.count }
+        ensures rest { self.new.batch.count ≡ self.old.batch.count }
     {
         if self.out.len() <= 35000 {
             return Ok(());
@@ -79,35 +89,43 @@ impl Sweep {
     // Files the directions that are read. (The call as a whole is not refused: the degree is none that is.)
     fn file(&mut self, rt: &impl Print) -> Result<(), Failure>
         ensures room { length self.new.out ≤ 65000 }
-        ensures filed { OnOk result (self.new.count ≡ 0) }
+        ensures filed { OnOk result (self.new.batch.count ≡ 0) }
     {
         self.make_room(rt)?;
-        let mut codes = [0; 1024];
-        let codes = &mut codes[..self.count];
-        let dirs = &self.dirs[..3 * self.count];
+        if self.batch.count == 0 {
+            return Ok(());
+        }
+        let batch = &self.batch;
+        let dirs = &batch.dirs[..3 * batch.count];
+        let codes = &mut self.codes[..];
+        let codes = &mut codes[..batch.count];
         let refused = sweeper::sweep(self.degree, dirs, codes).unwrap_or(None);
         results::put_all(self.degree, dirs, codes, &mut self.out);
-        self.tally.add_swept(self.count as u64, refused);
-        self.count = 0;
+        self.tally.add_swept(batch.count as u64, refused);
+        self.batch.count = 0;
         Ok(())
     }
 
     // One direction more.
     fn add(&mut self, rt: &impl Print, direction: [i32; 3]) -> Result<(), Failure> {
-        if self.count == 1024 {
+        if self.batch.count == 1024 {
             self.file(rt)?;
         }
         let [x, y, z] = direction;
-        let k = 3 * self.count;
-        self.dirs[k] = x;
-        self.dirs[k + 1] = y;
-        self.dirs[k + 2] = z;
-        self.count += 1;
+        let k = 3 * self.batch.count;
+        self.batch.dirs[k] = x;
+        self.batch.dirs[k + 1] = y;
+        self.batch.dirs[k + 2] = z;
+        self.batch.count += 1;
         Ok(())
     }
 
-    // Passes over a direction that was not read.
+    // Passes over a direction that was not read. (As many as are filed at once are filed before it by themselves, and
+    // there is room anew for its line: so each write has the bytes that it always had.)
     fn pass_over(&mut self, rt: &impl Print) -> Result<(), Failure> {
+        if self.batch.count == 1024 {
+            self.file(rt)?;
+        }
         self.file(rt)?;
         results::put_not_read(&mut self.out);
         self.tally.add_unread();
@@ -122,12 +140,37 @@ impl Sweep {
         }
     }
 
-    // The bytes that one read brought.
-    fn take(&mut self, rt: &impl Print, chunk: &[u8]) -> Result<(), Failure> {
-        for b in chunk {
-            if self.piece.take(*b) {
+    // Bytes of lines, line by line.
+    fn take_lines(&mut self, rt: &impl Print, chunk: &[u8]) -> Result<(), Failure> {
+        for part in chunk.split_inclusive(|b| *b == b'\n') {
+            if self.piece.take_line(part) {
                 self.end(rt)?;
             }
+        }
+        Ok(())
+    }
+
+    // Packed bytes: what the direction so far lacks, and then twelve by twelve.
+    fn take_packed(&mut self, rt: &impl Print, chunk: &[u8]) -> Result<(), Failure> {
+        let n = chunk.len().min(self.piece.missing());
+        let (first, others) = chunk.split_at(n);
+        if self.piece.take_packed(first) {
+            self.end(rt)?;
+        }
+        for part in others.chunks(12) {
+            if self.piece.take_packed(part) {
+                self.end(rt)?;
+            }
+        }
+        Ok(())
+    }
+
+    // The bytes that one read brought.
+    fn take(&mut self, rt: &impl Print, chunk: &[u8]) -> Result<(), Failure> {
+        if self.piece.packed {
+            self.take_packed(rt, chunk)?;
+        } else {
+            self.take_lines(rt, chunk)?;
         }
         self.file(rt)?;
         self.flush(rt)

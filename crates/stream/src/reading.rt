@@ -7,7 +7,7 @@ use lines::{Text, Words};
 #[derive(Drop)]
 pub struct Piece {
     bytes: Text<1001>,
-    packed: bool,
+    pub packed: bool,
 }
 
 impl Piece {
@@ -23,15 +23,35 @@ impl Piece {
         self.bytes.len() == 0
     }
 
-    // One byte more, and whether the direction has ended.
-    pub fn take(&mut self, b: u8) -> bool {
-        if !self.packed && b == b'\n' {
-            return true;
+    // How many bytes a packed one still lacks.
+    pub fn missing(&self) -> usize {
+        12 - self.bytes.len().min(12)
+    }
+
+    // So many bytes more as are kept.
+    fn keep(&mut self, part: &[u8]) {
+        let n = part.len().min(1001 - self.bytes.len());
+        self.bytes.push_bytes(&part[..n]);
+    }
+
+    // A part of its line, and whether the line has ended: then the part has the line end.
+    pub fn take_line(&mut self, part: &[u8]) -> bool {
+        match part {
+            [line @ .., b'\n'] => {
+                self.keep(line);
+                true
+            }
+            _ => {
+                self.keep(part);
+                false
+            }
         }
-        if self.bytes.len() <= 1000 {
-            self.bytes.push(b);
-        }
-        self.packed && self.bytes.len() == 12
+    }
+
+    // A part of its twelve bytes, and whether these are all.
+    pub fn take_packed(&mut self, part: &[u8]) -> bool {
+        self.keep(part);
+        self.bytes.len() == 12
     }
 
     // The direction, where it can be read. The next one begins.

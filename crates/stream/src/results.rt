@@ -1,16 +1,20 @@
 // The lines of standard output, one for each direction.
 ghost use Rattle.std.specs.Prelude.{◌+◌, ◌*◌, ◌≤◌, length};
 
+use filing::Direction;
 use lines::Text;
 
-// The refusal of a direction that is refused: the sweep of all tells the first one's alone.
+// The refusal of a direction that is refused, by the single call: the sweep of all tells the first one's alone.
 fn put_refused<const N: usize>(degree: u64, direction: &[i32], out: &mut Text<N>)
     requires { length out.old + 28 ≤ N }
     ensures { length out.new ≤ length out.old + 28 }
 {
-    if let Ok(Some(refused)) = sweeper::sweep(degree, direction, &mut [0]) {
+    let [x, y, z] = *direction else {
+        return;
+    };
+    if let Err(f) = directions::file(degree, Direction { x, y, z }) {
         out.push_bytes(b"refused ");
-        out.push_decimal(u64::from(refused.refusal));
+        out.push_decimal(u64::from(f));
     }
 }
 

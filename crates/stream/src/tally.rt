@@ -20,19 +20,12 @@ pub struct Tally {
 // What two parts come to, the first of h directions; the first alone where a number would be too large: no input lasts
 // for so many.
 fn join(h: u64, a: Option<Unfiled>, b: Option<Unfiled>) -> Option<Unfiled> {
-    let Some(later) = b else {
-        return a;
-    };
-    let Some(place) = h.checked_add(later.place) else {
-        return a;
-    };
-    let Some(before) = a else {
-        return Some(Unfiled { place, ..later });
-    };
-    if before.count.checked_add(later.count).is_none() {
+    let before = a.map_or(0, |part| part.count);
+    let (count, place) = b.map_or((0, 0), |part| (part.count, part.place));
+    if before.checked_add(count).is_none() || h.checked_add(place).is_none() {
         return a;
     }
-    sweeps::join(h, a, b)
+    sweeps::join(h, Ok(a), Ok(b))
 }
 
 impl Tally {

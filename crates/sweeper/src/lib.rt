@@ -9,7 +9,7 @@ ghost use Rattle.words.specs.Family.{code_told};
 ghost use Rattle.directions.specs.Answers.{FileAnswer};
 ghost use Rattle.sweeps.specs.Answers.{SweepResult, sweep_told, unfiled_told};
 ghost use Rattle.sweeps.specs.Promises.{direction_at};
-ghost use Rattle.sweeps.specs.Means.Counted.{CountedInto, is_zero, Tells};
+ghost use Rattle.sweeps.specs.Means.Counted.{CountedInto, is_zero, Refuses, Tells};
 
 use filing::Direction;
 use frame::Refusal;
@@ -65,7 +65,8 @@ fn file_halves(degree: u64, dirs: &[i32], codes: &mut [u64]) -> u64
 // The answer, where so many are refused: the first is the first with the code 0, and is asked once more for its
 // refusal.
 fn tell(degree: u64, dirs: &[i32], codes: &[u64], refused: u64) -> Option<Unfiled>
-    requires { (refused ≡ 0 → ⊥) → 3 * first_place is_zero codes.now + 2 < length dirs.now }
+    requires { (refused ≡ 0 → ⊥) → (3 * first_place is_zero codes.now + 2 < length dirs.now)
+        × Refuses degree (direction_at dirs.now (first_place is_zero codes.now)) }
     ensures { Tells degree dirs.now (first_place is_zero codes.now) refused (unfiled_told result) }
 {
     if refused == 0 {

@@ -19,7 +19,7 @@ use Rattle.sweeps.specs.Sweeps.{SweepAnswer, Singles, done, then, codes_of, refu
 use Rattle.sweeps.specs.Sweeps.{told, Swept}
 use Rattle.sweeps.specs.Answers.{SweptInto}
 use Rattle.sweeps.specs.Promises.{direction_at}
-use Rattle.sweeps.specs.Means.Counted.{Counted, CountedInto, is_zero, Tells}
+use Rattle.sweeps.specs.Means.Counted.{Counted, CountedInto, is_zero, Refuses, Tells}
 use Rattle.sweeps.proofs.SingleCalls.{singles_append, singles_long, codes_append, refusals_append, codes_long}
 use Rattle.sweeps.proofs.SingleCalls.{refusals_long, many, refusal_at}
 use Rattle.sweeps.proofs.Told.{non_append, non_most, told_none, told_some, first_refused_lem}
@@ -169,6 +169,17 @@ module _ {n : ℕ} {dirs : List ℤ} {m : ℕ} {cs : List ℕ} (rest : List ℕ)
       go zero e z = absurd (z refl)
       go (suc k) e z = omega (arith, place e, inside e)
 
+  -- and that one is refused
+  pub zero_refused : (m ≡ 0 → ⊥) → Refuses n (direction_at dirs (first_place is_zero (cs ++ rest)))
+  zero_refused some s f z = go m refl
+    where
+      go : (k : ℕ) → m ≡ k → ⊥
+      go zero e = some e
+      go (suc k) e =
+          let h : FileAnswer n (direction_at dirs (first_refused fs)) s =
+          subst (λ (i : ℕ). FileAnswer n (direction_at dirs i) s) (place e) f in
+          (first_refused_lem fs k (sym x.count ∙ e)).1 (refusal_at x.each (first_refused fs) s (inside e) h ∙ z)
+
   pub tells_swept : {r : SweepAnswer} → Tells n dirs (first_place is_zero (cs ++ rest)) m r → Swept n dirs r cs
   tells_swept {r} t = record { singles = x.singles; each = x.each; answer = go m refl; are = x.are }
     where
@@ -181,7 +192,7 @@ module _ {n : ℕ} {dirs : List ℤ} {m : ℕ} {cs : List ℕ} (rest : List ℕ)
           let f : FileAnswer n (direction_at dirs (first_refused fs)) s.0 =
           subst (λ (i : ℕ). FileAnswer n (direction_at dirs i) s.0) p s.1 in
           let g : get_or fs (first_refused fs) 0 ≡ s.0.refusal = refusal_at x.each (first_refused fs) s.0 (inside e) f in
-          s.2 (λ z. (first_refused_lem fs k q).1 (g ∙ z)) ∙ (λ i. sweep_answer 0 (e i) (p i) (sym g i))
+          s.2 ∙ (λ i. sweep_answer 0 (e i) (p i) (sym g i))
           ∙ sym (told_some fs k q)
 
 -- the same in a list
@@ -194,6 +205,13 @@ tells_into {n} {dirs} {out} {new} {m} {r} x t = record {
       (subst (λ (l : List ℕ). Tells n dirs (first_place is_zero l) m r) x.put t);
   put = x.put;
 }
+
+pub refused_in : {n : ℕ} {dirs : List ℤ} {out new : List ℕ} {m : ℕ} → CountedInto n dirs out m new
+    → (m ≡ 0 → ⊥)
+    → Refuses n (direction_at dirs (first_place is_zero new))
+refused_in {n} {dirs} {out} {new} x k =
+    subst (λ (l : List ℕ). Refuses n (direction_at dirs (first_place is_zero l))) (sym x.put)
+    (zero_refused (drop (length x.codes) out) x.counted k)
 
 pub zero_in : {n : ℕ} {dirs : List ℤ} {out new : List ℕ} {m : ℕ} → CountedInto n dirs out m new
     → (m ≡ 0 → ⊥)

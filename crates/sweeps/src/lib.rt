@@ -5,7 +5,7 @@
 
 ghost use Rattle.std.specs.Prelude.{◌≡◌, ◌+◌, ◌^◌, ◌<◌};
 ghost use Rattle.frame.specs.Lists.{first_place};
-ghost use Rattle.sweeps.specs.Answers.{unfiled_told};
+ghost use Rattle.sweeps.specs.Answers.{sweep_told, unfiled_told};
 ghost use Rattle.sweeps.specs.Promises.{joined};
 ghost use Rattle.sweeps.specs.Means.Counted.{is_zero};
 
@@ -20,12 +20,19 @@ pub struct Unfiled {
     pub refusal: Refusal,
 }
 
-// What two parts come to, the first of h directions. (A count of 0 is as none: any two values can be joined.)
-pub fn join(h: u64, a: Option<Unfiled>, b: Option<Unfiled>) -> Option<Unfiled>
-    requires { ((unfiled_told a).refused + (unfiled_told b).refused < 2 ^ 64)
-        × (h + (unfiled_told b).place < 2 ^ 64) }
-    ensures { unfiled_told result ≡ joined h (unfiled_told a) (unfiled_told b) }
+// What two parts come to, of what a sweep answers of each, the first of h directions. (Of a part that is refused as a
+// whole nothing is refused, as where its count is 0: any two answers can be joined.)
+pub fn join(
+    h: u64,
+    a: Result<Option<Unfiled>, Refusal>,
+    b: Result<Option<Unfiled>, Refusal>,
+) -> Option<Unfiled>
+    requires { ((sweep_told a).refused + (sweep_told b).refused < 2 ^ 64)
+        × (h + (sweep_told b).place < 2 ^ 64) }
+    ensures { unfiled_told result ≡ joined h (sweep_told a) (sweep_told b) }
 {
+    let a = a.unwrap_or(None);
+    let b = b.unwrap_or(None);
     let later = match b {
         Some(b) => b.count,
         None => 0,

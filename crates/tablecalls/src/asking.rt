@@ -7,15 +7,20 @@ use replies::arguments;
 use tables::Deed;
 use texts::Call;
 
+// How many places the console has for readings and for owners, and for counts and for sums.
+const PLACES: usize = 81921;
+
+const PARENTS: usize = 20481;
+
 // A call: a fresh table of a degree, or one of this list of readings; another list for the table that is open; what a
 // desk does with a triangle; work-out; those that change nothing; and those on the file of a name.
-#[derive(Drop)]
+#[derive(Clone, Copy)]
 pub enum Asked<'a> {
     Fresh(u64),
-    Table(u64, Listing<'a, i32, 81921>),
-    Owners(Listing<'a, u8, 81921>),
-    Counts(Listing<'a, u64, 20481>),
-    Sums(Listing<'a, u64, 20481>),
+    Table(u64, Listing<'a, i32>),
+    Owners(Listing<'a, u8>),
+    Counts(Listing<'a, u64>),
+    Sums(Listing<'a, u64>),
     Desk(u64, TriangleCode, Deed),
     WorkOut,
     Get(TriangleCode),
@@ -31,14 +36,14 @@ fn table(mut words: Words<'_>) -> Option<Asked<'_>> {
     if words.is_empty() {
         return Some(Asked::Fresh(degree));
     }
-    Some(Asked::Table(degree, Listing::read(words)?))
+    Some(Asked::Table(degree, Listing::read(words, PLACES)?))
 }
 
 fn owners(words: Words<'_>) -> Option<Asked<'_>> {
     if words.is_empty() {
         return Some(Asked::Show(Shown::Owners));
     }
-    Some(Asked::Owners(Listing::read(words)?))
+    Some(Asked::Owners(Listing::read(words, PLACES)?))
 }
 
 // What stands after DESK CODE: of set the reading, of the others nothing.
@@ -100,8 +105,8 @@ pub fn read(call: Call, words: Words<'_>) -> Option<Asked<'_>> {
         Call::Owners => owners(words),
         Call::Coarse => coarse(words),
         Call::WorkOut => alone(words, Asked::WorkOut),
-        Call::Counts => Some(Asked::Counts(Listing::read(words)?)),
-        Call::Sums => Some(Asked::Sums(Listing::read(words)?)),
+        Call::Counts => Some(Asked::Counts(Listing::read(words, PARENTS)?)),
+        Call::Sums => Some(Asked::Sums(Listing::read(words, PARENTS)?)),
         Call::Save => Some(Asked::Save(file_name(&words)?)),
         Call::Open => Some(Asked::Open(file_name(&words)?)),
         // No other call is on the table.

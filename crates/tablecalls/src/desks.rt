@@ -1,5 +1,5 @@
 // The calls on the table that is held: each is read from its line (asking), then made, and what came of it is told.
-ghost use Rattle.std.specs.Prelude.{◌+◌, ◌≤◌, length};
+ghost use Rattle.std.specs.Prelude.{◌≡◌, ◌+◌, ◌≤◌, length, MatchOption};
 
 use crate::asking::Asked;
 use crate::held::{Held, Table, Task};
@@ -31,6 +31,13 @@ pub fn put_opened<const N: usize>(held: Held, out: &mut Text<N>)
     out.push_decimal(held.degree);
     out.push_bytes(b", ");
     put_length(held.readings, out);
+}
+
+fn put_none_open<const N: usize>(out: &mut Text<N>)
+    requires { length out.old + 100 ≤ N }
+    ensures { length out.new ≤ length out.old + 100 }
+{
+    out.push_bytes(b"error: no table is open; table DEGREE opens one");
 }
 
 // A refusal; with 23 its place.
@@ -95,8 +102,8 @@ fn put_stored<const N: usize>(answer: Result<Tally, Refusal>, out: &mut Text<N>)
 // The table of a list of readings. With it come the other lists: all is nobody's, and all counts and sums are 0.
 fn open<const N: usize>(
     degree: u64,
-    list: &Listing<'_, i32, 81921>,
-    table: &mut Table,
+    list: &Listing<'_, i32>,
+    table: &mut Table<'_>,
     out: &mut Text<N>,
 )
     requires { length out.old + 200 ≤ N }
@@ -111,15 +118,15 @@ fn open<const N: usize>(
         counts: parents,
         sums: parents,
     };
-    list.lay(&mut table.readings);
-    table.owners[..n].fill(0);
-    table.counts[..parents].fill(0);
-    table.sums[..parents].fill(0);
+    list.lay(table.readings);
+    Listing::filled(n, 0).lay(table.owners);
+    Listing::filled(parents, 0).lay(table.counts);
+    Listing::filled(parents, 0).lay(table.sums);
     table.held = Some(held);
     put_opened(held, out);
 }
 
-fn open_fresh<const N: usize>(degree: u64, table: &mut Table, out: &mut Text<N>)
+fn open_fresh<const N: usize>(degree: u64, table: &mut Table<'_>, out: &mut Text<N>)
     requires { length out.old + 200 ≤ N }
     ensures { length out.new ≤ length out.old + 200 }
 {
@@ -130,7 +137,7 @@ fn open_fresh<const N: usize>(degree: u64, table: &mut Table, out: &mut Text<N>)
 }
 
 // Of a triangle one degree up.
-fn stored(t: TriangleCode, held: Held, table: &Table) -> Result<Tally, Refusal> {
+fn stored(t: TriangleCode, held: Held, table: &Table<'_>) -> Result<Tally, Refusal> {
     showing::check_parent(held, t)?;
     Ok(items::tally_at(ordering::place_of(t) as usize, table))
 }
@@ -138,19 +145,13 @@ fn stored(t: TriangleCode, held: Held, table: &Table) -> Result<Tally, Refusal> 
 fn carry_out(
     deed: Deed,
     desk: u64,
+    degree: u64,
     t: TriangleCode,
-    held: Held,
-    table: &mut Table,
+    list: &mut [i32],
+    owners: &mut [u8],
+    counts: &mut [u64],
+    sums: &mut [u64],
 ) -> Result<(), TableRefusal> {
-    let degree = held.degree;
-    let list = &mut table.readings[..];
-    let owners = &mut table.owners[..];
-    let counts = &mut table.counts[..];
-    let sums = &mut table.sums[..];
-    let list = &mut list[..held.readings];
-    let owners = &mut owners[..held.owners];
-    let counts = &mut counts[..held.counts];
-    let sums = &mut sums[..held.sums];
     match deed {
         Deed::Taking => soundings::take(desk, degree, t, list, owners, counts, sums),
         Deed::Setting(x) => soundings::set(desk, degree, t, x, list, owners, counts, sums),
@@ -159,23 +160,39 @@ fn carry_out(
     }
 }
 
-pub fn work_out(held: Held, table: &mut Table) -> Result<(), TableRefusal> {
-    let list = &table.readings[..held.readings];
-    let counts = &mut table.counts[..];
-    let sums = &mut table.sums[..];
-    soundings::work_out(
-        held.degree,
-        list,
-        &mut counts[..held.counts],
-        &mut sums[..held.sums],
-    )
+// On the places that are the table's own. Where a list has fewer, nothing is written.
+fn on_own<const N: usize>(
+    asked: Asked<'_>,
+    held: Held,
+    table: &mut Table<'_>,
+    out: &mut Text<N>,
+) -> Option<()>
+    requires { length out.old + 600 ≤ N }
+    ensures { MatchOption result (out.new ≡ out.old) (λ _. length out.new ≤ length out.old + 600) }
+{
+    let degree = held.degree;
+    let list = table.readings.get_mut(..held.readings)?;
+    let owners = table.owners.get_mut(..held.owners)?;
+    let counts = table.counts.get_mut(..held.counts)?;
+    let sums = table.sums.get_mut(..held.sums)?;
+    match asked {
+        Asked::Desk(desk, t, deed) => put_written(
+            carry_out(deed, desk, degree, t, list, owners, counts, sums),
+            out,
+        ),
+        Asked::WorkOut => put_written(soundings::work_out(degree, list, counts, sums), out),
+        Asked::Get(t) => put_sounding(soundings::get(degree, t, list), out),
+        Asked::Mark(t) => put_mark(marks::table_mark(degree, t, list), out),
+        _ => return None,
+    }
+    Some(())
 }
 
 // On the table that is open.
 fn on_held<'a, const N: usize>(
     asked: Asked<'a>,
     mut held: Held,
-    table: &mut Table,
+    table: &mut Table<'_>,
     out: &mut Text<N>,
 ) -> Option<Task<'a>>
     requires { length out.old + 16000 ≤ N }
@@ -183,46 +200,40 @@ fn on_held<'a, const N: usize>(
 {
     match asked {
         Asked::Owners(list) => {
-            list.lay(&mut table.owners);
+            list.lay(table.owners);
             held.owners = list.length;
             table.held = Some(held);
             put_length(list.length, out);
         }
         Asked::Counts(list) => {
-            list.lay(&mut table.counts);
+            list.lay(table.counts);
             held.counts = list.length;
             table.held = Some(held);
             put_length(list.length, out);
         }
         Asked::Sums(list) => {
-            list.lay(&mut table.sums);
+            list.lay(table.sums);
             held.sums = list.length;
             table.held = Some(held);
             put_length(list.length, out);
         }
-        Asked::Desk(desk, t, deed) => put_written(carry_out(deed, desk, t, held, table), out),
-        Asked::WorkOut => put_written(work_out(held, table), out),
-        Asked::Get(t) => put_sounding(
-            soundings::get(held.degree, t, &table.readings[..held.readings]),
-            out,
-        ),
-        Asked::Mark(t) => put_mark(
-            marks::table_mark(held.degree, t, &table.readings[..held.readings]),
-            out,
-        ),
         Asked::Coarse(t) => put_stored(stored(t, held, table), out),
         Asked::Show(shown) => {
             return Some(Task::Show(showing::show(shown, held, table, out)?));
         }
         Asked::Save(name) => return Some(Task::Save(held, name)),
-        _ => {}
+        _ => {
+            if on_own(asked, held, table, out).is_none() {
+                put_none_open(out);
+            }
+        }
     }
     None
 }
 
 fn make<'a, const N: usize>(
     asked: Asked<'a>,
-    table: &mut Table,
+    table: &mut Table<'_>,
     out: &mut Text<N>,
 ) -> Option<Task<'a>>
     requires { length out.old + 16000 ≤ N }
@@ -234,7 +245,7 @@ fn make<'a, const N: usize>(
         Asked::Open(name) => return Some(Task::Open(name)),
         _ => match table.held {
             Some(held) => return on_held(asked, held, table, out),
-            None => out.push_bytes(b"error: no table is open; table DEGREE opens one"),
+            None => put_none_open(out),
         },
     }
     None
@@ -244,7 +255,7 @@ fn make<'a, const N: usize>(
 pub fn answer<'a, const N: usize>(
     call: Call,
     words: Words<'a>,
-    table: &mut Table,
+    table: &mut Table<'_>,
     out: &mut Text<N>,
 ) -> Option<Task<'a>>
     requires { length out.old + 16000 ≤ N }

@@ -1,6 +1,11 @@
 // A table's file (docs/CONSOLE.md, save and open): the bytes of the table that is held, and the table of a file's bytes.
 // Reading and writing the file itself is left to the caller.
-ghost use Rattle.std.specs.Prelude.{◌≡◌, ◌+◌, ◌*◌, ◌≤◌, length, IfOk};
+ghost use Rattle.std.specs.Prelude.{◌≡◌, ◌+◌, ◌*◌, ◌<◌, ◌≤◌, length, take, IfOk};
+ghost use Rattle.frame.specs.Answers.{over};
+ghost use Rattle.tables.specs.Owners.{shared};
+ghost use Rattle.tables.specs.Answers.{refused, table_answer, table_told};
+ghost use Rattle.table_files.specs.Files.{file_of};
+ghost use Rattle.table_files.specs.Refusals.{refuse_table};
 
 use crate::held::{Held, Table};
 use crate::{desks, held};
@@ -8,18 +13,44 @@ use grid::Refusal;
 use lines::Text;
 use tables::TableRefusal;
 
+// The places of the longest table, of degree 6. Its file has 1,310,728 bytes.
+const MOST: usize = 81920;
+
 // ---- save
 
-// The bytes of the table that is held, from the start of a buffer on, and how many they are. (The file of the longest
-// table, of degree 6, has 1,310,728; the buffer has room for any two lists.)
-pub fn put_file(held: Held, table: &Table, out: &mut [u8; 1310744]) -> Result<usize, TableRefusal>
-    ensures { IfOk result (λ n. n ≤ 1310744) }
+// What save refuses of the table that is held; 22 or 25 where a list is shorter than its part.
+pub fn refuse_save(held: Held, list: &[i32], owners: &[u8]) -> Result<(), TableRefusal>
+    ensures told { held.readings ≤ length list.now → held.owners ≤ length owners.now
+        → table_told result ≡ refused (take held.readings list.now)
+        (refuse_table held.degree (shared (take held.readings list.now) (take held.owners owners.now))) }
+    ensures readings { length list.now < held.readings → table_told result ≡ table_answer 22 0 }
+    ensures owners { held.readings ≤ length list.now → length owners.now < held.owners
+        → table_told result ≡ table_answer 25 0 }
 {
-    let list = &table.readings[..held.readings];
-    let owners = &table.owners[..held.owners];
-    table_files::refuse_table(held.degree, list, owners)?;
-    table_files::put_table(held.degree, list, owners, out);
-    Ok(8 * (1 + list.len() + owners.len()))
+    let list = list.get(..held.readings).ok_or(Refusal::TableLength)?;
+    let owners = owners.get(..held.owners).ok_or(Refusal::Owners)?;
+    table_files::refuse_table(held.degree, list, owners)
+}
+
+// The bytes of a table that is not refused, from the start of a buffer on, and how many they are; none of one that has
+// no file.
+pub fn put_file(held: Held, list: &[i32], owners: &[u8], out: &mut [u8]) -> usize
+    requires { 1310728 ≤ length out.old }
+    ensures within { result ≤ 1310728 }
+    ensures none { result ≡ 0 → out.new ≡ out.old }
+    ensures file { 0 < result → out.new ≡ over (file_of held.degree
+        (shared (take held.readings list.now) (take held.readings owners.now))) out.old }
+    ensures size { held.readings ≤ 81920 → held.readings ≤ length list.now
+        → held.readings ≤ length owners.now → result ≡ 8 + 16 * held.readings }
+{
+    let n = held.readings;
+    match (list.get(..n), owners.get(..n)) {
+        (Some(list), Some(owners)) if n <= MOST => {
+            table_files::put_table(held.degree, list, owners, out);
+            8 + 16 * n
+        }
+        _ => 0,
+    }
 }
 
 // ---- open
@@ -44,11 +75,13 @@ fn places_in(bytes: &[u8], degree: u64) -> Result<usize, Refusal>
     Ok(n)
 }
 
-// The numbers of a file of n places over the first n of each list.
+// The numbers of a file of n places over the first n of each list. Where one is shorter, neither is written.
 fn read_first(bytes: &[u8], n: usize, readings: &mut [i32], owners: &mut [u8])
-    requires { (length bytes.now ≡ 8 + 16 * n) × (n ≤ length readings.old) × (n ≤ length owners.old) }
+    requires { length bytes.now ≡ 8 + 16 * n }
 {
-    table_files::read_table(bytes, &mut readings[..n], &mut owners[..n]);
+    if let (Some(readings), Some(owners)) = (readings.get_mut(..n), owners.get_mut(..n)) {
+        table_files::read_table(bytes, readings, owners);
+    }
 }
 
 // 23 and 25: of the numbers, in lists of their own, since a refusal leaves the table as it is.
@@ -61,12 +94,21 @@ fn check_numbers(bytes: &[u8], degree: u64, n: usize) -> Result<(), TableRefusal
     table_files::refuse_table(degree, &readings[..n], &owners[..n])
 }
 
+// The counts and sums of the table worked out afresh. None where a list is shorter than its part, or where it is
+// refused.
+fn work_out(held: Held, table: &mut Table<'_>) -> Option<()> {
+    let list = table.readings.get_mut(..held.readings)?;
+    let counts = table.counts.get_mut(..held.counts)?;
+    let sums = table.sums.get_mut(..held.sums)?;
+    soundings::work_out(held.degree, list, counts, sums).ok()
+}
+
 // The table of a file's bytes, with its counts and sums worked out afresh.
-fn read_file(bytes: &[u8], table: &mut Table) -> Result<Held, TableRefusal> {
+fn read_file(bytes: &[u8], table: &mut Table<'_>) -> Result<Held, TableRefusal> {
     let degree = degree_in(bytes);
     let n = places_in(bytes, degree)?;
     check_numbers(bytes, degree, n)?;
-    read_first(bytes, n, &mut table.readings, &mut table.owners);
+    read_first(bytes, n, table.readings, table.owners);
     let parents = held::parents_of(degree);
     let held = Held {
         degree,
@@ -75,12 +117,13 @@ fn read_file(bytes: &[u8], table: &mut Table) -> Result<Held, TableRefusal> {
         counts: parents,
         sums: parents,
     };
-    desks::work_out(held, table)?;
+    // (In lists that have their parts the numbers are those that were checked, and nothing is refused.)
+    let _ = work_out(held, table);
     Ok(held)
 }
 
 // Opens the table of a file's bytes.
-pub fn open<const N: usize>(bytes: &[u8], table: &mut Table, out: &mut Text<N>)
+pub fn open<const N: usize>(bytes: &[u8], table: &mut Table<'_>, out: &mut Text<N>)
     requires { length out.old + 200 ≤ N }
     ensures { length out.new ≤ length out.old + 200 }
 {

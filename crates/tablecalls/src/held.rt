@@ -1,7 +1,7 @@
 // What the console holds: a table of soundings (document 02, 2026-03, 2026-07 and 2026-08). Its four lists stand in the
-// first places of the console's: readings and owners in lists of 81,921 places, counts and sums in lists of 20,481, one
-// more than the longest table needs, so that a list that is too long can be tried.
-ghost use Rattle.std.specs.Prelude.{◌≤◌};
+// first places of those that the console is lent. talk keeps these: 81,921 places for readings and for owners, 20,481
+// for counts and for sums, one more than the longest table needs, so that a list that is too long can be tried.
+ghost use Rattle.std.specs.Prelude.{◌≡◌, ◌<◌, ◌≤◌};
 ghost use Rattle.tables.specs.Tables.{places};
 
 // A table that is open: its degree, and how many places of each list are its own.
@@ -12,30 +12,16 @@ pub struct Held {
     pub owners: usize,
     pub counts: usize,
     pub sums: usize,
-    ghost in_room: { (readings ≤ 81921) × (owners ≤ 81921) × (counts ≤ 20481) × (sums ≤ 20481) },
 }
 
-// The table, where one is open, and its lists.
+// The table, where one is open, and the lists that are lent for it, of any length.
 #[derive(Drop)]
-pub struct Table {
+pub struct Table<'a> {
     pub held: Option<Held>,
-    pub readings: [i32; 81921],
-    pub owners: [u8; 81921],
-    pub counts: [u64; 20481],
-    pub sums: [u64; 20481],
-}
-
-impl Table {
-    // None is open.
-    pub fn new() -> Self {
-        Table {
-            held: None,
-            readings: [0; 81921],
-            owners: [0; 81921],
-            counts: [0; 20481],
-            sums: [0; 20481],
-        }
-    }
+    pub readings: &'a mut [i32],
+    pub owners: &'a mut [u8],
+    pub counts: &'a mut [u64],
+    pub sums: &'a mut [u64],
 }
 
 // What an answer of many places shows: readings, owners, or of the triangles one degree up counts and sums.
@@ -53,7 +39,6 @@ pub struct Rest {
     pub shown: Shown,
     pub degree: u64,
     pub count: usize,
-    ghost in_table: { (degree ≤ 6) × (count ≤ places degree) },
 }
 
 // What is left to do where a line is answered: to show the rest of its answer, to save the table to the file of a name,
@@ -67,7 +52,9 @@ pub enum Task<'a> {
 
 // How many places a table of a degree has; 0 where no table has it.
 pub fn places_of(degree: u64) -> usize
-    ensures { result ≤ 81920 }
+    ensures most { result ≤ 81920 }
+    ensures table { degree ≤ 6 → result ≡ places degree }
+    ensures no_table { 6 < degree → result ≡ 0 }
 {
     if 6 < degree {
         return 0;

@@ -43,14 +43,14 @@ fn of_tally(t: Tally) -> Option<Item> {
 }
 
 // Past the end of a list there is nothing.
-pub fn tally_at(place: usize, table: &Table) -> Tally {
+pub fn tally_at(place: usize, table: &Table<'_>) -> Tally {
     Tally {
         count: table.counts.get(place).copied().unwrap_or(0),
         sum: table.sums.get(place).copied().unwrap_or(0),
     }
 }
 
-pub fn item_at(shown: Shown, place: usize, table: &Table) -> Option<Item> {
+pub fn item_at(shown: Shown, place: usize, table: &Table<'_>) -> Option<Item> {
     match shown {
         Shown::Readings => of_reading(*table.readings.get(place)?),
         Shown::Owners => of_owner(*table.owners.get(place)?),

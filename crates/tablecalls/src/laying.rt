@@ -1,5 +1,6 @@
 // Laying a list of numbers: what a line says of it (table, owners, counts, sums), and then the numbers themselves.
-ghost use Rattle.std.specs.Prelude.{◌≤◌, length};
+ghost use Rattle.std.specs.Prelude.{◌≡◌, ◌<◌, ◌≤◌, length, [], IfSome};
+ghost use Rattle.tables.specs.Tables.{none, places};
 
 use crate::held;
 use lines::Words;
@@ -52,19 +53,21 @@ fn are_pairs<T: Entry>(mut words: Words<'_>, n: usize) -> bool {
     false
 }
 
-// What a line says of a list with room for so many places: its length, what all its places hold, and the pairs that
-// say otherwise, which end the line.
-#[derive(Drop)]
-pub struct Listing<'a, T: Entry, const ROOM: usize> {
+// What a line says of a list: its length, what all its places hold, and the pairs that say otherwise, which end the
+// line.
+#[derive(Clone, Copy)]
+pub struct Listing<'a, T: Entry> {
     pub length: usize,
-    entry: T,
-    pairs: &'a [u8],
-    ghost in_room: { length ≤ ROOM },
+    pub entry: T,
+    pub pairs: &'a [u8],
 }
 
-impl<'a, T: Entry, const ROOM: usize> Listing<'a, T, ROOM> {
-    pub fn read(mut words: Words<'a>) -> Option<Self> {
-        let length = arguments::room(&mut words, ROOM)?;
+impl<'a, T: Entry> Listing<'a, T> {
+    // Of a list with room for so many places.
+    pub fn read(mut words: Words<'a>, room: usize) -> Option<Self>
+        ensures { IfSome result (λ list. list.length ≤ room) }
+    {
+        let length = arguments::room(&mut words, room)?;
         let entry = T::read(&mut words)?;
         let pairs = words.rest();
         if !are_pairs::<T>(words, length) {
@@ -77,11 +80,21 @@ impl<'a, T: Entry, const ROOM: usize> Listing<'a, T, ROOM> {
         })
     }
 
-    // Lays it; of two pairs for one place the later holds.
-    pub fn lay(&self, list: &mut [T; ROOM]) {
-        let places = &mut list[..self.length];
+    // Of a list that holds the same in so many places.
+    pub fn filled(length: usize, entry: T) -> Self
+        ensures { (result.length ≡ length) × (result.entry ≡ entry) × (result.pairs.now ≡ []) }
+    {
+        Listing {
+            length,
+            entry,
+            pairs: b"",
+        }
+    }
+
+    // Lays it; of two pairs for one place the later holds. Past the end of the list nothing is laid.
+    pub fn lay(&self, list: &mut [T]) {
         // (`fill` asks for a clone that cannot fail, which T does not say.)
-        for place in places.iter_mut() {
+        for place in list.iter_mut().take(self.length) {
             *place = self.entry;
         }
         let mut words = Words::of(self.pairs);
@@ -89,7 +102,7 @@ impl<'a, T: Entry, const ROOM: usize> Listing<'a, T, ROOM> {
             let Some((place, entry)) = pair(&mut words) else {
                 return;
             };
-            if let Some(held) = places.get_mut(place as usize) {
+            if let Some(held) = list.get_mut(place as usize) {
                 *held = entry;
             }
         }
@@ -97,10 +110,10 @@ impl<'a, T: Entry, const ROOM: usize> Listing<'a, T, ROOM> {
 }
 
 // A fresh list of readings.
-pub fn fresh(degree: u64) -> Listing<'static, i32, 81921> {
-    Listing {
-        length: held::places_of(degree),
-        entry: -1,
-        pairs: b"",
-    }
+pub fn fresh(degree: u64) -> Listing<'static, i32>
+    ensures table { degree ≤ 6 → result.length ≡ places degree }
+    ensures no_table { 6 < degree → result.length ≡ 0 }
+    ensures no_readings { (result.entry ≡ none) × (result.pairs.now ≡ []) }
+{
+    Listing::filled(held::places_of(degree), -1)
 }

@@ -4,8 +4,8 @@ ghost use Rattle.words.specs.Refusals.{check_code};
 ghost use Rattle.tables.specs.Tables.{places};
 
 use crate::held::{Held, Rest, Shown, Table};
-use crate::items;
 use crate::items::Item;
+use crate::{held, items};
 use grid::{Refusal, TriangleCode};
 use lines::Text;
 use replies::answers;
@@ -82,7 +82,7 @@ pub fn check_parent(held: Held, t: TriangleCode) -> Result<(), Refusal>
 }
 
 // How many of the places are counted.
-fn count(all: Rest, table: &Table) -> usize {
+fn count(all: Rest, table: &Table<'_>) -> usize {
     (0..all.count)
         .filter(|place| items::is_counted(items::item_at(all.shown, *place, table)))
         .count()
@@ -111,20 +111,24 @@ fn put_count<const N: usize>(shown: Shown, count: usize, out: &mut Text<N>)
     }
 }
 
-// The rest of the places, as many as there is room for, and what is left of it then. `later`: places were shown before.
+// The rest of the places, as many as there is room for after `start`, where this part of the answer begins, and what is
+// left of it then. `later`: places were shown before.
 fn put_places<const N: usize>(
     rest: Rest,
     later: bool,
-    table: &Table,
+    start: usize,
+    table: &Table<'_>,
     out: &mut Text<N>,
 ) -> Option<Rest>
-    requires { length out.old + 8000 ≤ N }
-    ensures text { length out.new ≤ length out.old + 8000 }
+    requires { (length out.old ≤ start + 100) × (start + 8000 ≤ N) }
+    ensures text { length out.new ≤ start + 8000 }
     ensures fewer { IfSome result (λ left. left.count < rest.count) }
+    ensures in_table { IfSome result (λ left. (left.degree ≤ 6) × (left.count ≤ places left.degree)) }
 {
-    let n = ordering::codes_of(rest.degree) as usize;
-    let first = n - rest.count;
-    let start = out.len();
+    // (No more is left than there are triangles.)
+    let n = held::places_of(rest.degree);
+    let first = n.checked_sub(rest.count)?;
+    let count = out.len();
     for place in first..n {
         if start + 7900 < out.len() {
             return Some(Rest {
@@ -134,7 +138,7 @@ fn put_places<const N: usize>(
             });
         }
         if let Some(item) = items::item_at(rest.shown, place, table) {
-            put_place(rest.degree, place, item, later || start < out.len(), out);
+            put_place(rest.degree, place, item, later || count < out.len(), out);
         }
     }
     None
@@ -144,16 +148,18 @@ fn put_places<const N: usize>(
 pub fn show<const N: usize>(
     shown: Shown,
     held: Held,
-    table: &Table,
+    table: &Table<'_>,
     out: &mut Text<N>,
 ) -> Option<Rest>
     requires { length out.old + 16000 ≤ N }
-    ensures { length out.new ≤ length out.old + 16000 }
+    ensures text { length out.new ≤ length out.old + 16000 }
+    ensures in_table { IfSome result (λ left. (left.degree ≤ 6) × (left.count ≤ places left.degree)) }
 {
     match all_held(shown, held) {
         Ok(all) => {
+            let start = out.len();
             put_count(shown, count(all, table), out);
-            put_places(all, false, table, out)
+            put_places(all, false, start, table, out)
         }
         Err(f) => {
             answers::refused(f, out);
@@ -163,10 +169,12 @@ pub fn show<const N: usize>(
 }
 
 // The next part of what is still to be shown.
-pub fn go_on<const N: usize>(rest: Rest, table: &Table, out: &mut Text<N>) -> Option<Rest>
+pub fn go_on<const N: usize>(rest: Rest, table: &Table<'_>, out: &mut Text<N>) -> Option<Rest>
     requires { length out.old + 16000 ≤ N }
     ensures text { length out.new ≤ length out.old + 16000 }
     ensures fewer { IfSome result (λ left. left.count < rest.count) }
+    ensures in_table { IfSome result (λ left. (left.degree ≤ 6) × (left.count ≤ places left.degree)) }
 {
-    put_places(rest, true, table, out)
+    let start = out.len();
+    put_places(rest, true, start, table, out)
 }

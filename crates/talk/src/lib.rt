@@ -23,17 +23,17 @@ enum Failure {
 // The line so far, of which at most 1001 bytes are kept: one with more than 1000 is too long. The table. The answers so
 // far.
 #[derive(Drop)]
-struct Talk {
+struct Talk<'a> {
     line: Text<1001>,
-    table: Table,
+    table: Table<'a>,
     answers: Text<65536>,
 }
 
-impl Talk {
-    fn new() -> Self {
+impl<'a> Talk<'a> {
+    fn new(table: Table<'a>) -> Self {
         Talk {
             line: Text::new(),
-            table: Table::new(),
+            table,
             answers: Text::new(),
         }
     }
@@ -134,9 +134,20 @@ impl Talk {
     }
 }
 
-// Answers the lines of standard input. What failed is said to `err`.
+// Answers the lines of standard input. What failed is said to `err`. (Each list has one place more than the longest
+// table needs, so that one that is too long can be tried.)
 pub fn answer_lines(rt: &(impl Input + Print + Files), err: &impl Print) {
-    let mut talk = Talk::new();
+    let mut readings = [0i32; 81921];
+    let mut owners = [0u8; 81921];
+    let mut counts = [0u64; 20481];
+    let mut sums = [0u64; 20481];
+    let mut talk = Talk::new(Table {
+        held: None,
+        readings: &mut readings,
+        owners: &mut owners,
+        counts: &mut counts,
+        sums: &mut sums,
+    });
     let ended = talk.answer_all(rt, &mut rt.reader());
     let _ = match ended {
         Ok(()) => Ok(()),

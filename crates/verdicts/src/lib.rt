@@ -19,6 +19,19 @@ fn past_room(size: usize, more: usize) -> usize
     32776 + (size % 8 + more % 8) % 8
 }
 
+// The bytes of a list over another as long. (Byte by byte, and as a call of its own: the library's copy_from_slice makes
+// of it a call of memmove, and compiled into its callers it becomes one of memcpy, which a program in C would have to
+// bring.)
+#[inline(never)]
+fn copy(from: &[u8], to: &mut [u8])
+    requires { length to.old ≡ length from.now }
+    ensures { to.new ≡ from.now }
+{
+    for (i, place) in to.iter_mut().enumerate() {
+        *place = from[i];
+    }
+}
+
 // Takes in the next bytes of a file, of which `head` and `size` hold what came before them: at its beginning anything
 // and 0. The size that is held then.
 pub fn take_in(next: &[u8], head: &mut [u8], size: usize) -> usize
@@ -32,7 +45,7 @@ pub fn take_in(next: &[u8], head: &mut [u8], size: usize) -> usize
         return past_room(size, next.len());
     }
     let end = size + next.len();
-    head[size..end].copy_from_slice(next);
+    copy(next, &mut head[size..end]);
     end
 }
 
@@ -100,6 +113,6 @@ pub fn put_line(head: &[u8], size: usize, out: &mut [u8]) -> usize
     write_line(head, size, &mut written);
     let bytes = written.as_bytes();
     let n = bytes.len();
-    out[..n].copy_from_slice(bytes);
+    copy(bytes, &mut out[..n]);
     n
 }

@@ -51,7 +51,7 @@ returns-else-refused-eq0 c =
           code_told r,
           subst (λ (i : ℕ). FileAnswer c.args.degree (direction_at (directions_in dirs) i) (code_told r))
               c.first_zero_code-place.ensures is,
-          λ some i. sweep_answer 0 c.args.refused (c.first_zero_code-place.ensures i) (number i),
+          λ i. sweep_answer 0 c.args.refused (c.first_zero_code-place.ensures i) (number i),
         );
       };
       put = c.put_three-else-refused-eq0.ensures;

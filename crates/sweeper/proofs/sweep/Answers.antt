@@ -4,7 +4,7 @@ use mathlib.Core.Path.{sym}
 use native.Mathlib.Omega.{arith}
 use Rattle.frame.proofs.Answering.{refusing, answering}
 use Rattle.sweeps.proofs.Refused.{refuse_degree, refuse_threes, refuse_short, refuse_none}
-use Rattle.sweeps.proofs.CountedParts.{zero_in, tells_into}
+use Rattle.sweeps.proofs.CountedParts.{zero_in, refused_in, tells_into}
 use Rattle.sweeper.proofs.sweep.Goals as goal
 
 pub returns-then-degree-gt24 : goal.returns-then-degree-gt24
@@ -18,7 +18,8 @@ pub returns-then-codes-n : goal.returns-then-codes-n
 returns-then-codes-n c = refusing (refuse_short _ _ _ (omega arith) (omega arith)) (λ z. omega (arith, z))
 
 pub tell-requires : goal.tell-requires
-tell-requires c = zero_in c.file_each-refused.ensures
+tell-requires c = λ some.
+    (zero_in c.file_each-refused.ensures some, refused_in c.file_each-refused.ensures some)
 
 pub returns-then-n-le64 : goal.returns-then-n-le64
 returns-then-n-le64 c =
@@ -26,7 +27,8 @@ returns-then-n-le64 c =
     (tells_into c.file_each-refused.ensures c.tell.ensures)
 
 pub tell-requires-2 : goal.tell-requires-2
-tell-requires-2 c = zero_in c.file_halves-refused.ensures
+tell-requires-2 c = λ some.
+    (zero_in c.file_halves-refused.ensures some, refused_in c.file_halves-refused.ensures some)
 
 pub returns : goal.returns
 returns c =

@@ -4,6 +4,7 @@ use Rattle.std.specs.Prelude.{◌≡◌, Bool, true, false, List, ℕ, zero, suc
 use Rattle.frame.specs.Answers.{over}
 use Rattle.words.specs.Family.{CodeAnswer}
 use Rattle.net.specs.Steps.{non_zeros}
+use Rattle.filing.specs.declared.Direction.{Direction}
 use Rattle.directions.specs.Answers.{FileAnswer}
 use Rattle.sweeps.specs.Sweeps.{SweepAnswer, Singles, codes_of, refusals_of, sweep_answer, no_sweep}
 use Rattle.sweeps.specs.Promises.{direction_at}
@@ -25,9 +26,12 @@ abbrev pub is_zero : ℕ → Bool
 is_zero zero = true
 is_zero (suc w) = false
 
+-- that a direction is refused, as the single call answers it
+abbrev pub Refuses : (degree : ℕ) → Direction → Type 0
+Refuses degree d = (s : CodeAnswer) → FileAnswer degree d s → s.refusal ≡ 0 → ⊥
+
 -- an answer where m directions are refused, and the first with the code 0 stands at `place`
 pub record Tells (degree : ℕ) (dirs : List ℤ) (place m : ℕ) (r : SweepAnswer) : Type 0 where
   pub none : m ≡ 0 → r ≡ no_sweep 0
   pub some : (m ≡ 0 → ⊥)
-      → (s : CodeAnswer) × FileAnswer degree (direction_at dirs place) s
-      × ((s.refusal ≡ 0 → ⊥) → r ≡ sweep_answer 0 m place s.refusal)
+      → (s : CodeAnswer) × FileAnswer degree (direction_at dirs place) s × (r ≡ sweep_answer 0 m place s.refusal)

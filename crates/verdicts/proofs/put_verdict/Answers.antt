@@ -3,7 +3,7 @@ use mathlib.Core.Path.{◌∙◌, refl, sym, ap}
 use Prim.Native.Nat.{ℕ}
 use Rattle.std.specs.Prelude.{Result}
 use mathlib.Core.List.{◌++◌}
-use Rattle.cells.specs.Checking.{Verdict, reason_number, verdict, verdict_told}
+use Rattle.cells.specs.Checking.{reason_number, verdict, verdict_told}
 use Rattle.cells.specs.declared.Offence.{Offence}
 use Rattle.cells.proofs.OnePass.{reason_some}
 use Rattle.lines.specs.Writing.{decimal}

@@ -4,4 +4,4 @@ use Rattle.tablecalls.proofs.showing.put_places.Given as goal
 
 abbrev pub invariant-loop-place : goal.invariant-loop-place
 invariant-loop-place g l =
-    (length l.out ≤ l.start + 7990) × (length l.out ≤ l.start + 90 * (l.place - l.first))
+    (length l.out ≤ l.start + 7990) × (length l.out ≤ l.start + (100 + 90 * (l.place - l.first)))

@@ -10,4 +10,5 @@ pub mod Paper
 pub mod Marks
 pub mod Verdicts
 pub mod Zeros
+pub mod OneResult
 pub mod Placing

@@ -17,4 +17,7 @@ zeros f = record {
   small = refl;
   small_step = refl;
   edge_mark = refl;
+  table = refl;
+  sounding = refl;
+  mark = refl;
 }

@@ -10,3 +10,4 @@ pub mod Paper
 pub mod Marks
 pub mod Verdicts
 pub mod Zeros
+pub mod OneResult

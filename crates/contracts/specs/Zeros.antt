@@ -1,6 +1,6 @@
 -- Document 01, 'Refusal numbers': what each call's refusal is told as. A call's contract and its promise take the zeros
 -- from one definition; here they are written out beside it. Assumes nothing.
-use Rattle.std.specs.Prelude.{◌≡◌, pos, Err}
+use Rattle.std.specs.Prelude.{◌≡◌, pos, None, Err}
 use Rattle.frame.specs.declared.Refusal.{Refusal}
 use Rattle.frame.specs.Refusals.{number}
 use Rattle.golden.specs.Numbers.{golden}
@@ -16,7 +16,9 @@ use Rattle.harbour.specs.Answers.{small_answer, small_told, small_step, small_st
 use Rattle.sweeps.specs.Sweeps.{sweep_answer}
 use Rattle.sweeps.specs.Answers.{sweep_told}
 use Rattle.marks.specs.declared.Mark.TheVariants.{Nothing}
-use Rattle.marks.specs.Answers.{mark_answer, edge_mark_told}
+use Rattle.marks.specs.Answers.{mark_answer, mark_told, edge_mark_told}
+use Rattle.tables.specs.declared.TableRefusal.TheVariants.{Call}
+use Rattle.tables.specs.Answers.{table_answer, table_told, sounding_answer, sounding_told}
 
 -- "Every refusal returns only its number and zeros": of any refusal.
 pub record Zeros (f : Refusal) : Type 0 where
@@ -36,3 +38,6 @@ pub record Zeros (f : Refusal) : Type 0 where
   pub small : small_told (Err f) ≡ small_answer (number f) (small_code 0)
   pub small_step : small_step_told (Err f) ≡ small_step (number f) (small_code 0) 0 0 0
   pub edge_mark : edge_mark_told (Err f) ≡ mark_answer (number f) 0 Nothing
+  pub table : table_told (Err (Call f)) ≡ table_answer (number f) 0
+  pub sounding : sounding_told (Err (Call f)) ≡ sounding_answer (number f) 0 None
+  pub mark : mark_told (Err (Call f)) ≡ mark_answer (number f) 0 Nothing

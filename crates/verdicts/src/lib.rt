@@ -19,9 +19,8 @@ fn past_room(size: usize, more: usize) -> usize
     32776 + (size % 8 + more % 8) % 8
 }
 
-// The bytes of a list over another as long. (Byte by byte, and as a call of its own: the library's copy_from_slice makes
-// of it a call of memmove, and compiled into its callers it becomes one of memcpy, which a program in C would have to
-// bring.)
+// The bytes of a list over another as long. (Byte by byte, and as a call of its own: the library's copy_from_slice is a
+// call of memmove, and compiled into its callers this becomes one of memcpy, which a program in C would have to bring.)
 #[inline(never)]
 fn copy(from: &[u8], to: &mut [u8])
     requires { length to.old ≡ length from.now }

@@ -28,5 +28,6 @@ returns c =
     let h = c.if-size-gt32768.false in
     let l = c.if-size-next.false in
     kept next head _ size (omega (arith, h, l))
-    (take-put_mid size _ head _ (size + length next) (ap (λ (xs : List ℕ). size + length xs) (sym c.copy.ensures)) (omega (arith, h, c.requires))
+    (take-put_mid size _ head _ (size + length next) (ap (λ (xs : List ℕ). size + length xs) (sym c.copy.ensures))
+    (omega (arith, h, c.requires))
     ∙ ap (λ (xs : List ℕ). take size head ++ xs) c.copy.ensures)

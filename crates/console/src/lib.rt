@@ -2,7 +2,8 @@
 // holds a table of soundings, which the caller keeps for it.
 #![tactic(auto)]
 
-ghost use Rattle.std.specs.Prelude.{◌+◌, ◌≤◌, length};
+ghost use Rattle.std.specs.Prelude.{◌+◌, ◌≤◌, length, IfSome};
+ghost use Rattle.tablecalls.specs.Room.{HeldInRoom, TaskInRoom};
 
 use cellcalls::{checking, mends};
 use gridcalls::{calls, lists, sweeping};
@@ -82,7 +83,9 @@ fn call_answer<'a, const N: usize>(
     out: &mut Text<N>,
 ) -> Option<Task<'a>>
     requires { length out.old + 16000 ≤ N }
-    ensures { length out.new ≤ length out.old + 16000 }
+    ensures text { length out.new ≤ length out.old + 16000 }
+    ensures room { IfSome table.old.held HeldInRoom
+        → IfSome table.new.held HeldInRoom × IfSome result TaskInRoom }
 {
     match call {
         Call::Table
@@ -114,7 +117,9 @@ pub fn answer<'a, const N: usize>(
     out: &mut Text<N>,
 ) -> Option<Task<'a>>
     requires { length out.old + 16000 ≤ N }
-    ensures { length out.new ≤ length out.old + 16000 }
+    ensures text { length out.new ≤ length out.old + 16000 }
+    ensures room { IfSome table.old.held HeldInRoom
+        → IfSome table.new.held HeldInRoom × IfSome result TaskInRoom }
 {
     let mut words = Words::of(line);
     let word = words.next()?;

@@ -6,6 +6,7 @@
 #![tactic(auto)]
 
 ghost use Rattle.std.specs.Prelude.{◌+◌, ◌≤◌, length, IfOk, IfSome};
+ghost use Rattle.tablecalls.specs.Room.{HeldInRoom, RestInTable, TaskInRoom};
 
 use lines::Text;
 use std::fs::{File, OpenFile};
@@ -153,7 +154,8 @@ fn open_by<const N: usize>(
     out: &mut Text<N>,
 )
     requires { length out.old + 200 ≤ N }
-    ensures { length out.new ≤ length out.old + 200 }
+    ensures text { length out.new ≤ length out.old + 200 }
+    ensures room { IfSome table.old.held HeldInRoom → IfSome table.new.held HeldInRoom }
 {
     match read_file(rt, name, bytes) {
         Some(n) => files::open(&bytes[..n], table, out),
@@ -165,7 +167,8 @@ fn open_by<const N: usize>(
 #[inline(never)]
 pub fn open<const N: usize>(rt: &impl Files, name: &[u8], table: &mut Table<'_>, out: &mut Text<N>)
     requires { length out.old + 200 ≤ N }
-    ensures { length out.new ≤ length out.old + 200 }
+    ensures text { length out.new ≤ length out.old + 200 }
+    ensures room { IfSome table.old.held HeldInRoom → IfSome table.new.held HeldInRoom }
 {
     let mut bytes = room();
     open_by(rt, name, &mut bytes, table, out);
@@ -181,7 +184,9 @@ pub fn finish<const N: usize>(
     out: &mut Text<N>,
 ) -> Option<Rest>
     requires { length out.old + 200 ≤ N }
-    ensures { length out.new ≤ length out.old + 200 }
+    ensures text { length out.new ≤ length out.old + 200 }
+    ensures room { IfSome table.old.held HeldInRoom → IfSome table.new.held HeldInRoom }
+    ensures in_table { TaskInRoom task.entry → IfSome result RestInTable }
 {
     match task {
         Task::Show(rest) => return Some(rest),
@@ -189,4 +194,48 @@ pub fn finish<const N: usize>(
         Task::Open(name) => open(rt, name, table, out),
     }
     None
+}
+
+#[cfg(test)]
+mod tests {
+    use super::*;
+
+    // A table of degree 0 with one reading, that desk 2 has, is saved, and opened over other numbers.
+    #[test]
+    fn saved_and_opened(rt: HostRuntime) {
+        let mut readings = [-1i32; 20];
+        let mut owners = [0u8; 20];
+        readings[3] = 7;
+        owners[3] = 2;
+        let held = Held {
+            degree: 0,
+            readings: 20,
+            owners: 20,
+            counts: 0,
+            sums: 0,
+        };
+        let mut out: Text<200> = Text::new();
+        let mut table = Table {
+            held: Some(held),
+            readings: &mut readings,
+            owners: &mut owners,
+            counts: &mut [],
+            sums: &mut [],
+        };
+        let saved = finish(&rt, Task::Save(held, b"table"), &mut table, &mut out);
+        assert!(rt; saved.is_none());
+        assert!(rt; out.as_bytes() == b"ok".as_slice());
+        table.readings.fill(5);
+        table.owners.fill(1);
+        table.held = None;
+        out.clear();
+        open(&rt, b"table", &mut table, &mut out);
+        assert!(rt; out.as_bytes() == b"degree 0, 20 places".as_slice());
+        assert_eq!(rt; table.readings.get(3).copied(), Some(7));
+        assert_eq!(rt; table.readings.get(4).copied(), Some(-1));
+        assert_eq!(rt; table.owners.get(3).copied(), Some(2));
+        assert_eq!(rt; table.owners.get(4).copied(), Some(0));
+        assert!(rt; table.held.is_some_and(|held| held.readings == 20 && held.counts == 0));
+        assert!(rt; fs::remove_file(&rt, "table").is_ok());
+    }
 }

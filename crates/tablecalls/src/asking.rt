@@ -1,4 +1,7 @@
 // Reading the calls on the table that is held.
+ghost use Rattle.std.specs.Prelude.{IfSome};
+ghost use Rattle.tablecalls.specs.Room.{AskedInRoom};
+
 use crate::held::Shown;
 use crate::laying::Listing;
 use grid::TriangleCode;
@@ -31,7 +34,9 @@ pub enum Asked<'a> {
     Open(&'a [u8]),
 }
 
-fn table(mut words: Words<'_>) -> Option<Asked<'_>> {
+fn table(mut words: Words<'_>) -> Option<Asked<'_>>
+    ensures { IfSome result AskedInRoom }
+{
     let degree = arguments::number(&mut words)?;
     if words.is_empty() {
         return Some(Asked::Fresh(degree));
@@ -39,7 +44,9 @@ fn table(mut words: Words<'_>) -> Option<Asked<'_>> {
     Some(Asked::Table(degree, Listing::read(words, PLACES)?))
 }
 
-fn owners(words: Words<'_>) -> Option<Asked<'_>> {
+fn owners(words: Words<'_>) -> Option<Asked<'_>>
+    ensures { IfSome result AskedInRoom }
+{
     if words.is_empty() {
         return Some(Asked::Show(Shown::Owners));
     }
@@ -56,7 +63,9 @@ fn deed(call: Call, words: &mut Words<'_>) -> Option<Deed> {
     }
 }
 
-fn desk(call: Call, mut words: Words<'_>) -> Option<Asked<'_>> {
+fn desk(call: Call, mut words: Words<'_>) -> Option<Asked<'_>>
+    ensures { IfSome result AskedInRoom }
+{
     let desk = arguments::number(&mut words)?;
     let w = arguments::code(&mut words)?;
     let deed = deed(call, &mut words)?;
@@ -65,7 +74,9 @@ fn desk(call: Call, mut words: Words<'_>) -> Option<Asked<'_>> {
 }
 
 // A call on a triangle that changes nothing.
-fn triangle(call: Call, words: Words<'_>) -> Option<Asked<'_>> {
+fn triangle(call: Call, words: Words<'_>) -> Option<Asked<'_>>
+    ensures { IfSome result AskedInRoom }
+{
     let t = arguments::one_code(words)?;
     Some(match call {
         Call::Get => Asked::Get(t),
@@ -74,7 +85,9 @@ fn triangle(call: Call, words: Words<'_>) -> Option<Asked<'_>> {
     })
 }
 
-fn coarse(words: Words<'_>) -> Option<Asked<'_>> {
+fn coarse(words: Words<'_>) -> Option<Asked<'_>>
+    ensures { IfSome result AskedInRoom }
+{
     if words.is_empty() {
         return Some(Asked::Show(Shown::Coarse));
     }
@@ -82,7 +95,9 @@ fn coarse(words: Words<'_>) -> Option<Asked<'_>> {
 }
 
 // A call that is its name alone.
-fn alone<'a>(words: Words<'a>, asked: Asked<'a>) -> Option<Asked<'a>> {
+fn alone<'a>(words: Words<'a>, asked: Asked<'a>) -> Option<Asked<'a>>
+    ensures { AskedInRoom asked.entry → IfSome result AskedInRoom }
+{
     if words.is_empty() { Some(asked) } else { None }
 }
 
@@ -96,7 +111,9 @@ fn file_name<'a>(words: &Words<'a>) -> Option<&'a [u8]> {
 }
 
 // What a call asks, by its arguments; None where they cannot be read.
-pub fn read(call: Call, words: Words<'_>) -> Option<Asked<'_>> {
+pub fn read(call: Call, words: Words<'_>) -> Option<Asked<'_>>
+    ensures { IfSome result AskedInRoom }
+{
     match call {
         Call::Table => table(words),
         Call::Take | Call::Clear | Call::Give | Call::Set => desk(call, words),

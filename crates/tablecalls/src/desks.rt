@@ -1,5 +1,6 @@
 // The calls on the table that is held: each is read from its line (asking), then made, and what came of it is told.
-ghost use Rattle.std.specs.Prelude.{◌≡◌, ◌+◌, ◌≤◌, length, MatchOption};
+ghost use Rattle.std.specs.Prelude.{◌≡◌, ◌+◌, ◌≤◌, length, IfSome, MatchOption};
+ghost use Rattle.tablecalls.specs.Room.{AskedInRoom, HeldInRoom, TaskInRoom};
 
 use crate::asking::Asked;
 use crate::held::{Held, Table, Task};
@@ -107,7 +108,8 @@ fn open<const N: usize>(
     out: &mut Text<N>,
 )
     requires { length out.old + 200 ≤ N }
-    ensures { length out.new ≤ length out.old + 200 }
+    ensures text { length out.new ≤ length out.old + 200 }
+    ensures room { list.entry.now.length ≤ 81921 → IfSome table.new.held HeldInRoom }
 {
     let n = list.length;
     let parents = held::parents_of(degree);
@@ -128,7 +130,8 @@ fn open<const N: usize>(
 
 fn open_fresh<const N: usize>(degree: u64, table: &mut Table<'_>, out: &mut Text<N>)
     requires { length out.old + 200 ≤ N }
-    ensures { length out.new ≤ length out.old + 200 }
+    ensures text { length out.new ≤ length out.old + 200 }
+    ensures room { IfSome table.old.held HeldInRoom → IfSome table.new.held HeldInRoom }
 {
     match refusing::refuse_degree(degree) {
         Ok(()) => open(degree, &laying::fresh(degree), table, out),
@@ -168,7 +171,8 @@ fn on_own<const N: usize>(
     out: &mut Text<N>,
 ) -> Option<()>
     requires { length out.old + 600 ≤ N }
-    ensures { MatchOption result (out.new ≡ out.old) (λ _. length out.new ≤ length out.old + 600) }
+    ensures text { MatchOption result (out.new ≡ out.old) (λ _. length out.new ≤ length out.old + 600) }
+    ensures held { table.new.held ≡ table.old.held }
 {
     let degree = held.degree;
     let list = table.readings.get_mut(..held.readings)?;
@@ -196,7 +200,9 @@ fn on_held<'a, const N: usize>(
     out: &mut Text<N>,
 ) -> Option<Task<'a>>
     requires { length out.old + 16000 ≤ N }
-    ensures { length out.new ≤ length out.old + 16000 }
+    ensures text { length out.new ≤ length out.old + 16000 }
+    ensures room { AskedInRoom asked.entry → HeldInRoom held → IfSome table.old.held HeldInRoom
+        → IfSome table.new.held HeldInRoom × IfSome result TaskInRoom }
 {
     match asked {
         Asked::Owners(list) => {
@@ -237,7 +243,9 @@ fn make<'a, const N: usize>(
     out: &mut Text<N>,
 ) -> Option<Task<'a>>
     requires { length out.old + 16000 ≤ N }
-    ensures { length out.new ≤ length out.old + 16000 }
+    ensures text { length out.new ≤ length out.old + 16000 }
+    ensures room { AskedInRoom asked.entry → IfSome table.old.held HeldInRoom
+        → IfSome table.new.held HeldInRoom × IfSome result TaskInRoom }
 {
     match asked {
         Asked::Fresh(degree) => open_fresh(degree, table, out),
@@ -259,7 +267,9 @@ pub fn answer<'a, const N: usize>(
     out: &mut Text<N>,
 ) -> Option<Task<'a>>
     requires { length out.old + 16000 ≤ N }
-    ensures { length out.new ≤ length out.old + 16000 }
+    ensures text { length out.new ≤ length out.old + 16000 }
+    ensures room { IfSome table.old.held HeldInRoom
+        → IfSome table.new.held HeldInRoom × IfSome result TaskInRoom }
 {
     match asking::read(call, words) {
         Some(asked) => make(asked, table, out),

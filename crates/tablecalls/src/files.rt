@@ -1,11 +1,12 @@
 // A table's file (docs/CONSOLE.md, save and open): the bytes of the table that is held, and the table of a file's bytes.
 // Reading and writing the file itself is left to the caller.
-ghost use Rattle.std.specs.Prelude.{◌≡◌, ◌+◌, ◌*◌, ◌<◌, ◌≤◌, length, take, IfOk};
+ghost use Rattle.std.specs.Prelude.{◌≡◌, ◌+◌, ◌*◌, ◌<◌, ◌≤◌, length, take, IfOk, IfSome};
 ghost use Rattle.frame.specs.Answers.{over};
 ghost use Rattle.tables.specs.Owners.{shared};
 ghost use Rattle.tables.specs.Answers.{refused, table_answer, table_told};
 ghost use Rattle.table_files.specs.Files.{file_of};
 ghost use Rattle.table_files.specs.Refusals.{refuse_table};
+ghost use Rattle.tablecalls.specs.Room.{HeldInRoom};
 
 use crate::held::{Held, Table};
 use crate::{desks, held};
@@ -96,7 +97,9 @@ fn check_numbers(bytes: &[u8], degree: u64, n: usize) -> Result<(), TableRefusal
 
 // The counts and sums of the table worked out afresh. None where a list is shorter than its part, or where it is
 // refused.
-fn work_out(held: Held, table: &mut Table<'_>) -> Option<()> {
+fn work_out(held: Held, table: &mut Table<'_>) -> Option<()>
+    ensures { table.new.held ≡ table.old.held }
+{
     let list = table.readings.get_mut(..held.readings)?;
     let counts = table.counts.get_mut(..held.counts)?;
     let sums = table.sums.get_mut(..held.sums)?;
@@ -104,7 +107,10 @@ fn work_out(held: Held, table: &mut Table<'_>) -> Option<()> {
 }
 
 // The table of a file's bytes, with its counts and sums worked out afresh.
-fn read_file(bytes: &[u8], table: &mut Table<'_>) -> Result<Held, TableRefusal> {
+fn read_file(bytes: &[u8], table: &mut Table<'_>) -> Result<Held, TableRefusal>
+    ensures room { IfOk result HeldInRoom }
+    ensures held { table.new.held ≡ table.old.held }
+{
     let degree = degree_in(bytes);
     let n = places_in(bytes, degree)?;
     check_numbers(bytes, degree, n)?;
@@ -125,7 +131,8 @@ fn read_file(bytes: &[u8], table: &mut Table<'_>) -> Result<Held, TableRefusal> 
 // Opens the table of a file's bytes.
 pub fn open<const N: usize>(bytes: &[u8], table: &mut Table<'_>, out: &mut Text<N>)
     requires { length out.old + 200 ≤ N }
-    ensures { length out.new ≤ length out.old + 200 }
+    ensures text { length out.new ≤ length out.old + 200 }
+    ensures room { IfSome table.old.held HeldInRoom → IfSome table.new.held HeldInRoom }
 {
     match read_file(bytes, table) {
         Ok(held) => {

@@ -111,6 +111,7 @@ impl<'a, T: Entry> Listing<'a, T> {
 
 // A fresh list of readings.
 pub fn fresh(degree: u64) -> Listing<'static, i32>
+    ensures most { result.length ≤ 81920 }
     ensures table { degree ≤ 6 → result.length ≡ places degree }
     ensures no_table { 6 < degree → result.length ≡ 0 }
     ensures no_readings { (result.entry ≡ none) × (result.pairs.now ≡ []) }

@@ -1,0 +1,2 @@
+-- What the console holds, in the room that it has.
+pub mod Room

@@ -235,7 +235,11 @@ mod tests {
         assert_eq!(rt; table.readings.get(4).copied(), Some(-1));
         assert_eq!(rt; table.owners.get(3).copied(), Some(2));
         assert_eq!(rt; table.owners.get(4).copied(), Some(0));
-        assert!(rt; table.held.is_some_and(|held| held.readings == 20 && held.counts == 0));
+        assert!(rt;
+            table
+                .held
+                .is_some_and(|held| held.readings == 20 && held.counts == 0)
+        );
         assert!(rt; fs::remove_file(&rt, "table").is_ok());
     }
 }

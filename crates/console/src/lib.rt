@@ -3,7 +3,7 @@
 #![tactic(auto)]
 
 ghost use Rattle.std.specs.Prelude.{◌+◌, ◌≤◌, length, IfSome};
-ghost use Rattle.tablecalls.specs.Room.{HeldInRoom, TaskInRoom};
+ghost use Rattle.tablecalls.specs.Room.{HeldInRoom, SameLists, TaskInRoom};
 
 use cellcalls::{checking, mends};
 use gridcalls::{calls, lists, sweeping};
@@ -86,6 +86,7 @@ fn call_answer<'a, const N: usize>(
     ensures text { length out.new ≤ length out.old + 16000 }
     ensures room { IfSome table.old.held HeldInRoom
         → IfSome table.new.held HeldInRoom × IfSome result TaskInRoom }
+    ensures lists { SameLists table.old table.new }
 {
     match call {
         Call::Table
@@ -120,6 +121,7 @@ pub fn answer<'a, const N: usize>(
     ensures text { length out.new ≤ length out.old + 16000 }
     ensures room { IfSome table.old.held HeldInRoom
         → IfSome table.new.held HeldInRoom × IfSome result TaskInRoom }
+    ensures lists { SameLists table.old table.new }
 {
     let mut words = Words::of(line);
     let word = words.next()?;

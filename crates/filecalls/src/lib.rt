@@ -6,7 +6,7 @@
 #![tactic(auto)]
 
 ghost use Rattle.std.specs.Prelude.{◌+◌, ◌≤◌, length, IfOk, IfSome};
-ghost use Rattle.tablecalls.specs.Room.{HeldInRoom, RestInTable, TaskInRoom};
+ghost use Rattle.tablecalls.specs.Room.{HeldInRoom, RestInTable, SameLists, TaskInRoom};
 
 use lines::Text;
 use std::fs::{File, OpenFile};
@@ -156,6 +156,7 @@ fn open_by<const N: usize>(
     requires { length out.old + 200 ≤ N }
     ensures text { length out.new ≤ length out.old + 200 }
     ensures room { IfSome table.old.held HeldInRoom → IfSome table.new.held HeldInRoom }
+    ensures lists { SameLists table.old table.new }
 {
     match read_file(rt, name, bytes) {
         Some(n) => files::open(&bytes[..n], table, out),
@@ -169,6 +170,7 @@ pub fn open<const N: usize>(rt: &impl Files, name: &[u8], table: &mut Table<'_>,
     requires { length out.old + 200 ≤ N }
     ensures text { length out.new ≤ length out.old + 200 }
     ensures room { IfSome table.old.held HeldInRoom → IfSome table.new.held HeldInRoom }
+    ensures lists { SameLists table.old table.new }
 {
     let mut bytes = room();
     open_by(rt, name, &mut bytes, table, out);
@@ -186,6 +188,7 @@ pub fn finish<const N: usize>(
     requires { length out.old + 200 ≤ N }
     ensures text { length out.new ≤ length out.old + 200 }
     ensures room { IfSome table.old.held HeldInRoom → IfSome table.new.held HeldInRoom }
+    ensures lists { SameLists table.old table.new }
     ensures in_table { TaskInRoom task.entry → IfSome result RestInTable }
 {
     match task {
@@ -231,15 +234,16 @@ mod tests {
         out.clear();
         open(&rt, b"table", &mut table, &mut out);
         assert!(rt; out.as_bytes() == b"degree 0, 20 places".as_slice());
-        assert_eq!(rt; table.readings.get(3).copied(), Some(7));
-        assert_eq!(rt; table.readings.get(4).copied(), Some(-1));
-        assert_eq!(rt; table.owners.get(3).copied(), Some(2));
-        assert_eq!(rt; table.owners.get(4).copied(), Some(0));
         assert!(rt;
             table
                 .held
                 .is_some_and(|held| held.readings == 20 && held.counts == 0)
         );
+        // (The lists are the ones that were lent.)
+        assert_eq!(rt; readings[3], 7);
+        assert_eq!(rt; readings[4], -1);
+        assert_eq!(rt; owners[3], 2);
+        assert_eq!(rt; owners[4], 0);
         assert!(rt; fs::remove_file(&rt, "table").is_ok());
     }
 }

@@ -1,9 +1,10 @@
 -- What the console holds, where each of its four lists has room: 81,921 places for readings and for owners, 20,481 for
 -- counts and for sums (held.rt). Assumes nothing.
-use Rattle.std.specs.Prelude.{◌≤◌, ⊤}
+use Rattle.std.specs.Prelude.{◌≡◌, ◌≤◌, ⊤}
 use Rattle.tables.specs.Tables.{places}
 use Rattle.tablecalls.specs.declared.held.Held.{Held}
 use Rattle.tablecalls.specs.declared.held.Rest.{Rest}
+use Rattle.tablecalls.specs.declared.held.Table.{Table}
 use Rattle.tablecalls.specs.declared.held.Task.{Task}
 use Rattle.tablecalls.specs.declared.held.Task.TheVariants as task
 use Rattle.tablecalls.specs.declared.asking.Asked.{Asked}
@@ -30,3 +31,9 @@ AskedInRoom (asked.Owners l) = l.length ≤ 81921
 AskedInRoom (asked.Counts l) = l.length ≤ 20481
 AskedInRoom (asked.Sums l) = l.length ≤ 20481
 AskedInRoom x = ⊤
+
+-- that the lists are still those that were lent
+abbrev pub SameLists : (before after : Table) → Type 0
+SameLists t u =
+    (u.readings.ghost_name ≡ t.readings.ghost_name) × (u.owners.ghost_name ≡ t.owners.ghost_name)
+    × (u.counts.ghost_name ≡ t.counts.ghost_name) × (u.sums.ghost_name ≡ t.sums.ghost_name)

@@ -1,6 +1,6 @@
 // The calls on the table that is held: each is read from its line (asking), then made, and what came of it is told.
 ghost use Rattle.std.specs.Prelude.{◌≡◌, ◌+◌, ◌≤◌, length, IfSome, MatchOption};
-ghost use Rattle.tablecalls.specs.Room.{AskedInRoom, HeldInRoom, TaskInRoom};
+ghost use Rattle.tablecalls.specs.Room.{AskedInRoom, HeldInRoom, SameLists, TaskInRoom};
 
 use crate::asking::Asked;
 use crate::held::{Held, Table, Task};
@@ -110,6 +110,7 @@ fn open<const N: usize>(
     requires { length out.old + 200 ≤ N }
     ensures text { length out.new ≤ length out.old + 200 }
     ensures room { list.entry.now.length ≤ 81921 → IfSome table.new.held HeldInRoom }
+    ensures lists { SameLists table.old table.new }
 {
     let n = list.length;
     let parents = held::parents_of(degree);
@@ -132,6 +133,7 @@ fn open_fresh<const N: usize>(degree: u64, table: &mut Table<'_>, out: &mut Text
     requires { length out.old + 200 ≤ N }
     ensures text { length out.new ≤ length out.old + 200 }
     ensures room { IfSome table.old.held HeldInRoom → IfSome table.new.held HeldInRoom }
+    ensures lists { SameLists table.old table.new }
 {
     match refusing::refuse_degree(degree) {
         Ok(()) => open(degree, &laying::fresh(degree), table, out),
@@ -173,6 +175,7 @@ fn on_own<const N: usize>(
     requires { length out.old + 600 ≤ N }
     ensures text { MatchOption result (out.new ≡ out.old) (λ _. length out.new ≤ length out.old + 600) }
     ensures held { table.new.held ≡ table.old.held }
+    ensures lists { SameLists table.old table.new }
 {
     let degree = held.degree;
     let list = table.readings.get_mut(..held.readings)?;
@@ -203,6 +206,7 @@ fn on_held<'a, const N: usize>(
     ensures text { length out.new ≤ length out.old + 16000 }
     ensures room { AskedInRoom asked.entry → HeldInRoom held → IfSome table.old.held HeldInRoom
         → IfSome table.new.held HeldInRoom × IfSome result TaskInRoom }
+    ensures lists { SameLists table.old table.new }
 {
     match asked {
         Asked::Owners(list) => {
@@ -246,6 +250,7 @@ fn make<'a, const N: usize>(
     ensures text { length out.new ≤ length out.old + 16000 }
     ensures room { AskedInRoom asked.entry → IfSome table.old.held HeldInRoom
         → IfSome table.new.held HeldInRoom × IfSome result TaskInRoom }
+    ensures lists { SameLists table.old table.new }
 {
     match asked {
         Asked::Fresh(degree) => open_fresh(degree, table, out),
@@ -270,6 +275,7 @@ pub fn answer<'a, const N: usize>(
     ensures text { length out.new ≤ length out.old + 16000 }
     ensures room { IfSome table.old.held HeldInRoom
         → IfSome table.new.held HeldInRoom × IfSome result TaskInRoom }
+    ensures lists { SameLists table.old table.new }
 {
     match asking::read(call, words) {
         Some(asked) => make(asked, table, out),

@@ -6,7 +6,7 @@ ghost use Rattle.tables.specs.Owners.{shared};
 ghost use Rattle.tables.specs.Answers.{refused, table_answer, table_told};
 ghost use Rattle.table_files.specs.Files.{file_of};
 ghost use Rattle.table_files.specs.Refusals.{refuse_table};
-ghost use Rattle.tablecalls.specs.Room.{HeldInRoom};
+ghost use Rattle.tablecalls.specs.Room.{HeldInRoom, SameLists};
 
 use crate::held::{Held, Table};
 use crate::{desks, held};
@@ -98,7 +98,8 @@ fn check_numbers(bytes: &[u8], degree: u64, n: usize) -> Result<(), TableRefusal
 // The counts and sums of the table worked out afresh. None where a list is shorter than its part, or where it is
 // refused.
 fn work_out(held: Held, table: &mut Table<'_>) -> Option<()>
-    ensures { table.new.held ≡ table.old.held }
+    ensures held { table.new.held ≡ table.old.held }
+    ensures lists { SameLists table.old table.new }
 {
     let list = table.readings.get_mut(..held.readings)?;
     let counts = table.counts.get_mut(..held.counts)?;
@@ -110,6 +111,7 @@ fn work_out(held: Held, table: &mut Table<'_>) -> Option<()>
 fn read_file(bytes: &[u8], table: &mut Table<'_>) -> Result<Held, TableRefusal>
     ensures room { IfOk result HeldInRoom }
     ensures held { table.new.held ≡ table.old.held }
+    ensures lists { SameLists table.old table.new }
 {
     let degree = degree_in(bytes);
     let n = places_in(bytes, degree)?;
@@ -133,6 +135,7 @@ pub fn open<const N: usize>(bytes: &[u8], table: &mut Table<'_>, out: &mut Text<
     requires { length out.old + 200 ≤ N }
     ensures text { length out.new ≤ length out.old + 200 }
     ensures room { IfSome table.old.held HeldInRoom → IfSome table.new.held HeldInRoom }
+    ensures lists { SameLists table.old table.new }
 {
     match read_file(bytes, table) {
         Ok(held) => {

@@ -202,12 +202,16 @@ pub fn finish<const N: usize>(
 #[cfg(test)]
 mod tests {
     use super::*;
+    use std::test::Fail;
 
-    // A table of degree 0 with one reading, that desk 2 has, is saved, and opened over other numbers.
+    // A table of degree 0 with one reading, that desk 2 has, is saved, and opened over other numbers. The lists are
+    // those that were lent, and what is held lies in them.
     #[test]
-    fn saved_and_opened(rt: HostRuntime) {
-        let mut readings = [-1i32; 20];
-        let mut owners = [0u8; 20];
+    fn saved_and_opened(rt: HostRuntime) -> Result<(), Fail> {
+        let mut readings = [-1i32; 81921];
+        let mut owners = [0u8; 81921];
+        let mut counts = [0u64; 20481];
+        let mut sums = [0u64; 20481];
         readings[3] = 7;
         owners[3] = 2;
         let held = Held {
@@ -217,33 +221,34 @@ mod tests {
             counts: 0,
             sums: 0,
         };
-        let mut out: Text<200> = Text::new();
         let mut table = Table {
-            held: Some(held),
+            held: None,
             readings: &mut readings,
             owners: &mut owners,
-            counts: &mut [],
-            sums: &mut [],
+            counts: &mut counts,
+            sums: &mut sums,
         };
+        let mut out: Text<200> = Text::new();
         let saved = finish(&rt, Task::Save(held, b"table"), &mut table, &mut out);
         assert!(rt; saved.is_none());
         assert!(rt; out.as_bytes() == b"ok".as_slice());
         table.readings.fill(5);
         table.owners.fill(1);
-        table.held = None;
         out.clear();
-        open(&rt, b"table", &mut table, &mut out);
+        let opened = finish(&rt, Task::Open(b"table"), &mut table, &mut out);
+        assert!(rt; opened.is_none());
         assert!(rt; out.as_bytes() == b"degree 0, 20 places".as_slice());
-        assert!(rt;
-            table
-                .held
-                .is_some_and(|held| held.readings == 20 && held.counts == 0)
-        );
-        // (The lists are the ones that were lent.)
+        let held = table.held.ok_or("no table is open")?;
+        assert_eq!(rt; readings[..held.readings].len(), 20);
+        assert_eq!(rt; owners[..held.owners].len(), 20);
+        assert_eq!(rt; counts[..held.counts].len(), 0);
+        assert_eq!(rt; sums[..held.sums].len(), 0);
         assert_eq!(rt; readings[3], 7);
         assert_eq!(rt; readings[4], -1);
+        assert_eq!(rt; readings[20], 5);
         assert_eq!(rt; owners[3], 2);
         assert_eq!(rt; owners[4], 0);
         assert!(rt; fs::remove_file(&rt, "table").is_ok());
+        Ok(())
     }
 }

@@ -169,19 +169,20 @@ fn carry_out(
 fn on_own<const N: usize>(
     asked: Asked<'_>,
     held: Held,
-    table: &mut Table<'_>,
+    readings: &mut [i32],
+    owners: &mut [u8],
+    counts: &mut [u64],
+    sums: &mut [u64],
     out: &mut Text<N>,
 ) -> Option<()>
     requires { length out.old + 600 ≤ N }
-    ensures text { MatchOption result (out.new ≡ out.old) (λ _. length out.new ≤ length out.old + 600) }
-    ensures held { table.new.held ≡ table.old.held }
-    ensures lists { SameLists table.old table.new }
+    ensures { MatchOption result (out.new ≡ out.old) (λ _. length out.new ≤ length out.old + 600) }
 {
     let degree = held.degree;
-    let list = table.readings.get_mut(..held.readings)?;
-    let owners = table.owners.get_mut(..held.owners)?;
-    let counts = table.counts.get_mut(..held.counts)?;
-    let sums = table.sums.get_mut(..held.sums)?;
+    let list = readings.get_mut(..held.readings)?;
+    let owners = owners.get_mut(..held.owners)?;
+    let counts = counts.get_mut(..held.counts)?;
+    let sums = sums.get_mut(..held.sums)?;
     match asked {
         Asked::Desk(desk, t, deed) => put_written(
             carry_out(deed, desk, degree, t, list, owners, counts, sums),
@@ -233,7 +234,16 @@ fn on_held<'a, const N: usize>(
         }
         Asked::Save(name) => return Some(Task::Save(held, name)),
         _ => {
-            if on_own(asked, held, table, out).is_none() {
+            let own = on_own(
+                asked,
+                held,
+                table.readings,
+                table.owners,
+                table.counts,
+                table.sums,
+                out,
+            );
+            if own.is_none() {
                 put_none_open(out);
             }
         }

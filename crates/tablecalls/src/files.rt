@@ -97,13 +97,10 @@ fn check_numbers(bytes: &[u8], degree: u64, n: usize) -> Result<(), TableRefusal
 
 // The counts and sums of the table worked out afresh. None where a list is shorter than its part, or where it is
 // refused.
-fn work_out(held: Held, table: &mut Table<'_>) -> Option<()>
-    ensures held { table.new.held ≡ table.old.held }
-    ensures lists { SameLists table.old table.new }
-{
-    let list = table.readings.get_mut(..held.readings)?;
-    let counts = table.counts.get_mut(..held.counts)?;
-    let sums = table.sums.get_mut(..held.sums)?;
+fn work_out(held: Held, readings: &mut [i32], counts: &mut [u64], sums: &mut [u64]) -> Option<()> {
+    let list = readings.get_mut(..held.readings)?;
+    let counts = counts.get_mut(..held.counts)?;
+    let sums = sums.get_mut(..held.sums)?;
     soundings::work_out(held.degree, list, counts, sums).ok()
 }
 
@@ -126,7 +123,7 @@ fn read_file(bytes: &[u8], table: &mut Table<'_>) -> Result<Held, TableRefusal>
         sums: parents,
     };
     // (In lists that have their parts the numbers are those that were checked, and nothing is refused.)
-    let _ = work_out(held, table);
+    let _ = work_out(held, table.readings, table.counts, table.sums);
     Ok(held)
 }
 

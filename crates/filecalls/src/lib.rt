@@ -1,5 +1,5 @@
-// The console's calls on the file of a table (docs/CONSOLE.md): save, which writes the one that is held, and open, which
-// reads another. What stands in the file is tablecalls' to say (files).
+// The console's calls on the file of a table (docs/CONSOLE.md): save, which writes the one that is held, and open,
+// which reads another. What stands in the file is tablecalls' to say (files).
 //
 // No contract can say what is read or written. Proved is that both return, given that each read and write does, that
 // they stay in their buffers, and that they use tablecalls by its contracts.

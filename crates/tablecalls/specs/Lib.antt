@@ -1,2 +1,3 @@
 -- What the console holds, in the room that it has.
 pub mod Room
+pub mod Examples

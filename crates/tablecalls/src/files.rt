@@ -1,5 +1,5 @@
-// A table's file (docs/CONSOLE.md, save and open): the bytes of the table that is held, and the table of a file's bytes.
-// Reading and writing the file itself is left to the caller.
+// A table's file (docs/CONSOLE.md, save and open): the bytes of the table that is held, and the table of a file's
+// bytes. Reading and writing the file itself is left to the caller.
 ghost use Rattle.std.specs.Prelude.{◌≡◌, ◌+◌, ◌*◌, ◌<◌, ◌≤◌, length, take, IfOk, IfSome};
 ghost use Rattle.frame.specs.Answers.{over};
 ghost use Rattle.tables.specs.Owners.{shared};
